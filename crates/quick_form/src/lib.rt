@@ -1,0 +1,2 @@
+//! The quick form: its definitions and its laws.
+#![tactic(auto)]
