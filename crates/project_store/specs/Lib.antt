@@ -1,0 +1,6 @@
+pub mod Lookup
+pub mod Faults
+pub mod Room
+pub mod Sink
+pub mod Calls
+pub mod Named

@@ -1,0 +1,14 @@
+//! The outside: where files are read and written, and where a report goes.
+//!
+//! `Store` and `Sink` say what may be relied on, whatever is behind them. The stores and sinks here
+//! live in memory: `MemoryStore` and `MemorySink` fail at calls that are chosen beforehand,
+//! `SureStore` and `SureSink` have their room reserved and fail for want of room alone.
+#![tactic(auto)]
+
+mod calls;
+mod lookup;
+mod sink;
+mod store;
+
+pub use sink::{Sink, SinkFailed};
+pub use store::{Store, StoreFault, WriteFailed};
