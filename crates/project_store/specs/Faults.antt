@@ -1,8 +1,13 @@
-use Rattle.std.specs.Prelude.{ℕ, ◌+◌, ◌-◌, ◌^◌, ◌≤◌, min}
+use Rattle.std.specs.Prelude.{ℕ, ◌+◌, ◌-◌, ◌^◌, ◌≤◌, min, Bool, true, false}
 
 -- the count after one more: it stands still at the end of `u64`
 abbrev pub raised : ℕ → ℕ
 raised count = min (count + 1) (2 ^ 64 - 1)
+
+-- a count of faults after a call: one more where the call was a fault
+abbrev pub count_after : Bool → ℕ → ℕ
+count_after true count = raised count
+count_after false count = count
 
 -- the count is greater than before, or stands at the end of `u64`
 abbrev pub Rose : ℕ → ℕ → Type 0

@@ -4,3 +4,5 @@ pub mod Room
 pub mod Sink
 pub mod Calls
 pub mod Named
+pub mod MemoryStore
+pub mod MemorySink

@@ -7,8 +7,12 @@
 
 mod calls;
 mod lookup;
+mod memory_sink;
+mod memory_store;
 mod sink;
 mod store;
 
+pub use memory_sink::MemorySink;
+pub use memory_store::MemoryStore;
 pub use sink::{Sink, SinkFailed};
 pub use store::{Store, StoreFault, WriteFailed};
