@@ -8,11 +8,12 @@ use Rattle.project_store.specs.Room.{LacksRoom}
 use Rattle.morpheus_top.specs.declared.replies.Reply.{Reply}
 use Rattle.morpheus_top.specs.declared.replies.Reply.TheVariants.{Renamed, Usage, ReadFault, WriteFault, WantOfMemory, NotQuick}
 use Rattle.quick_form.specs.Words.{is_name}
-use Rattle.morpheus_top.specs.Words.{Renaming, target, Asks, IsUsage, is_new_name}
+use Rattle.c_names.specs.Names.{is_new_name}
+use Rattle.morpheus_top.specs.Words.{Renaming, target, Asks, IsUsage}
 use Rattle.morpheus_top.specs.Replies.{status_of, report_of}
 use Rattle.morpheus_top.specs.States.{StoreState, SinkState, Kept}
-use Rattle.morpheus_top.specs.Calls.{TakesFile, renamed_file, Wrote, WrotePart, LacksRoomFor, Refuses, SaysReadFault, SaysWriteFault, SaysNotQuick, SaysRenamed, Holds, Reports, BreaksOff, Answers}
-use Rattle.morpheus_top.specs.Promises.{IsOneOf, IsRenamedIn, IsPartIn, IsRefusedIn, NoFault, SinkLacksRoom, HasRoomFor, BehaviourIsKept}
+use Rattle.morpheus_top.specs.Calls.{TakesFile, RefusesFile, renamed_file, WritesFile, WritesPart, LacksRoomFor, SaysReadFault, SaysWriteFault, SaysNotQuick, SaysRenamed, Holds, Reports, BreaksOff, Answers}
+use Rattle.morpheus_top.specs.Promises.{IsOneOf, NoFault, SinkLacksRoom, IsRoomFor, BehaviourIsKept}
 
 -- words that ask for a renaming ask for that one alone
 pub one_renaming : (words : List (List ℕ)) (r s : Renaming) → Asks words r → Asks words s → r ≡ s
@@ -113,12 +114,12 @@ same_bytes b r r' bytes bytes' e p q =
     let g : ◌≡◌ {A = Option (List ℕ)} (Some bytes') (Some bytes) = sym q ∙ (f ∙ p) in cc
 
 -- a file that is taken is renamed, unless memory ends or the store fails
-taken_reply : (words : List (List ℕ)) (b a : StoreState) (r : Renaming) (bytes : List ℕ) → Asks words r → b.tells → TakesFile r b bytes → (SaysReadFault words b a → ⊥) → (SaysWriteFault words b a → ⊥) → (reply : Reply) → Holds words b a reply → (reply ≡ Renamed (token_count r.old bytes)) ⊎ (reply ≡ WantOfMemory)
+taken_reply : (words : List (List ℕ)) (b a : StoreState) (r : Renaming) (bytes : List ℕ) → Asks words r → b.tells → TakesFile r b.file bytes → (SaysReadFault words b a → ⊥) → (SaysWriteFault words b a → ⊥) → (reply : Reply) → Holds words b a reply → (reply ≡ Renamed (token_count r.old bytes)) ⊎ (reply ≡ WantOfMemory)
 taken_reply words b a r bytes asked tells takes no_read no_write (Renamed n) h =
     let w = h.wrote tells in
     let e = one_renaming words h.renaming r h.asked asked in
     let f = same_bytes b r h.renaming bytes w.bytes e takes.held w.taken.held in
-    inl (ap Renamed (w.tokens_are ∙ (ap (λ (x : Renaming). token_count x.old w.bytes) e ∙ ap (token_count r.old) f)))
+    inl (ap Renamed (h.counts tells ∙ (ap (λ (x : Renaming). token_count x.old w.bytes) e ∙ ap (token_count r.old) f)))
 taken_reply words b a r bytes asked tells takes no_read no_write Usage h = absurd (h.0 r asked)
 taken_reply words b a r bytes asked tells takes no_read no_write ReadFault h = absurd (no_read h)
 taken_reply words b a r bytes asked tells takes no_read no_write WriteFault h = absurd (no_write h)
@@ -130,7 +131,7 @@ taken_reply words b a r bytes asked tells takes no_read no_write (NotQuick o) h 
     absurd (w.refused (subst (Takes h.renaming.old h.renaming.new) (sym f) (subst (λ (x : Renaming). Takes x.old x.new bytes) (sym e) takes.takes)))
 
 -- a file that isn't taken is refused, unless memory ends or the store fails
-refused_reply : (words : List (List ℕ)) (b a : StoreState) (r : Renaming) → Asks words r → b.tells → Refuses r b → (SaysReadFault words b a → ⊥) → (SaysWriteFault words b a → ⊥) → (reply : Reply) → Holds words b a reply → (status_of reply ≡ 12) ⊎ (status_of reply ≡ 7)
+refused_reply : (words : List (List ℕ)) (b a : StoreState) (r : Renaming) → Asks words r → b.tells → RefusesFile r b.file → (SaysReadFault words b a → ⊥) → (SaysWriteFault words b a → ⊥) → (reply : Reply) → Holds words b a reply → (status_of reply ≡ 12) ⊎ (status_of reply ≡ 7)
 refused_reply words b a r asked tells refuses no_read no_write (Renamed n) h =
     let w = h.wrote tells in
     let e = one_renaming words h.renaming r h.asked asked in
@@ -167,24 +168,24 @@ usage_only_lem words b a s t status A u =
       | inr e ↦ third_of_three 2 6 7 status (k.0 ∙ e) ]
     | inr k ↦ second_of_three 2 6 7 status k.0 ]
 
-no_read_rise : (words : List (List ℕ)) (b a : StoreState) (s t : SinkState) → NoFault b a s t → SaysReadFault words b a → ⊥
+no_read_rise : (words : List (List ℕ)) (b a : StoreState) (s t : SinkState) → NoFault b.read_faults a.read_faults b.write_faults a.write_faults s.faults t.faults → SaysReadFault words b a → ⊥
 no_read_rise words b a s t f h = f.read h.rose
 
-no_write_rise : (words : List (List ℕ)) (b a : StoreState) (s t : SinkState) → NoFault b a s t → SaysWriteFault words b a → ⊥
+no_write_rise : (words : List (List ℕ)) (b a : StoreState) (s t : SinkState) → NoFault b.read_faults a.read_faults b.write_faults a.write_faults s.faults t.faults → SaysWriteFault words b a → ⊥
 no_write_rise words b a s t f h = f.write h.rose
 
 zero_or_seven : (status n : ℕ) (reply : Reply) → status ≡ status_of reply → (reply ≡ Renamed n) ⊎ (reply ≡ WantOfMemory) → (status ≡ 0) ⊎ (status ≡ 7)
 zero_or_seven status n reply e (inl k) = inl (e ∙ ap status_of k)
 zero_or_seven status n reply e (inr k) = inr (e ∙ ap status_of k)
 
-pub complete_lem : (words : List (List ℕ)) (b a : StoreState) (s t : SinkState) (status : ℕ) → Answers words b a s t status → (r : Renaming) (bytes : List ℕ) → Asks words r → b.tells → TakesFile r b bytes → NoFault b a s t → (status ≡ 0) ⊎ (status ≡ 7)
+pub complete_lem : (words : List (List ℕ)) (b a : StoreState) (s t : SinkState) (status : ℕ) → Answers words b a s t status → (r : Renaming) (bytes : List ℕ) → Asks words r → b.tells → TakesFile r b.file bytes → NoFault b.read_faults a.read_faults b.write_faults a.write_faults s.faults t.faults → (status ≡ 0) ⊎ (status ≡ 7)
 complete_lem words b a s t status A r bytes asked tells takes f =
     elim A.told [
       inl k ↦ zero_or_seven status (token_count r.old bytes) A.reply k.0
         (taken_reply words b a r bytes asked tells takes (no_read_rise words b a s t f) (no_write_rise words b a s t f) A.reply A.holds)
     | inr k ↦ absurd (f.report k.1.rose) ]
 
-pub refuses_lem : (words : List (List ℕ)) (b a : StoreState) (s t : SinkState) (status : ℕ) → Answers words b a s t status → (r : Renaming) → Asks words r → b.tells → Refuses r b → NoFault b a s t → (status ≡ 12) ⊎ (status ≡ 7)
+pub refuses_lem : (words : List (List ℕ)) (b a : StoreState) (s t : SinkState) (status : ℕ) → Answers words b a s t status → (r : Renaming) → Asks words r → b.tells → RefusesFile r b.file → NoFault b.read_faults a.read_faults b.write_faults a.write_faults s.faults t.faults → (status ≡ 12) ⊎ (status ≡ 7)
 refuses_lem words b a s t status A r asked tells refuses f =
     elim A.told [
       inl k ↦ elim (refused_reply words b a r asked tells refuses (no_read_rise words b a s t f) (no_write_rise words b a s t f) A.reply A.holds) [
@@ -206,15 +207,32 @@ no_write_there words b a r bytes asked room held fits h =
     fits (subst (λ c. LacksRoom (b.file (target r)) b.names_left b.bytes_left (length (target r) + length (renamed_file r c))) f
     (subst (λ (x : Renaming). LacksRoom (b.file (target x)) b.names_left b.bytes_left (length (target x) + length (renamed_file x w.bytes))) e w.lacks))
 
-pub reads_there_lem : (words : List (List ℕ)) (b a : StoreState) (s t : SinkState) (status : ℕ) → Answers words b a s t status → (r : Renaming) (bytes : List ℕ) → Asks words r → b.tells_room → b.file r.file ≡ Some bytes → status ≡ 3 → ⊥
-reads_there_lem words b a s t status A r bytes asked room there e =
-    no_read_there words b a r bytes asked room there (read_fault_lem words b a s t status A e)
+pub absent_lem : (words : List (List ℕ)) (b a : StoreState) (s t : SinkState) (status : ℕ) → Answers words b a s t status → status ≡ 3 → b.tells_room → (r : Renaming) → Asks words r → b.file r.file ≡ None
+absent_lem words b a s t status A e room r asked =
+    let h = read_fault_lem words b a s t status A e in
+    sym (ap (λ (x : Renaming). b.file x.file) (one_renaming words h.renaming r h.asked asked)) ∙ h.absent room
 
-pub writes_there_lem : (words : List (List ℕ)) (b a : StoreState) (s t : SinkState) (status : ℕ) → Answers words b a s t status → (r : Renaming) (bytes : List ℕ) → Asks words r → b.tells_room → b.file r.file ≡ Some bytes → (LacksRoom (b.file (target r)) b.names_left b.bytes_left (length (target r) + length (renamed_file r bytes)) → ⊥) → status ≡ 4 → ⊥
-writes_there_lem words b a s t status A r bytes asked room held fits e =
-    no_write_there words b a r bytes asked room held fits (write_fault_lem words b a s t status A e)
+pub lacks_lem : (words : List (List ℕ)) (b a : StoreState) (s t : SinkState) (status : ℕ) → Answers words b a s t status → status ≡ 4 → b.tells_room → (r : Renaming) → Asks words r → LacksRoomFor r b.file b.names_left b.bytes_left
+lacks_lem words b a s t status A e room r asked =
+    let h = write_fault_lem words b a s t status A e in
+    subst (λ (x : Renaming). LacksRoomFor x b.file b.names_left b.bytes_left) (one_renaming words h.renaming r h.asked asked) (h.lacks room)
 
-pub sink_lacks_lem : (words : List (List ℕ)) (b a : StoreState) (s t : SinkState) (status : ℕ) → Answers words b a s t status → s.tells_room → status ≡ 6 → SinkLacksRoom words b a s
+pub part_lem : (words : List (List ℕ)) (b a : StoreState) (s t : SinkState) (status : ℕ) → Answers words b a s t status → status ≡ 4 → b.tells → (r : Renaming) → Asks words r → WritesPart r b.file a.file
+part_lem words b a s t status A e tells r asked =
+    let h = write_fault_lem words b a s t status A e in
+    subst (λ (x : Renaming). WritesPart x b.file a.file) (one_renaming words h.renaming r h.asked asked) (h.part tells)
+
+pub written_lem : (words : List (List ℕ)) (b a : StoreState) (s t : SinkState) (status : ℕ) → Answers words b a s t status → status ≡ 0 → b.tells → (r : Renaming) → Asks words r → WritesFile r b.file a.file
+written_lem words b a s t status A e tells r asked =
+    let h = (renamed_lem words b a s t status A e).1 in
+    subst (λ (x : Renaming). WritesFile x b.file a.file) (one_renaming words h.renaming r h.asked asked) (h.wrote tells)
+
+pub not_taken_lem : (words : List (List ℕ)) (b a : StoreState) (s t : SinkState) (status : ℕ) → Answers words b a s t status → status ≡ 12 → b.tells → (r : Renaming) → Asks words r → RefusesFile r b.file
+not_taken_lem words b a s t status A e tells r asked =
+    let h = not_quick_lem words b a s t status A e in
+    subst (λ (x : Renaming). RefusesFile x b.file) (one_renaming words h.renaming r h.asked asked) (h.refused tells)
+
+pub sink_lacks_lem : (words : List (List ℕ)) (b a : StoreState) (s t : SinkState) (status : ℕ) → Answers words b a s t status → s.tells_room → status ≡ 6 → SinkLacksRoom words b a s.room
 sink_lacks_lem words b a s t status A room e = record {
   reply = A.reply;
   holds = A.holds;
@@ -232,14 +250,14 @@ fits_reply n room reply h (inr e) k =
     let g = subst (λ (x : Reply). room < length (report_of x)) e k in
     let p = report_length n in omega (arith, g, p, h)
 
-pub sure_lem : (words : List (List ℕ)) (b a : StoreState) (s t : SinkState) (status : ℕ) → Answers words b a s t status → (b.tells_room → b.tells) → (r : Renaming) (bytes : List ℕ) → Asks words r → TakesFile r b bytes → HasRoomFor r bytes b s → (status ≡ 0) ⊎ (status ≡ 7)
-sure_lem words b a s t status A law r bytes asked takes room =
-    let reply = taken_reply words b a r bytes asked (law room.store_tells) takes
-          (no_read_there words b a r bytes asked room.store_tells takes.held)
-          (no_write_there words b a r bytes asked room.store_tells takes.held room.holds) A.reply A.holds in
+pub sure_lem : (words : List (List ℕ)) (b a : StoreState) (s t : SinkState) (status : ℕ) → Answers words b a s t status → (b.tells_room → b.tells) → (r : Renaming) (bytes : List ℕ) → Asks words r → b.tells_room → s.tells_room → TakesFile r b.file bytes → IsRoomFor r b.file bytes b.names_left b.bytes_left s.room → (status ≡ 0) ⊎ (status ≡ 7)
+sure_lem words b a s t status A law r bytes asked room sink takes fits =
+    let reply = taken_reply words b a r bytes asked (law room) takes
+          (no_read_there words b a r bytes asked room takes.held)
+          (no_write_there words b a r bytes asked room takes.held fits.store) A.reply A.holds in
     elim A.told [
       inl k ↦ zero_or_seven status (token_count r.old bytes) A.reply k.0 reply
-    | inr k ↦ absurd (fits_reply (token_count r.old bytes) s.room A.reply room.takes reply (k.1.lacks room.sink_tells)) ]
+    | inr k ↦ absurd (fits_reply (token_count r.old bytes) s.room A.reply fits.sink reply (k.1.lacks sink)) ]
 
 pub untouched_lem : (words : List (List ℕ)) (b a : StoreState) (s t : SinkState) (status : ℕ) → Answers words b a s t status → (status ≡ 0 → ⊥) → (status ≡ 4 → ⊥) → (status ≡ 6 → ⊥) → Kept b a
 untouched_lem words b a s t status A p q k =
@@ -261,15 +279,11 @@ statuses_lem words b a s t status A =
       inl e ↦ subst (IsOneOf (0 ∷ 2 ∷ 3 ∷ 4 ∷ 6 ∷ 7 ∷ 12 ∷ [])) (sym e.0) (status_is A.reply)
     | inr e ↦ subst (IsOneOf (0 ∷ 2 ∷ 3 ∷ 4 ∷ 6 ∷ 7 ∷ 12 ∷ [])) (sym e.0) (4, lit< tt, refl) ]
 
-pub behaviour_lem : RenamingKeepsBehaviour → ((w : List ℕ) → is_new_name w ≡ true → is_name w ≡ true) → (words : List (List ℕ)) (b a : StoreState) (s t : SinkState) (status : ℕ) → Answers words b a s t status → status ≡ 0 → b.tells → BehaviourIsKept words b a
-behaviour_lem law names words b a s t status A e tells r bytes renamed asked held after =
-    let said = (renamed_lem words b a s t status A e).1 in
-    let w = said.wrote tells in
-    let same = one_renaming words said.renaming r said.asked asked in
-    let f = same_bytes b r said.renaming bytes w.bytes same held w.taken.held in
-    let stands : a.file (target r) ≡ Some (renamed_file r bytes) =
-          sym (ap (λ (x : Renaming). a.file (target x)) same)
-          ∙ (w.put.named ∙ (ap (λ (x : Renaming). Some (renamed_file x w.bytes)) same ∙ ap (λ c. Some (renamed_file r c)) f)) in
+pub behaviour_lem : RenamingKeepsBehaviour → ((w : List ℕ) → is_new_name w ≡ true → is_name w ≡ true) → (words : List (List ℕ)) (b a : StoreState) (s t : SinkState) (status : ℕ) → Answers words b a s t status → status ≡ 0 → b.tells → (r : Renaming) → Asks words r → BehaviourIsKept r b.file a.file
+behaviour_lem law names words b a s t status A e tells r asked bytes renamed held after =
+    let w = written_lem words b a s t status A e tells r asked in
+    let f = same_bytes b r r bytes w.bytes refl held w.taken.held in
+    let stands : a.file (target r) ≡ Some (renamed_file r bytes) = w.put.named ∙ ap (λ c. Some (renamed_file r c)) f in
     let content : renamed ≡ renamed_file r bytes = let g : ◌≡◌ {A = Option (List ℕ)} (Some renamed) (Some (renamed_file r bytes)) = sym after ∙ stands in cc in
     subst (KeepsBehaviour bytes) (sym content)
-    (law r.old r.new bytes (names r.new asked.new) (subst (λ (x : Renaming). Takes x.old x.new bytes) same (subst (Takes said.renaming.old said.renaming.new) f w.taken.takes)))
+    (law r.old r.new bytes (names r.new asked.good.new) (subst (Takes r.old r.new) f w.taken.takes))

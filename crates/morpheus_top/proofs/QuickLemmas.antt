@@ -15,7 +15,7 @@ use Rattle.morpheus_top.specs.declared.quick.Plan.{Plan}
 use Rattle.morpheus_top.specs.declared.quick.Plan.TheVariants.{Say, Write}
 use Rattle.morpheus_top.specs.Words.{Renaming, target, Asks}
 use Rattle.morpheus_top.specs.States.{StoreState, Kept}
-use Rattle.morpheus_top.specs.Calls.{TakesFile, renamed_file, Wrote, WrotePart, LacksRoomFor, Refuses, SaysReadFault, SaysWriteFault, SaysNotQuick, SaysRenamed, Holds}
+use Rattle.morpheus_top.specs.Calls.{TakesFile, renamed_file, WritesFile, WritesPart, LacksRoomFor, RefusesFile, SaysReadFault, SaysWriteFault, SaysNotQuick, SaysRenamed, Holds}
 use Rattle.morpheus_top.specs.Quick.{RefusesBytes, RenamesBytes, IsPlan, IsWritten, IsBroken, IsCarriedOut, RanWhole, RanInPart, Ran}
 
 pub renames_bytes : (r : Renaming) (bytes old new : List ℕ) (a : File) (content : Vec ℕ _) (tokens : ℕ) (name : List ℕ) (reply : Reply) → old ≡ r.old → new ≡ r.new → IsAnswer old new bytes a → a ≡ file.Renamed content tokens → name ≡ target r → reply ≡ Renamed tokens → RenamesBytes r bytes name content.items reply
@@ -104,9 +104,9 @@ read_and_ran words r bytes before middle after (Renamed tokens) a p f h = record
   wrote = λ t. record {
     bytes = bytes;
     taken = record { held = f t; takes = h.takes };
-    tokens_are = h.tokens_are;
     put = puts_after_read before middle after _ _ (p.files t) (h.put (p.told t));
   };
+  counts = λ t. h.tokens_are;
 }
 read_and_ran words r bytes before middle after WriteFault a p f h = record {
   renaming = r;

@@ -2,6 +2,7 @@
 use Rattle.std.specs.Prelude.{◌≡◌, ℕ, ◌<◌, ◌+◌, List, ◌++◌, length, Some, None, ◌⊎◌}
 use Rattle.quick_form.specs.Renaming.{renamed_bytes, token_count}
 use Rattle.quick_form.specs.Quick.{Takes}
+use Rattle.text_edits.specs.Files.{Lookup}
 use Rattle.project_store.specs.Lookup.{PutsFile, LeavesPart}
 use Rattle.project_store.specs.Faults.{Rose}
 use Rattle.project_store.specs.Room.{LacksRoom}
@@ -12,39 +13,37 @@ use Rattle.morpheus_top.specs.Replies.{status_of, report_of}
 use Rattle.morpheus_top.specs.Sinks.{TookFront}
 use Rattle.morpheus_top.specs.States.{StoreState, SinkState, Kept}
 
--- the file that is asked for, and that it is taken
-pub record TakesFile (r : Renaming) (before : StoreState) (bytes : List ℕ) : Type 0 where
-  pub held : before.file r.file ≡ Some bytes
-  pub takes : Takes r.old r.new bytes
-
 abbrev pub renamed_file : Renaming → List ℕ → List ℕ
 renamed_file r bytes = renamed_bytes r.old r.new bytes
 
--- The renamed file stands under its name and every other name is as before.
-pub record Wrote (r : Renaming) (before after : StoreState) (tokens : ℕ) : Type 0 where
-  pub bytes : List ℕ
-  pub taken : TakesFile r before bytes
-  pub tokens_are : tokens ≡ token_count r.old bytes
-  pub put : PutsFile before.file (target r) (renamed_file r bytes) after.file
-
--- Under the name stands a prefix of the renamed file or what stood there, and every other name is as before.
-pub record WrotePart (r : Renaming) (before after : StoreState) : Type 0 where
-  pub bytes : List ℕ
-  pub taken : TakesFile r before bytes
-  pub left : LeavesPart before.file (target r) (renamed_file r bytes) after.file
-
--- the store told a room that is too small for the renamed file
-pub record LacksRoomFor (r : Renaming) (before : StoreState) : Type 0 where
-  pub bytes : List ℕ
-  pub taken : TakesFile r before bytes
-  pub lacks : LacksRoom (before.file (target r)) before.names_left before.bytes_left
-    (length (target r) + length (renamed_file r bytes))
+-- these are the bytes of the file that is asked for, and it is taken
+pub record TakesFile (r : Renaming) (files : Lookup) (bytes : List ℕ) : Type 0 where
+  pub held : files r.file ≡ Some bytes
+  pub takes : Takes r.old r.new bytes
 
 -- the file that is asked for isn't taken
-pub record Refuses (r : Renaming) (before : StoreState) : Type 0 where
+pub record RefusesFile (r : Renaming) (files : Lookup) : Type 0 where
   pub bytes : List ℕ
-  pub held : before.file r.file ≡ Some bytes
+  pub held : files r.file ≡ Some bytes
   pub refused : Takes r.old r.new bytes → ⊥
+
+-- The renamed file stands under its name and every other name is as before.
+pub record WritesFile (r : Renaming) (before after : Lookup) : Type 0 where
+  pub bytes : List ℕ
+  pub taken : TakesFile r before bytes
+  pub put : PutsFile before (target r) (renamed_file r bytes) after
+
+-- Under the name stands a prefix of the renamed file or what stood there, and every other name is as before.
+pub record WritesPart (r : Renaming) (before after : Lookup) : Type 0 where
+  pub bytes : List ℕ
+  pub taken : TakesFile r before bytes
+  pub left : LeavesPart before (target r) (renamed_file r bytes) after
+
+-- the room is too small for the renamed file
+pub record LacksRoomFor (r : Renaming) (files : Lookup) (names_left bytes_left : ℕ) : Type 0 where
+  pub bytes : List ℕ
+  pub taken : TakesFile r files bytes
+  pub lacks : LacksRoom (files (target r)) names_left bytes_left (length (target r) + length (renamed_file r bytes))
 
 pub record SaysReadFault (words : List (List ℕ)) (before after : StoreState) : Type 0 where
   pub renaming : Renaming
@@ -57,19 +56,20 @@ pub record SaysWriteFault (words : List (List ℕ)) (before after : StoreState) 
   pub renaming : Renaming
   pub asked : Asks words renaming
   pub rose : Rose before.write_faults after.write_faults
-  pub part : before.tells → WrotePart renaming before after
-  pub lacks : before.tells_room → LacksRoomFor renaming before
+  pub part : before.tells → WritesPart renaming before.file after.file
+  pub lacks : before.tells_room → LacksRoomFor renaming before.file before.names_left before.bytes_left
 
 pub record SaysNotQuick (words : List (List ℕ)) (before after : StoreState) : Type 0 where
   pub renaming : Renaming
   pub asked : Asks words renaming
   pub kept : Kept before after
-  pub refused : before.tells → Refuses renaming before
+  pub refused : before.tells → RefusesFile renaming before.file
 
 pub record SaysRenamed (words : List (List ℕ)) (before after : StoreState) (tokens : ℕ) : Type 0 where
   pub renaming : Renaming
   pub asked : Asks words renaming
-  pub wrote : before.tells → Wrote renaming before after tokens
+  pub wrote : before.tells → WritesFile renaming before.file after.file
+  pub counts : (told : before.tells) → tokens ≡ token_count renaming.old (wrote told).bytes
 
 -- the cause of a reply, and what it says of the store
 abbrev pub Holds : List (List ℕ) → StoreState → StoreState → Reply → Type 0

@@ -1,8 +1,8 @@
 -- The words of a command.
-use Rattle.std.specs.Prelude.{◌≡◌, ℕ, Bool, true, false, not, ◌&&◌, ◌||◌, ◌==◌, List, [], ◌∷◌, ◌++◌, nat_eq, codes}
-use Rattle.std.specs.List.{list_any, list_all, slice_split, starts_with}
+use Rattle.std.specs.Prelude.{◌≡◌, ℕ, Bool, true, false, not, ◌&&◌, ◌||◌, ◌==◌, List, [], ◌∷◌, ◌++◌, codes}
+use Rattle.std.specs.List.{list_all, slice_split}
 use Rattle.std.specs.Str.{bytes_eq}
-use Rattle.quick_form.specs.Words.{is_word_byte, is_identifier, is_keyword}
+use Rattle.c_names.specs.Names.{is_word_byte, is_new_name}
 
 -- a letter, a digit, `_`, `-`, `.` or `+`
 abbrev pub is_file_byte : ℕ → Bool
@@ -29,18 +29,6 @@ is_folder_byte b = is_word_byte b || b == 45
 abbrev pub is_folder_name : List ℕ → Bool
 is_folder_name w = not (is_empty w) && list_all is_folder_byte w
 
--- the names that a project may not take besides the keywords: the preprocessor's, the built-in functions', and `main`
-abbrev pub taken_names : List (List ℕ)
-taken_names =
-    codes "defined" ∷ codes "_Pragma" ∷ codes "main" ∷ codes "putchar" ∷ codes "getchar" ∷ codes "puts"
-    ∷ codes "exit" ∷ codes "EOF" ∷ codes "NULL" ∷ []
-
--- a good new name
-abbrev pub is_new_name : List ℕ → Bool
-is_new_name w =
-    is_identifier w && not (is_keyword w) && not (list_any (bytes_eq w) taken_names)
-    && not (starts_with nat_eq w (codes "__"))
-
 -- a renaming of one name in one file of the quick form
 pub record Renaming : Type 0 where
   pub file : List ℕ
@@ -52,16 +40,28 @@ pub record Renaming : Type 0 where
 abbrev pub target : Renaming → List ℕ
 target r = r.out ++ 47 ∷ r.file
 
--- the words ask for this renaming
-pub record Asks (words : List (List ℕ)) (r : Renaming) : Type 0 where
-  pub words_are : words ≡ codes "quick" ∷ r.file ∷ r.old ∷ r.new ∷ r.out ∷ []
+-- the name begins with the folder's name and `/`
+abbrev pub IsInFolder : List ℕ → List ℕ → Type 0
+IsInFolder name folder = (rest : List ℕ) × (name ≡ folder ++ 47 ∷ rest)
+
+-- The names are of their forms, the new name is another than the old, and the output folder is neither the file nor a folder
+-- that the file stands in.
+pub record IsGood (r : Renaming) : Type 0 where
   pub file : is_file_name r.file ≡ true
   pub new : is_new_name r.new ≡ true
   pub out : is_folder_name r.out ≡ true
   pub changes : bytes_eq r.old r.new ≡ false
-  -- OUT isn't FILE, and FILE doesn't begin with `OUT/`
   pub apart : bytes_eq r.out r.file ≡ false
-  pub outside : starts_with nat_eq r.file (r.out ++ 47 ∷ []) ≡ false
+  pub outside : IsInFolder r.file r.out → ⊥
+
+-- the words of the command, `quick FILE OLD NEW OUT`
+abbrev pub words_of : Renaming → List (List ℕ)
+words_of r = codes "quick" ∷ r.file ∷ r.old ∷ r.new ∷ r.out ∷ []
+
+-- the words ask for this renaming
+pub record Asks (words : List (List ℕ)) (r : Renaming) : Type 0 where
+  pub words_are : words ≡ words_of r
+  pub good : IsGood r
 
 -- the words ask for nothing
 abbrev pub IsUsage : List (List ℕ) → Type 0
