@@ -1,0 +1,5 @@
+mod LexingPieces
+mod LexingWords
+mod LexingLines
+mod LexingItems
+mod Examples
