@@ -3,16 +3,12 @@ use Rattle.std.proofs.Common.{◌≡◌, ℕ, Bool, true, false, ◌==◌, cond,
 use Rattle.std.specs.List.{flat_map, list_all, AllByRecursion}
 use Rattle.std.proofs.lemmas.Bool.{true≢false, ne_eqb, and_parts, and_from, cond-true, cond-false}
 use Rattle.quick_form.specs.Words.{is_word_byte}
-use Rattle.quick_form.specs.Symbols.{Piece, Word, Other, with_letter, pieces_of}
+use Rattle.quick_form.specs.Symbols.{Piece, Word, Other, piece_bytes, with_letter, pieces_of}
 use Rattle.quick_form.specs.Renaming.{renamed_word, renamed_piece}
 
 -- no newline stands in the bytes
 abbrev pub IsOneLine : List ℕ → Type 0
 IsOneLine = AllByRecursion (λ b. (b == 10) ≡ false)
-
-abbrev pub piece_bytes : Piece → List ℕ
-piece_bytes (Word w) = w
-piece_bytes (Other b) = b ∷ []
 
 abbrev pub piece_with : List ℕ → List ℕ → Piece → Piece
 piece_with old new (Word w) = Word (renamed_word old new w)

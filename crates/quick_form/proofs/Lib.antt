@@ -1,4 +1,4 @@
-mod LexingPieces
+pub mod LexingPieces
 mod LexingWords
 mod LexingLines
 mod LexingItems

@@ -1,1 +1,3 @@
 pub mod Keywords
+pub mod View
+pub mod Lines

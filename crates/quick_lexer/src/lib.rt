@@ -2,6 +2,12 @@
 //! with one name made another. Nothing here copies or allocates but for the renamed file.
 #![tactic(auto)]
 
+mod lines;
+mod pieces;
+mod symbols;
 mod words;
 
+pub use lines::{directive, first_symbol};
+pub use pieces::{first_piece, first_solid_piece, Piece};
+pub use symbols::{word_symbol, Symbol};
 pub use words::{is_name, is_number};
