@@ -4,10 +4,12 @@
 
 mod lines;
 mod pieces;
+mod renaming;
 mod symbols;
 mod words;
 
 pub use lines::{directive, first_symbol};
 pub use pieces::{first_piece, first_solid_piece, Piece};
+pub use renaming::{push_renamed_line, renamed};
 pub use symbols::{word_symbol, Symbol};
 pub use words::{is_name, is_number};
