@@ -1,10 +1,10 @@
 -- The first piece of a line.
 use Rattle.std.proofs.Common.{◌≡◌, ℕ, suc, ◌+◌, ◌<◌, ◌==◌, Bool, true, false, not, cond, List, [], ◌∷◌, ◌++◌, length, get_or, take, drop, refl, sym, ap, ◌∙◌, subst, ⊎_elim, arith}
-use Rattle.std.specs.List.{prefix_len, filter, flat_map}
-use Rattle.std.proofs.lemmas.Bool.{cond-true, cond-false, both_ways, eqb-true, or_cases, not_from_true, not_from_false}
+use Rattle.std.specs.List.{prefix_len, filter, flat_map, list_all}
+use Rattle.std.proofs.lemmas.Bool.{cond-true, cond-false, and_from, both_ways, eqb-true, or_cases, not_from_true, not_from_false}
 use Rattle.quick_form.specs.Words.{is_word_byte, is_blank}
 use Rattle.quick_form.specs.Symbols.{Symbol, Mark, Piece, Word, Other, piece_bytes, with_letter, pieces_of, piece_symbols, is_blank_piece, solid_pieces}
-use Rattle.quick_lexer.specs.Lines.{begins_with_blank}
+use Rattle.quick_lexer.specs.Lines.{begins_with_blank, BeginsWith}
 
 -- how many letters, digits and `_` the bytes begin with
 abbrev run : List ℕ → ℕ
@@ -103,3 +103,22 @@ token_symbols-some line rest p s e one =
     token_symbols-solid line ∙ ap (flat_map piece_symbols) e
     ∙ ap (λ ks. ks ++ flat_map piece_symbols (solid_pieces rest)) one
     ∙ ap (λ ks. s ∷ ks) (sym (token_symbols-solid rest))
+
+take-blanks_as : (b : ℕ) (bs : List ℕ) (t : Bool) → is_blank b ≡ t → list_all is_blank (take (prefix_len is_blank bs) bs) ≡ true → list_all is_blank (take (cond t (1 + prefix_len is_blank bs) 0) (b ∷ bs)) ≡ true
+take-blanks_as b bs true e h =
+    let one : suc (prefix_len is_blank bs) ≡ 1 + prefix_len is_blank bs = omega arith in
+    let Is : ℕ → Type 0 = λ n. list_all is_blank (take n (b ∷ bs)) ≡ true in
+    subst Is one (and_from (is_blank b) (list_all is_blank (take (prefix_len is_blank bs) bs)) e h)
+take-blanks_as b bs false e h = refl
+
+take-blanks : (line : List ℕ) → list_all is_blank (take (prefix_len is_blank line) line) ≡ true
+take-blanks [] = refl
+take-blanks (b ∷ bs) = take-blanks_as b bs (is_blank b) refl (take-blanks bs)
+
+-- a line begins with what it begins with behind its blanks and tabs
+pub BeginsWith-blanks : (line visible rest : List ℕ) (p : Piece) → line ≡ take (prefix_len is_blank line) line ++ visible → visible ≡ piece_bytes p ++ rest → BeginsWith line p rest
+BeginsWith-blanks line visible rest p blanks first = record {
+  blanks = take (prefix_len is_blank line) line;
+  are_blank = take-blanks line;
+  joined = blanks ∙ ap (λ bs. take (prefix_len is_blank line) line ++ bs) first
+}

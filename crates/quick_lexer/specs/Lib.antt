@@ -1,3 +1,4 @@
 pub mod Keywords
 pub mod View
 pub mod Lines
+pub mod Output

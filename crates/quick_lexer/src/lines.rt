@@ -1,6 +1,7 @@
 //! The symbols of a line: its tokens one by one, or its directive.
 ghost use Rattle.std.specs.Prelude.{◌≡◌, ◌↔◌, ◌<◌, false, [], ◌∷◌, length, IsNone, IfNone, IfSome};
 ghost use Rattle.quick_form.specs.Symbols as spec;
+ghost use Rattle.quick_lexer.specs.Lines.{BeginsWithSymbol};
 ghost use Rattle.quick_lexer.specs.View.{piece_view, symbol_view, token_symbols};
 
 use crate::pieces::{first_solid_piece, Piece};
@@ -22,6 +23,7 @@ fn piece_symbol<'a>(piece: Piece<'a>) -> Symbol<'a>
 pub fn first_symbol<'a>(line: &'a [u8]) -> Option<(Symbol<'a>, &'a [u8])>
     ensures none { IsNone result ↔ (token_symbols line.now ≡ []) }
     ensures some { IfSome result (λ r. token_symbols line.now ≡ symbol_view r.0 ∷ token_symbols r.1.now) }
+    ensures bytes { IfSome result (λ r. BeginsWithSymbol line.now (symbol_view r.0) r.1.now) }
     ensures shorter { IfSome result (λ r. length r.1.now < length line.now) }
 {
     let (piece, rest) = first_solid_piece(line)?;

@@ -1,9 +1,9 @@
 //! The pieces of a line: words, and the bytes between them.
-ghost use Rattle.std.specs.Prelude.{◌≡◌, ◌↔◌, ◌<◌, ◌≤◌, ◌++◌, false, [], ◌∷◌, length, IsNone, IfSome};
+ghost use Rattle.std.specs.Prelude.{◌≡◌, ◌↔◌, ◌<◌, ◌≤◌, ◌++◌, false, [], ◌∷◌, take, length, IsNone, IfSome};
 ghost use Rattle.std.specs.List.{prefix_len};
 ghost use Rattle.quick_form.specs.Words as spec;
 ghost use Rattle.quick_form.specs.Symbols.{piece_bytes, pieces_of, is_blank_piece, solid_pieces};
-ghost use Rattle.quick_lexer.specs.Lines.{begins_with_blank};
+ghost use Rattle.quick_lexer.specs.Lines.{begins_with_blank, BeginsWith};
 ghost use Rattle.quick_lexer.specs.View.{piece_view};
 
 use crate::words::{is_blank, is_word_byte};
@@ -45,6 +45,7 @@ fn blank_len(line: &[u8]) -> usize
 fn without_blanks<'a>(line: &'a [u8]) -> &'a [u8]
     ensures solid { solid_pieces result.now ≡ solid_pieces line.now }
     ensures visible { begins_with_blank result.now ≡ false }
+    ensures blanks { line.now ≡ take (prefix_len spec.is_blank line.now) line.now ++ result.now }
     ensures within { length result.now ≤ length line.now }
 {
     &line[blank_len(line)..]
@@ -75,6 +76,7 @@ pub fn first_solid_piece<'a>(line: &'a [u8]) -> Option<(Piece<'a>, &'a [u8])>
     ensures none { IsNone result ↔ (solid_pieces line.now ≡ []) }
     ensures some { IfSome result (λ r. solid_pieces line.now ≡ piece_view r.0 ∷ solid_pieces r.1.now) }
     ensures solid { IfSome result (λ r. is_blank_piece (piece_view r.0) ≡ false) }
+    ensures bytes { IfSome result (λ r. BeginsWith line.now (piece_view r.0) r.1.now) }
     ensures shorter { IfSome result (λ r. length r.1.now < length line.now) }
 {
     first_piece(without_blanks(line))

@@ -1,8 +1,9 @@
 //! A file with one name made another: each token that is the name, and nothing in directive lines.
-ghost use Rattle.std.specs.Prelude.{◌≡◌, ◌++◌, [], ◌∷◌, IfOk, OnOk, if◌then◌else◌};
+ghost use Rattle.std.specs.Prelude.{◌≡◌, ◌++◌, [], ◌∷◌, IfOk, OnOk, OnErr, if◌then◌else◌};
 ghost use Rattle.std.specs.List.{flat_map};
 ghost use Rattle.quick_form.specs.Symbols.{pieces_of};
 ghost use Rattle.quick_form.specs.Renaming as spec;
+ghost use Rattle.quick_lexer.specs.Output.{IsBegun};
 ghost use Rattle.quick_lexer.specs.View.{piece_view};
 
 use std::alloc::{AllocError, Global};
@@ -17,7 +18,8 @@ fn renamed_word<'a>(word: &'a [u8], old: &[u8], new: &'a [u8]) -> &'a [u8]
 }
 
 fn push_renamed_piece(out: &mut Vec<u8>, piece: Piece, old: &[u8], new: &[u8]) -> Result<(), AllocError>
-    ensures { OnOk result (out.new.items ≡ out.old.items ++ spec.renamed_piece old.now new.now (piece_view piece.entry)) }
+    ensures ok { OnOk result (out.new.items ≡ out.old.items ++ spec.renamed_piece old.now new.now (piece_view piece.entry)) }
+    ensures err { OnErr result (out.new.items ≡ out.old.items) }
 {
     match piece {
         Piece::Word(word) => out.extend_from_slice(renamed_word(word, old, new))?,
@@ -27,8 +29,10 @@ fn push_renamed_piece(out: &mut Vec<u8>, piece: Piece, old: &[u8], new: &[u8]) -
 }
 
 fn push_renamed_tokens(out: &mut Vec<u8>, line: &[u8], old: &[u8], new: &[u8]) -> Result<(), AllocError>
-    ensures { OnOk result
+    ensures ok { OnOk result
         (out.new.items ≡ out.old.items ++ flat_map (spec.renamed_piece old.now new.now) (pieces_of line.now)) }
+    ensures err { OnErr result (IsBegun out.new.items
+        (out.old.items ++ flat_map (spec.renamed_piece old.now new.now) (pieces_of line.now))) }
 {
     let mut rest = line;
     while let Some((piece, after)) = first_piece(rest) {
@@ -38,9 +42,10 @@ fn push_renamed_tokens(out: &mut Vec<u8>, line: &[u8], old: &[u8], new: &[u8]) -
     Ok(())
 }
 
-/// Appends a line with new for each token old. After an `Err` the output ends in some beginning of that line.
+/// Appends a line with new for each token old; after an `Err`, as much of it as memory held.
 pub fn push_renamed_line(out: &mut Vec<u8>, line: &[u8], old: &[u8], new: &[u8]) -> Result<(), AllocError>
-    ensures { OnOk result (out.new.items ≡ out.old.items ++ spec.renamed_line old.now new.now line.now) }
+    ensures ok { OnOk result (out.new.items ≡ out.old.items ++ spec.renamed_line old.now new.now line.now) }
+    ensures err { OnErr result (IsBegun out.new.items (out.old.items ++ spec.renamed_line old.now new.now line.now)) }
 {
     if directive(line).is_some() {
         out.extend_from_slice(line)?;
