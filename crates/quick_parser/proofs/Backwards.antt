@@ -49,7 +49,7 @@ mark_back mark n fs (Mark b) m e ks c =
 mark_back mark n fs _ m e ks c = cc
 
 -- an empty list
-none_then : (n : ℕ) (L : Language) (ks : List Symbol) → L ks → ListThen n L ks
+pub none_then : (n : ℕ) (L : Language) (ks : List Symbol) → L ks → ListThen n L ks
 none_then zero L ks c = record { items = no_item; rest = ks; is = refl; fits = omega arith; more = c }
 none_then (suc n) L ks c = record { statements = no_more; rest = ks; is = refl; fits = omega arith; more = c }
 
@@ -220,3 +220,129 @@ entry_back fs (Ifdef n) m e ks c =
 entry_back fs Else m e ks c = else_back fs m e ks c
 entry_back fs Endif m e ks c = endif_back fs m e ks c
 entry_back fs _ m e ks c = absurd cc
+
+declarator_back :
+    (fs : List Frame) (k : Symbol) (m : Move) → declarator_move k ≡ Some m
+    → (ks : List Symbol) → EndsAt (moved fs m) ks → Ends Declarator (block_count fs) (Closes fs) (k ∷ ks)
+declarator_back fs (Name x) m e ks c =
+    inl (record { name = x; more = record { rest = ks; is = refl; more = arrives fs ks (To Declared) m e c } })
+declarator_back fs Main m e ks c = inr (record { rest = ks; is = refl; more = arrives fs ks (To MainOpening) m e c })
+declarator_back fs _ m e ks c = absurd cc
+
+-- the first mark, or else the second
+declared_mark_back :
+    (fs : List Frame) (t : Bool) (b : ℕ) (m : Move) → (b == 61) ≡ t
+    → (if t then Some (To Initializer) else wanted 59 b (Some (To Entry))) ≡ Some m
+    → (ks : List Symbol) → EndsAt (moved fs m) ks → Ends Declared (block_count fs) (Closes fs) (Mark b ∷ ks)
+declared_mark_back fs true b m f e ks c =
+    inr (mark_follows 61 b (EndsAt (moved fs (To Initializer))) ks f (arrives fs ks (To Initializer) m e c))
+declared_mark_back fs false b m f e ks c = inl (mark_back 59 (To Entry) fs (Mark b) m e ks c)
+
+declared_back :
+    (fs : List Frame) (k : Symbol) (m : Move) → declared_move k ≡ Some m
+    → (ks : List Symbol) → EndsAt (moved fs m) ks → Ends Declared (block_count fs) (Closes fs) (k ∷ ks)
+declared_back fs (Mark b) m e ks c = declared_mark_back fs (b == 61) b m refl e ks c
+declared_back fs _ m e ks c = absurd cc
+
+initializer_back :
+    (fs : List Frame) (k : Symbol) (m : Move) → initializer_move k ≡ Some m
+    → (ks : List Symbol) → EndsAt (moved fs m) ks → Ends Initializer (block_count fs) (Closes fs) (k ∷ ks)
+initializer_back fs (Number d) m e ks c =
+    record { digits = d; more = record { rest = ks; is = refl; more = arrives fs ks (To Semicolon) m e c } }
+initializer_back fs _ m e ks c = absurd cc
+
+void_back :
+    (fs : List Frame) (k : Symbol) (m : Move) → void_move k ≡ Some m
+    → (ks : List Symbol) → EndsAt (moved fs m) ks → Ends MainVoid (block_count fs) (Closes fs) (k ∷ ks)
+void_back fs Void m e ks c = record { rest = ks; is = refl; more = arrives fs ks (To MainClosing) m e c }
+void_back fs _ m e ks c = absurd cc
+
+-- an operand, and the terms behind it
+pub operand_then :
+    (o : form.Operand) (L : Language) (ks : List Symbol) → TermsThen L ks → SumThen L (operand_symbol o ∷ ks)
+operand_then o L ks c =
+    record {
+      sum_read = record { first = o; more = c.terms };
+      rest = c.rest;
+      is = ap (λ x. operand_symbol o ∷ x) c.is;
+      more = c.more
+    }
+
+operand_back :
+    (s : SumEnd) (fs : List Frame) (k : Symbol) (m : Move) → operand_move s k ≡ Some m
+    → (ks : List Symbol) → EndsAt (moved fs m) ks → Ends (Operand s) (block_count fs) (Closes fs) (k ∷ ks)
+operand_back s fs (Name x) m e ks c = operand_then (Named x) _ ks (arrives fs ks (To (Operator s)) m e c)
+operand_back s fs (Number d) m e ks c = operand_then (Literal d) _ ks (arrives fs ks (To (Operator s)) m e c)
+operand_back s fs _ m e ks c = absurd cc
+
+-- an operator, and the sum behind it
+term_then :
+    (t : Bool) (b : ℕ) (L : Language) (ks : List Symbol) → b ≡ (if t then 45 else 43) → SumThen L ks
+    → TermsThen L (Mark b ∷ ks)
+term_then t b L ks e c =
+    record {
+      terms = record { subtracted = t; operand = c.sum_read.first } ∷ c.sum_read.more;
+      rest = c.rest;
+      is = rw (e, c.is) refl;
+      more = c.more
+    }
+
+-- the end of a sum, with no further term
+pub end_then :
+    (s : SumEnd) (n : ℕ) (L : Language) (ks : List Symbol) → SumEnds s n L ks → TermsThen (SumEnds s n L) ks
+end_then s n L ks c = record { terms = []; rest = ks; is = refl; more = c }
+
+end_back :
+    (s : SumEnd) (fs : List Frame) (b : ℕ) (m : Move) → wanted (end_mark s) b (Some (end_move s)) ≡ Some m
+    → (ks : List Symbol) → EndsAt (moved fs m) ks → SumEnds s (block_count fs) (Closes fs) (Mark b ∷ ks)
+end_back Statement fs b m e ks c = mark_back 59 (To Entry) fs (Mark b) m e ks c
+end_back Output fs b m e ks c = mark_back 41 (To Semicolon) fs (Mark b) m e ks c
+end_back Condition fs b m e ks c = mark_back 41 (To Body) fs (Mark b) m e ks c
+
+operator_mark_back :
+    (s : SumEnd) (fs : List Frame) (plus minus : Bool) (b : ℕ) (m : Move) → (b == 43) ≡ plus → (b == 45) ≡ minus
+    → (if plus then Some (To (Operand s)) else if minus then Some (To (Operand s))
+        else wanted (end_mark s) b (Some (end_move s))) ≡ Some m
+    → (ks : List Symbol) → EndsAt (moved fs m) ks → Ends (Operator s) (block_count fs) (Closes fs) (Mark b ∷ ks)
+operator_mark_back s fs true minus b m p q e ks c =
+    term_then false b _ ks (eqb-true b 43 p) (arrives fs ks (To (Operand s)) m e c)
+operator_mark_back s fs false true b m p q e ks c =
+    term_then true b _ ks (eqb-true b 45 q) (arrives fs ks (To (Operand s)) m e c)
+operator_mark_back s fs false false b m p q e ks c =
+    end_then s (block_count fs) (Closes fs) (Mark b ∷ ks) (end_back s fs b m e ks c)
+
+operator_back :
+    (s : SumEnd) (fs : List Frame) (k : Symbol) (m : Move) → operator_move s k ≡ Some m
+    → (ks : List Symbol) → EndsAt (moved fs m) ks → Ends (Operator s) (block_count fs) (Closes fs) (k ∷ ks)
+operator_back s fs (Mark b) m e ks c = operator_mark_back s fs (b == 43) (b == 45) b m refl refl e ks c
+operator_back s fs _ m e ks c = absurd cc
+
+move_back :
+    (p : Place) (fs : List Frame) (k : Symbol) (m : Move) → next_move p fs k ≡ Some m
+    → (ks : List Symbol) → EndsAt (moved fs m) ks → Ends p (block_count fs) (Closes fs) (k ∷ ks)
+move_back Entry fs k m e ks c = entry_back fs k m e ks c
+move_back Declarator fs k m e ks c = declarator_back fs k m e ks c
+move_back Declared fs k m e ks c = declared_back fs k m e ks c
+move_back Initializer fs k m e ks c = initializer_back fs k m e ks c
+move_back Semicolon fs k m e ks c = mark_back 59 (To Entry) fs k m e ks c
+move_back MainOpening fs k m e ks c = mark_back 40 (To MainVoid) fs k m e ks c
+move_back MainVoid fs k m e ks c = void_back fs k m e ks c
+move_back MainClosing fs k m e ks c = mark_back 41 (To Body) fs k m e ks c
+move_back Body fs k m e ks c = mark_back 123 (Enter Block) fs k m e ks c
+move_back Assignment fs k m e ks c = mark_back 61 (To (Operand Statement)) fs k m e ks c
+move_back (Opening s) fs k m e ks c = mark_back 40 (To (Operand s)) fs k m e ks c
+move_back (Operand s) fs k m e ks c = operand_back s fs k m e ks c
+move_back (Operator s) fs k m e ks c = operator_back s fs k m e ks c
+
+moved_back :
+    (p q : Spot) (k : Symbol) (x : Option Move) → next_move p.place p.open_frames k ≡ x
+    → option_map (moved p.open_frames) x ≡ Some q → (ks : List Symbol) → EndsAt q ks → EndsAt p (k ∷ ks)
+moved_back p q k None f e ks c = absurd cc
+moved_back p q k (Some m) f e ks c =
+    let same : q ≡ moved p.open_frames m = cc in
+    let P : Spot → Type 0 = λ r. EndsAt r ks in move_back p.place p.open_frames k m f ks (subst P same c)
+
+-- what ends a file behind a symbol ends it, with the symbol, before
+pub backwards :
+    (p q : Spot) (k : Symbol) → advanced p k ≡ Some q → (ks : List Symbol) → EndsAt q ks → EndsAt p (k ∷ ks)
+backwards p q k e ks c = moved_back p q k (next_move p.place p.open_frames k) refl e ks c

@@ -1,12 +1,17 @@
 -- LAWS of the machine, each the contract of a function of this crate.
-use Rattle.std.specs.Prelude.{◌≡◌, ◌↔◌, ℕ, Bool, true, false, ◌||◌, List, [], ◌∷◌, Option, Some, None}
+use Rattle.std.specs.Prelude.{◌≡◌, ◌↔◌, ℕ, Bool, true, false, ◌||◌, List, [], ◌∷◌, ◌++◌, Option, Some, None}
 use Rattle.std.specs.List.{list_any}
 use Rattle.std.specs.Str.{bytes_eq}
 use Rattle.quick_form.specs.Symbols.{Symbol, Int, Name, tested_names}
 use Rattle.quick_form.specs.Form.{Items, write_items, declared_names, IsWritten, IsBeginning}
+use Rattle.quick_parser.specs.Completion.{completion}
 use Rattle.quick_parser.specs.Steps.{State, after, is_complete}
 
--- what was read is the beginning of some file, whatever the state: no state is a dead end
+-- no state is a dead end: what was read is a whole file with the state's completion behind it
+abbrev pub StatesComplete : Type 0
+StatesComplete = (ks : List Symbol) (s : State) → after ks ≡ Some s → IsWritten (ks ++ completion s)
+
+-- what is read is the beginning of some file
 abbrev pub StatesBegin : Type 0
 StatesBegin = (ks : List Symbol) (s : State) → after ks ≡ Some s → IsBeginning ks
 
