@@ -13,7 +13,7 @@ use Rattle.quick_parser.specs.declared.spots.Frame.{Frame}
 use Rattle.quick_parser.specs.declared.spots.Frame.TheVariants.{Block, Group, Alternative}
 use Rattle.quick_parser.specs.declared.spots.Move.{Move}
 use Rattle.quick_parser.specs.declared.spots.Move.TheVariants.{To, Enter, Turn, Leave}
-use Rattle.quick_parser.specs.Spots.{Spot, block_count, inside, outside, wanted, brace_move, endif_move, else_move, entry_move, declarator_move, initializer_move, void_move, operand_move, mark_move, declared_move, end_mark, end_move, operator_move, next_move, moved, advanced}
+use Rattle.quick_parser.specs.Spots.{Spot, block_count, inside, outside, wanted, brace_move, endif_move, else_move, entry_move, declarator_move, initializer_move, void_move, operand_move, mark_move, declared_move, end_mark, end_move, operator_move, next_move, innermost, spot_move, moved, advanced}
 use Rattle.quick_parser.proofs.Language.{Language, Follows, ItemsThen, StatementsThen, ListThen, BranchEnds, BodyThen, ClosingThen, VoidThen, MainThen, NameThen, ValueThen, DeclaredThen, TermsThen, SumThen, SumEnds, Ends, Closes, EndsAt}
 
 -- what a chosen move tells
@@ -160,7 +160,7 @@ group_back zero L x ks c = item_group_back L x ks c.items c.rest c.is c.fits c.m
 group_back (suc n) L x ks c = group_back_inside n L x ks c.statements c.rest c.is c.fits c.more
 
 brace_back :
-    (fs : List Frame) (m : Move) → brace_move fs ≡ Some m → (ks : List Symbol) → EndsAt (moved fs m) ks
+    (fs : List Frame) (m : Move) → brace_move (innermost fs) ≡ Some m → (ks : List Symbol) → EndsAt (moved fs m) ks
     → ListThen (block_count fs) (Closes fs) (Mark 125 ∷ ks)
 brace_back [] m e ks c = absurd cc
 brace_back (Block ∷ fs) m e ks c =
@@ -170,7 +170,7 @@ brace_back (Group ∷ fs) m e ks c = absurd cc
 brace_back (Alternative ∷ fs) m e ks c = absurd cc
 
 endif_back :
-    (fs : List Frame) (m : Move) → endif_move fs ≡ Some m → (ks : List Symbol) → EndsAt (moved fs m) ks
+    (fs : List Frame) (m : Move) → endif_move (innermost fs) ≡ Some m → (ks : List Symbol) → EndsAt (moved fs m) ks
     → ListThen (block_count fs) (Closes fs) (Endif ∷ ks)
 endif_back [] m e ks c = absurd cc
 endif_back (Block ∷ fs) m e ks c = absurd cc
@@ -182,7 +182,7 @@ endif_back (Alternative ∷ fs) m e ks c =
     none_then (block_count fs) (Closes (Alternative ∷ fs)) (Endif ∷ ks) (record { rest = ks; is = refl; more = stays })
 
 else_back :
-    (fs : List Frame) (m : Move) → else_move fs ≡ Some m → (ks : List Symbol) → EndsAt (moved fs m) ks
+    (fs : List Frame) (m : Move) → else_move (innermost fs) ≡ Some m → (ks : List Symbol) → EndsAt (moved fs m) ks
     → ListThen (block_count fs) (Closes fs) (Else ∷ ks)
 else_back [] m e ks c = absurd cc
 else_back (Block ∷ fs) m e ks c = absurd cc
@@ -192,7 +192,7 @@ else_back (Group ∷ fs) m e ks c =
 else_back (Alternative ∷ fs) m e ks c = absurd cc
 
 entry_back :
-    (fs : List Frame) (k : Symbol) (m : Move) → entry_move fs k ≡ Some m
+    (fs : List Frame) (k : Symbol) (m : Move) → entry_move (innermost fs) (block_count fs) k ≡ Some m
     → (ks : List Symbol) → EndsAt (moved fs m) ks → ListThen (block_count fs) (Closes fs) (k ∷ ks)
 entry_back fs Int m e ks c =
     int_back (block_count fs) (Closes fs) m e ks
@@ -211,7 +211,7 @@ entry_back fs While m e ks c =
     while_back (block_count fs) (Closes fs) m e ks
     (arrives fs ks (To (Opening Condition)) m (if_some (nat_lt (block_count fs) 64) _ m chosen).1 c)
 entry_back fs (Mark b) m e ks c =
-    let told = if_some (b == 125) (brace_move fs) m e in
+    let told = if_some (b == 125) (brace_move (innermost fs)) m e in
     let same : 125 ≡ b = sym (eqb-true b 125 told.0) in
     let P : ℕ → Type 0 = λ x. ListThen (block_count fs) (Closes fs) (Mark x ∷ ks) in
     subst P same (brace_back fs m told.1 ks c)
@@ -318,7 +318,7 @@ operator_back s fs (Mark b) m e ks c = operator_mark_back s fs (b == 43) (b == 4
 operator_back s fs _ m e ks c = absurd cc
 
 move_back :
-    (p : Place) (fs : List Frame) (k : Symbol) (m : Move) → next_move p fs k ≡ Some m
+    (p : Place) (fs : List Frame) (k : Symbol) (m : Move) → next_move p (innermost fs) (block_count fs) k ≡ Some m
     → (ks : List Symbol) → EndsAt (moved fs m) ks → Ends p (block_count fs) (Closes fs) (k ∷ ks)
 move_back Entry fs k m e ks c = entry_back fs k m e ks c
 move_back Declarator fs k m e ks c = declarator_back fs k m e ks c
@@ -335,7 +335,7 @@ move_back (Operand s) fs k m e ks c = operand_back s fs k m e ks c
 move_back (Operator s) fs k m e ks c = operator_back s fs k m e ks c
 
 moved_back :
-    (p q : Spot) (k : Symbol) (x : Option Move) → next_move p.place p.open_frames k ≡ x
+    (p q : Spot) (k : Symbol) (x : Option Move) → spot_move p k ≡ x
     → option_map (moved p.open_frames) x ≡ Some q → (ks : List Symbol) → EndsAt q ks → EndsAt p (k ∷ ks)
 moved_back p q k None f e ks c = absurd cc
 moved_back p q k (Some m) f e ks c =
@@ -345,4 +345,4 @@ moved_back p q k (Some m) f e ks c =
 -- what ends a file behind a symbol ends it, with the symbol, before
 pub backwards :
     (p q : Spot) (k : Symbol) → advanced p k ≡ Some q → (ks : List Symbol) → EndsAt q ks → EndsAt p (k ∷ ks)
-backwards p q k e ks c = moved_back p q k (next_move p.place p.open_frames k) refl e ks c
+backwards p q k e ks c = moved_back p q k (spot_move p k) refl e ks c

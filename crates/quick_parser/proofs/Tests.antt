@@ -1,13 +1,13 @@
 -- The names that a state keeps are the tested names, in the order of their first tests.
-use Rattle.std.proofs.Common.{◌≡◌, ℕ, ◌+◌, ◌≤◌, Bool, true, false, not, ◌&&◌, ◌||◌, List, [], ◌∷◌, ◌++◌, length, Option, Some, None, refl, ap, ◌∙◌, sym, subst, arith, append_assoc, append-nil, length-append}
-use Rattle.std.proofs.lemmas.Bool.{leb-true, le-leb}
+use Rattle.std.proofs.Common.{◌≡◌, ℕ, ◌+◌, ◌≤◌, ◌<◌, Bool, true, false, not, ◌&&◌, ◌||◌, List, [], ◌∷◌, ◌++◌, length, Option, Some, None, refl, ap, ◌∙◌, sym, subst, arith, append_assoc, append-nil, length-append}
+use Rattle.std.proofs.lemmas.Bool.{ltb-true, lt-ltb}
 use Rattle.std.proofs.lemmas.List.Folds.{list_any-append}
 use Rattle.std.proofs.lemmas.Slice.Eq.{bytes_eq-Decides}
-use Rattle.std.specs.Prelude.{option_and_then, if◌then◌else◌, filter, nat_le}
+use Rattle.std.specs.Prelude.{option_and_then, if◌then◌else◌, filter, nat_lt}
 use Rattle.std.specs.List.{list_any}
 use Rattle.std.specs.Str.{bytes_eq}
 use Rattle.quick_form.specs.Symbols.{Symbol, Ifdef, tested_names}
-use Rattle.quick_parser.specs.Steps.{with_test, noted}
+use Rattle.quick_parser.specs.Steps.{with_test, has_room, noted}
 
 -- the names tested by symbols, noted behind those of ns
 abbrev pub tests_of : List (List ℕ) → List Symbol → List (List ℕ)
@@ -92,13 +92,27 @@ note_told :
 note_told true x ms F e = (refl, e)
 note_told false x ms F e = absurd cc
 
+-- the room for a test
+room_told :
+    (ns : List (List ℕ)) (n : List ℕ) (b : Bool) → (b || nat_lt (length ns) 128) ≡ true → length ns ≤ 128
+    → length (if b then ns else ns ++ n ∷ []) ≤ 128
+room_told ns n true e h = h
+room_told ns n false e h =
+    let few : length ns < 128 = ltb-true (length ns) 128 e in omega (arith, length-append ns (n ∷ []))
+
+room_left :
+    (ns : List (List ℕ)) (n : List ℕ) (b : Bool) → length (if b then ns else ns ++ n ∷ []) ≤ 128
+    → (b || nat_lt (length ns) 128) ≡ true
+room_left ns n true h = refl
+room_left ns n false h = lt-ltb (length ns) 128 (omega (arith, length-append ns (n ∷ [])))
+
 pub notes_told :
     (ks : List Symbol) (ns ms : List (List ℕ)) → notes ns ks ≡ Some ms → length ns ≤ 128
     → (ms ≡ tests_of ns ks) × (length ms ≤ 128)
 notes_told [] ns ms e h = let same : ms ≡ ns = cc in (same, rw same h)
 notes_told (Ifdef n ∷ ks) ns ms e h =
-    let t = note_told (nat_le (length (with_test ns n)) 128) (with_test ns n) ms (λ l. notes l ks) e in
-    notes_told ks (with_test ns n) ms t.1 (leb-true (length (with_test ns n)) 128 t.0)
+    let t = note_told (has_room ns n) (with_test ns n) ms (λ l. notes l ks) e in
+    notes_told ks (with_test ns n) ms t.1 (room_told ns n (list_any (bytes_eq n) ns) t.0 h)
 notes_told (_ ∷ ks) ns ms e h = notes_told ks ns ms e h
 
 pub notes_fit :
@@ -106,5 +120,6 @@ pub notes_fit :
 notes_fit [] ns h = refl
 notes_fit (Ifdef n ∷ ks) ns h =
     let g : length (with_test ns n) ≤ length (tests_of (with_test ns n) ks) = grows ks (with_test ns n) in
-    rw (le-leb (length (with_test ns n)) 128 (omega arith)) (notes_fit ks (with_test ns n) h)
+    let few : length (with_test ns n) ≤ 128 = omega arith in
+    rw (room_left ns n (list_any (bytes_eq n) ns) few) (notes_fit ks (with_test ns n) h)
 notes_fit (_ ∷ ks) ns h = notes_fit ks ns h

@@ -35,33 +35,32 @@ inside (suc n) m = m
 abbrev pub wanted : ℕ → ℕ → Option Move → Option Move
 wanted mark b m = if b == mark then m else None
 
--- `}` ends a block, `#endif` a group, `#else` the first branch of a group
-abbrev pub brace_move : List Frame → Option Move
-brace_move (Block ∷ fs) = Some Leave
-brace_move fs = None
+-- `}` ends a block, `#endif` a group, `#else` the first branch of a group; each by the innermost frame
+abbrev pub brace_move : Option Frame → Option Move
+brace_move (Some Block) = Some Leave
+brace_move f = None
 
-abbrev pub endif_move : List Frame → Option Move
-endif_move (Group ∷ fs) = Some Leave
-endif_move (Alternative ∷ fs) = Some Leave
-endif_move fs = None
+abbrev pub endif_move : Option Frame → Option Move
+endif_move (Some Group) = Some Leave
+endif_move (Some Alternative) = Some Leave
+endif_move f = None
 
-abbrev pub else_move : List Frame → Option Move
-else_move (Group ∷ fs) = Some Turn
-else_move fs = None
+abbrev pub else_move : Option Frame → Option Move
+else_move (Some Group) = Some Turn
+else_move f = None
 
--- A symbol where an entry may begin or the list may end. With 64 blocks open no loop can stand.
-abbrev pub entry_move : List Frame → Symbol → Option Move
-entry_move fs Int = outside (block_count fs) (Some (To Declarator))
-entry_move fs (Name x) = inside (block_count fs) (Some (To Assignment))
-entry_move fs Putchar = inside (block_count fs) (Some (To (Opening Output)))
-entry_move fs Return = inside (block_count fs) (Some (To (Operand Statement)))
-entry_move fs While =
-    inside (block_count fs) (if nat_lt (block_count fs) 64 then Some (To (Opening Condition)) else None)
-entry_move fs (Mark b) = wanted 125 b (brace_move fs)
-entry_move fs (Ifdef n) = Some (Enter Group)
-entry_move fs Else = else_move fs
-entry_move fs Endif = endif_move fs
-entry_move fs k = None
+-- A symbol where an entry may begin or the list may end, inside n blocks. In 64 blocks no loop can stand.
+abbrev pub entry_move : Option Frame → ℕ → Symbol → Option Move
+entry_move f n Int = outside n (Some (To Declarator))
+entry_move f n (Name x) = inside n (Some (To Assignment))
+entry_move f n Putchar = inside n (Some (To (Opening Output)))
+entry_move f n Return = inside n (Some (To (Operand Statement)))
+entry_move f n While = inside n (if nat_lt n 64 then Some (To (Opening Condition)) else None)
+entry_move f n (Mark b) = wanted 125 b (brace_move f)
+entry_move f n (Ifdef x) = Some (Enter Group)
+entry_move f n Else = else_move f
+entry_move f n Endif = endif_move f
+entry_move f n k = None
 
 abbrev pub declarator_move : Symbol → Option Move
 declarator_move (Name x) = Some (To Declared)
@@ -109,20 +108,25 @@ operator_move e (Mark b) =
     else wanted (end_mark e) b (Some (end_move e))
 operator_move e k = None
 
-abbrev pub next_move : Place → List Frame → Symbol → Option Move
-next_move Entry fs k = entry_move fs k
-next_move Declarator fs k = declarator_move k
-next_move Declared fs k = declared_move k
-next_move Initializer fs k = initializer_move k
-next_move Semicolon fs k = mark_move 59 (To Entry) k
-next_move MainOpening fs k = mark_move 40 (To MainVoid) k
-next_move MainVoid fs k = void_move k
-next_move MainClosing fs k = mark_move 41 (To Body) k
-next_move Body fs k = mark_move 123 (Enter Block) k
-next_move Assignment fs k = mark_move 61 (To (Operand Statement)) k
-next_move (Opening e) fs k = mark_move 40 (To (Operand e)) k
-next_move (Operand e) fs k = operand_move e k
-next_move (Operator e) fs k = operator_move e k
+-- what a symbol does, by the place, the innermost frame and the number of blocks
+abbrev pub next_move : Place → Option Frame → ℕ → Symbol → Option Move
+next_move Entry f n k = entry_move f n k
+next_move Declarator f n k = declarator_move k
+next_move Declared f n k = declared_move k
+next_move Initializer f n k = initializer_move k
+next_move Semicolon f n k = mark_move 59 (To Entry) k
+next_move MainOpening f n k = mark_move 40 (To MainVoid) k
+next_move MainVoid f n k = void_move k
+next_move MainClosing f n k = mark_move 41 (To Body) k
+next_move Body f n k = mark_move 123 (Enter Block) k
+next_move Assignment f n k = mark_move 61 (To (Operand Statement)) k
+next_move (Opening e) f n k = mark_move 40 (To (Operand e)) k
+next_move (Operand e) f n k = operand_move e k
+next_move (Operator e) f n k = operator_move e k
+
+abbrev pub innermost : List Frame → Option Frame
+innermost [] = None
+innermost (f ∷ fs) = Some f
 
 -- the frames without the innermost; with its other branch in its place
 abbrev pub left_frames : List Frame → List Frame
@@ -138,6 +142,9 @@ moved fs (Enter f) = record { place = Entry; open_frames = f ∷ fs }
 moved fs Turn = record { place = Entry; open_frames = turned_frames fs }
 moved fs Leave = record { place = Entry; open_frames = left_frames fs }
 
--- the spot behind a symbol, if the grammar lets it stand there
+-- the move of a symbol at a spot, and the spot behind it, if the grammar lets it stand there
+abbrev pub spot_move : Spot → Symbol → Option Move
+spot_move p k = next_move p.place (innermost p.open_frames) (block_count p.open_frames) k
+
 abbrev pub advanced : Spot → Symbol → Option Spot
-advanced p k = option_map (moved p.open_frames) (next_move p.place p.open_frames k)
+advanced p k = option_map (moved p.open_frames) (spot_move p k)

@@ -1,5 +1,5 @@
 -- A parser as a machine: its states, and what a symbol does to them.
-use Rattle.std.specs.Prelude.{ℕ, Bool, true, false, nat_le, List, [], ◌∷◌, ◌++◌, length, Option, Some, None, if◌then◌else◌, option_map, option_and_then}
+use Rattle.std.specs.Prelude.{ℕ, Bool, true, false, nat_lt, ◌||◌, List, [], ◌∷◌, ◌++◌, length, Option, Some, None, if◌then◌else◌, option_map, option_and_then}
 use Rattle.std.specs.List.{list_any}
 use Rattle.std.specs.Str.{bytes_eq}
 use Rattle.quick_form.specs.Symbols.{Symbol, Ifdef}
@@ -20,9 +20,13 @@ start = record { spot = record { place = Entry; open_frames = [] }; tested_names
 abbrev pub with_test : List (List ℕ) → List ℕ → List (List ℕ)
 with_test ns n = if list_any (bytes_eq n) ns then ns else ns ++ n ∷ []
 
--- the names tested behind a symbol, if these are 128 at most
+-- 128 names are tested at most
+abbrev pub has_room : List (List ℕ) → List ℕ → Bool
+has_room ns n = list_any (bytes_eq n) ns || nat_lt (length ns) 128
+
+-- the names tested behind a symbol
 abbrev pub noted : List (List ℕ) → Symbol → Option (List (List ℕ))
-noted ns (Ifdef n) = if nat_le (length (with_test ns n)) 128 then Some (with_test ns n) else None
+noted ns (Ifdef n) = if has_room ns n then Some (with_test ns n) else None
 noted ns k = Some ns
 
 -- the state behind a symbol, if it can stand there

@@ -1,8 +1,15 @@
 //! The reader of the quick form's symbols: a stack machine that takes a symbol at a time and never recurses on its input.
 #![tactic(auto)]
 
+mod laws;
+mod moves;
 mod spots;
 mod symbols;
 
+pub use laws::{
+    complete_is_written, declared_behind_int, refusals_end, refused_is_unwritten, states_begin,
+    states_complete, tests_are_kept,
+};
+pub use moves::next_move;
 pub use spots::{Frame, Move, Place, SumEnd};
 pub use symbols::Symbol;
