@@ -5,3 +5,4 @@ pub mod Sound
 pub mod Tests
 pub mod Declared
 pub mod Machine
+pub mod NameLemmas

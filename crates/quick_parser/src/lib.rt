@@ -1,10 +1,12 @@
 //! The reader of the quick form's symbols: a stack machine that takes a symbol at a time and never recurses on its input.
 #![tactic(auto)]
 
+mod frames;
 mod laws;
 mod moves;
 mod spots;
 mod symbols;
+mod tested;
 
 pub use laws::{
     complete_is_written, declared_behind_int, refusals_end, refused_is_unwritten, states_begin,
