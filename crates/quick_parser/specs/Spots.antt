@@ -128,13 +128,14 @@ abbrev pub innermost : List Frame → Option Frame
 innermost [] = None
 innermost (f ∷ fs) = Some f
 
--- the frames without the innermost; with its other branch in its place
+-- the frames without the innermost; in the other branch of a group
 abbrev pub left_frames : List Frame → List Frame
 left_frames [] = []
 left_frames (f ∷ fs) = fs
 
 abbrev pub turned_frames : List Frame → List Frame
-turned_frames fs = Alternative ∷ left_frames fs
+turned_frames (Group ∷ fs) = Alternative ∷ fs
+turned_frames fs = fs
 
 abbrev pub moved : List Frame → Move → Spot
 moved fs (To p) = record { place = p; open_frames = fs }

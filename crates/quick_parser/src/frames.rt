@@ -69,4 +69,14 @@ impl OpenFrames {
             self.blocks -= 1;
         }
     }
+
+    /// Begins the other branch of a group, if that is the innermost frame.
+    pub fn turn(&mut self)
+        ensures { self.new ≡ turned_frames self.old }
+    {
+        if let Some(Frame::Group) = self.innermost() {
+            let last = self.frames.len() - 1;
+            self.frames[last] = Frame::Alternative;
+        }
+    }
 }

@@ -4,6 +4,7 @@
 mod frames;
 mod laws;
 mod moves;
+mod parser;
 mod spots;
 mod symbols;
 mod tested;
@@ -12,6 +13,6 @@ pub use laws::{
     complete_is_written, declared_behind_int, refusals_end, refused_is_unwritten, states_begin,
     states_complete, tests_are_kept,
 };
-pub use moves::next_move;
+pub use parser::{NoMemory, Parser};
 pub use spots::{Frame, Move, Place, SumEnd};
 pub use symbols::Symbol;

@@ -1,0 +1,99 @@
+//! The parser: one symbol at a time.
+ghost use Rattle.std.specs.Prelude.{◌≡◌, Bool, List, ℕ, Option, Some, None, OnOk, OnErr, IfOk, is_some, unwrap_or, map, option_copied};
+ghost use Rattle.std.specs.List.{list_any};
+ghost use Rattle.std.specs.Str.{bytes_eq};
+ghost use Rattle.quick_form.specs.Symbols.{Ifdef};
+ghost use Rattle.quick_parser.specs.Spots.{moved, advanced, spot_move};
+ghost use Rattle.quick_parser.specs.Steps.{start, has_room, with_test, noted, step, is_complete};
+ghost use Rattle.quick_parser.specs.Tokens.{symbol_of};
+
+use std::alloc::{AllocError, Global};
+use std::marker::Model;
+
+use crate::frames::OpenFrames;
+use crate::moves::next_move;
+use crate::spots::{Frame, Move, Place};
+use crate::symbols::Symbol;
+use crate::tested::TestedNames;
+
+/// Want of memory.
+pub type NoMemory = AllocError;
+
+/// A reader of a file's symbols, seen as its state: where it stands, and the names tested so far. What it has taken is
+/// always the beginning of some file of the quick form.
+#[derive(Drop)]
+pub struct Parser {
+    place: Place,
+    open: OpenFrames,
+    tested: TestedNames,
+}
+
+impl Model for Parser {
+    ghost use Rattle.quick_parser.specs.Steps.{State};
+
+    ghost Value = { State };
+
+    ghost view = { λ p. record { spot = record { place = p.place; open_frames = p.open }; tested_names = p.tested } };
+}
+
+impl Parser {
+    /// A parser before the first symbol.
+    pub fn new(alloc: Global) -> Self
+        ensures { result ≡ start }
+    {
+        Self {
+            place: Place::Entry,
+            open: OpenFrames::new(alloc),
+            tested: TestedNames::new(alloc),
+        }
+    }
+
+    /// What the grammar lets the symbol do.
+    fn next_move(&self, symbol: &Symbol) -> Option<Move>
+        ensures { result ≡ spot_move self.now.spot (symbol_of symbol.now) }
+    {
+        next_move(self.place, self.open.innermost(), self.open.block_count(), symbol)
+    }
+
+    /// Whether the limit on tested names lets the symbol stand.
+    fn has_room(&self, symbol: &Symbol) -> bool
+        ensures { result ≡ is_some (noted self.now.tested_names (symbol_of symbol.now)) }
+    {
+        match symbol {
+            Symbol::Ifdef(name) => self.tested.has_room(name),
+            _ => true,
+        }
+    }
+
+    /// Whether some file of the form goes on with this symbol.
+    pub fn accepts(&self, symbol: &Symbol) -> bool
+        ensures { result ≡ is_some (step self.now (symbol_of symbol.now)) }
+    {
+        self.has_room(symbol) && self.next_move(symbol).is_some()
+    }
+
+    /// Moves on, where no name is tested.
+    fn make(&mut self, next: Move) -> Result<(), NoMemory>
+        ensures ok { OnOk result (self.new ≡ record self.old { spot = moved self.old.spot.open_frames next }) }
+        ensures err { OnErr result (self.new ≡ self.old) }
+    {
+        match next {
+            Move::To(place) => {
+                self.place = place;
+            }
+            Move::Enter(frame) => {
+                self.open.push(frame)?;
+                self.place = Place::Entry;
+            }
+            Move::Turn => {
+                self.open.turn();
+                self.place = Place::Entry;
+            }
+            Move::Leave => {
+                self.open.pop();
+                self.place = Place::Entry;
+            }
+        }
+        Ok(())
+    }
+}
