@@ -1,10 +1,11 @@
 //! The parser: one symbol at a time.
-ghost use Rattle.std.specs.Prelude.{◌≡◌, Bool, List, ℕ, Option, Some, None, OnOk, OnErr, IfOk, is_some, unwrap_or, map, option_copied};
+ghost use Rattle.std.specs.Prelude.{◌≡◌, OnOk, OnErr, IfOk, is_some, unwrap_or, map};
 ghost use Rattle.std.specs.List.{list_any};
 ghost use Rattle.std.specs.Str.{bytes_eq};
-ghost use Rattle.quick_form.specs.Symbols.{Ifdef};
-ghost use Rattle.quick_parser.specs.Spots.{moved, advanced, spot_move};
-ghost use Rattle.quick_parser.specs.Steps.{start, has_room, with_test, noted, step, is_complete};
+ghost use Rattle.quick_parser.specs.declared.spots.Move.TheVariants.{Enter};
+ghost use Rattle.quick_parser.specs.declared.spots.Frame.TheVariants.{Group};
+ghost use Rattle.quick_parser.specs.Spots.{moved, spot_move};
+ghost use Rattle.quick_parser.specs.Steps.{start, with_test, noted, step, is_complete};
 ghost use Rattle.quick_parser.specs.Tokens.{symbol_of};
 
 use std::alloc::{AllocError, Global};
@@ -95,5 +96,62 @@ impl Parser {
             }
         }
         Ok(())
+    }
+
+    /// Opens a group that tests the name.
+    fn open_group(&mut self, name: &[u8]) -> Result<(), NoMemory>
+        ensures spot { OnOk result (self.new.spot ≡ moved self.old.spot.open_frames (Enter Group)) }
+        ensures names { OnOk result (self.new.tested_names ≡ with_test self.old.tested_names name.now) }
+        ensures err { OnErr result (self.new ≡ self.old) }
+    {
+        self.open.push(Frame::Group)?;
+        if let Err(error) = self.tested.note(name) {
+            self.open.pop();
+            return Err(error);
+        }
+        self.place = Place::Entry;
+        Ok(())
+    }
+
+    /// Goes on with the symbol, and answers whether it is accepted. The parser stays as it was after a symbol that isn't, and
+    /// after want of memory.
+    pub fn take(&mut self, symbol: &Symbol) -> Result<bool, NoMemory>
+        ensures answer { IfOk result (λ taken. taken ≡ is_some (step self.old (symbol_of symbol.now))) }
+        ensures state { OnOk result (self.new ≡ unwrap_or (step self.old (symbol_of symbol.now)) self.old) }
+        ensures err { OnErr result (self.new ≡ self.old) }
+    {
+        if !self.has_room(symbol) {
+            return Ok(false);
+        }
+        let Some(next) = self.next_move(symbol) else {
+            return Ok(false);
+        };
+        if let Symbol::Ifdef(name) = symbol {
+            self.open_group(name)?;
+        } else {
+            self.make(next)?;
+        }
+        Ok(true)
+    }
+
+    /// Whether the symbols so far are all of a file.
+    pub fn is_complete(&self) -> bool
+        ensures { result ≡ is_complete self.now }
+    {
+        self.place == Place::Entry && self.open.innermost().is_none()
+    }
+
+    /// The tested names, each once, in the order of their first tests.
+    pub fn tested(&self) -> &[Vec<u8>]
+        ensures { map (λ v. v.items) result.now ≡ self.now.tested_names }
+    {
+        self.tested.names()
+    }
+
+    /// Whether a name was tested. The look-up is by a hash.
+    pub fn has_tested(&self, name: &[u8]) -> bool
+        ensures { result ≡ list_any (bytes_eq name.now) self.now.tested_names }
+    {
+        self.tested.contains(name)
     }
 }
