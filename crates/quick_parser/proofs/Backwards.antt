@@ -1,8 +1,8 @@
 -- The step backwards: what ends a file behind a symbol ends it, with the symbol, before.
-use Rattle.std.proofs.Common.{eqb-true, ◌≡◌, ℕ, zero, suc, ◌+◌, ◌-◌, ◌≤◌, ◌<◌, ◌⊎◌, inl, inr, max, Bool, true, false, List, [], ◌∷◌, ◌++◌, Option, Some, None, refl, ap, ◌∙◌, sym, subst, arith}
-use Rattle.std.specs.Prelude.{option_map, option_and_then, if◌then◌else◌, ◌==◌, nat_lt}
+use Rattle.std.proofs.Common.{eqb-true, ◌≡◌, ℕ, zero, suc, ◌-◌, ◌≤◌, ◌<◌, inl, inr, Bool, true, false, List, [], ◌∷◌, Option, Some, None, refl, ap, sym, subst, arith}
+use Rattle.std.specs.Prelude.{option_map, if◌then◌else◌, ◌==◌, nat_lt}
 use Rattle.std.proofs.lemmas.Bool.{ltb-true}
-use Rattle.quick_form.specs.Symbols.{Symbol, Int, Void, While, Return, Putchar, Main, Name, Number, Mark, Ifdef, Else, Endif, Malformed}
+use Rattle.quick_form.specs.Symbols.{Symbol, Int, Void, While, Return, Putchar, Main, Name, Number, Mark, Ifdef, Else, Endif}
 use Rattle.quick_form.specs.Form as form
 use Rattle.quick_form.specs.Form.{Named, Literal, Term, Sum, Statements, no_more, assignment, output, return_of, loop, group, choice, Items, no_item, variable, initialised, main_with, item_group, item_choice, operand_symbol, write_terms, write_sum, write_statements, write_items, statement_blocks, item_blocks}
 use Rattle.quick_parser.specs.declared.spots.SumEnd.{SumEnd}
@@ -14,7 +14,7 @@ use Rattle.quick_parser.specs.declared.spots.Frame.TheVariants.{Block, Group, Al
 use Rattle.quick_parser.specs.declared.spots.Move.{Move}
 use Rattle.quick_parser.specs.declared.spots.Move.TheVariants.{To, Enter, Turn, Leave}
 use Rattle.quick_parser.specs.Spots.{Spot, block_count, inside, outside, wanted, brace_move, endif_move, else_move, entry_move, declarator_move, initializer_move, void_move, operand_move, mark_move, declared_move, end_mark, end_move, operator_move, next_move, innermost, spot_move, moved, advanced}
-use Rattle.quick_parser.proofs.Language.{Language, Follows, ItemsThen, StatementsThen, ListThen, BranchEnds, BodyThen, ClosingThen, VoidThen, MainThen, NameThen, ValueThen, DeclaredThen, TermsThen, SumThen, SumEnds, Ends, Closes, EndsAt}
+use Rattle.quick_parser.proofs.Language.{Language, Follows, ItemsThen, StatementsThen, ListThen, BranchEnds, DeclaredThen, TermsThen, SumThen, SumEnds, Ends, Closes, EndsAt}
 
 -- what a chosen move tells
 if_some : (t : Bool) (x : Option Move) (m : Move) → (if t then x else None) ≡ Some m → (t ≡ true) × (x ≡ Some m)
@@ -91,7 +91,7 @@ while_back (suc n) L m e ks c =
       rest = t.rest;
       is = cc;
       fits = let h : statement_blocks body.statements ≤ 64 - suc (suc n) = body.fits in let g : statement_blocks t.statements ≤ 64 - suc n = t.fits in omega arith;
-      more = t.more
+      more = t.more;
     }
 
 variable_back :
@@ -112,7 +112,7 @@ int_ends L ks (inr c) =
       rest = t.rest;
       is = cc;
       fits = let h : statement_blocks body.statements ≤ 64 - 1 = body.fits in let g : item_blocks t.items ≤ 64 = t.fits in omega arith;
-      more = t.more
+      more = t.more;
     }
 
 int_back :
@@ -150,7 +150,7 @@ group_back_inside b L n ks body rest e h (inr c) =
       rest = t.rest;
       is = cc;
       fits = omega arith;
-      more = t.more
+      more = t.more;
     }
 
 group_back :
@@ -265,7 +265,7 @@ operand_then o L ks c =
       sum_read = record { first = o; more = c.terms };
       rest = c.rest;
       is = ap (λ x. operand_symbol o ∷ x) c.is;
-      more = c.more
+      more = c.more;
     }
 
 operand_back :
@@ -284,7 +284,7 @@ term_then t b L ks e c =
       terms = record { subtracted = t; operand = c.sum_read.first } ∷ c.sum_read.more;
       rest = c.rest;
       is = rw (e, c.is) refl;
-      more = c.more
+      more = c.more;
     }
 
 -- the end of a sum, with no further term
@@ -302,7 +302,7 @@ end_back Condition fs b m e ks c = mark_back 41 (To Body) fs (Mark b) m e ks c
 operator_mark_back :
     (s : SumEnd) (fs : List Frame) (plus minus : Bool) (b : ℕ) (m : Move) → (b == 43) ≡ plus → (b == 45) ≡ minus
     → (if plus then Some (To (Operand s)) else if minus then Some (To (Operand s))
-        else wanted (end_mark s) b (Some (end_move s))) ≡ Some m
+    else wanted (end_mark s) b (Some (end_move s))) ≡ Some m
     → (ks : List Symbol) → EndsAt (moved fs m) ks → Ends (Operator s) (block_count fs) (Closes fs) (Mark b ∷ ks)
 operator_mark_back s fs true minus b m p q e ks c =
     term_then false b _ ks (eqb-true b 43 p) (arrives fs ks (To (Operand s)) m e c)

@@ -1,8 +1,8 @@
 -- What items write is read to its end, and the parser stands again where it stood.
-use Rattle.std.proofs.Common.{◌≡◌, ℕ, zero, suc, ◌+◌, ◌-◌, ◌≤◌, max, Bool, true, false, List, [], ◌∷◌, ◌++◌, Option, Some, None, refl, ap, ◌∙◌, sym, subst, arith}
-use Rattle.std.specs.Prelude.{option_map, option_and_then, if◌then◌else◌}
+use Rattle.std.proofs.Common.{◌≡◌, ℕ, zero, suc, ◌-◌, ◌≤◌, Bool, true, false, List, [], ◌∷◌, Option, Some, refl, ap, ◌∙◌, arith}
+use Rattle.std.specs.Prelude.{option_and_then, if◌then◌else◌}
 use Rattle.std.proofs.lemmas.Bool.{lt-ltb}
-use Rattle.quick_form.specs.Symbols.{Symbol, Int, Void, While, Return, Putchar, Main, Name, Number, Mark, Ifdef, Else, Endif}
+use Rattle.quick_form.specs.Symbols.{Symbol, Mark, Else, Endif}
 use Rattle.quick_form.specs.Form as form
 use Rattle.quick_form.specs.Form.{Named, Literal, Term, Sum, Statements, no_more, assignment, output, return_of, loop, group, choice, Items, no_item, variable, initialised, main_with, item_group, item_choice, operand_symbol, write_terms, write_sum, write_statements, write_items, statement_blocks, item_blocks}
 use Rattle.quick_parser.specs.declared.spots.SumEnd.{SumEnd}
@@ -25,7 +25,7 @@ spot p fs = record { place = p; open_frames = fs }
 term_passes :
     (e : SumEnd) (fs : List Frame) (b : Bool) (o : form.Operand) (ks : List Symbol)
     → advances (spot (Operator e) fs) (Mark (if b then 45 else 43) ∷ operand_symbol o ∷ ks)
-        ≡ advances (spot (Operator e) fs) ks
+    ≡ advances (spot (Operator e) fs) ks
 term_passes e fs true (Named x) ks = refl
 term_passes e fs true (Literal d) ks = refl
 term_passes e fs false (Named x) ks = refl
@@ -60,9 +60,9 @@ statements_pass (return_of s rest) fs b e h k =
     rw e (sum_passes Statement fs s (Mark 59 ∷ write_statements rest k) ∙ statements_pass rest fs b e h k)
 statements_pass (loop s body rest) fs b e h k =
     rw (e, lt-ltb (suc b) 64 (omega arith))
-        (sum_passes Condition fs s (Mark 41 ∷ Mark 123 ∷ write_statements body (Mark 125 ∷ write_statements rest k))
-        ∙ statements_pass body (Block ∷ fs) (suc b) (ap (λ n. suc n) e) (omega arith) (Mark 125 ∷ write_statements rest k)
-        ∙ statements_pass rest fs b e (omega arith) k)
+    (sum_passes Condition fs s (Mark 41 ∷ Mark 123 ∷ write_statements body (Mark 125 ∷ write_statements rest k))
+    ∙ statements_pass body (Block ∷ fs) (suc b) (ap (λ n. suc n) e) (omega arith) (Mark 125 ∷ write_statements rest k)
+    ∙ statements_pass rest fs b e (omega arith) k)
 statements_pass (group n body rest) fs b e h k =
     statements_pass body (Group ∷ fs) b e (omega arith) (Endif ∷ write_statements rest k)
     ∙ statements_pass rest fs b e (omega arith) k
@@ -79,8 +79,8 @@ items_pass (variable x rest) fs e h k = rw e (items_pass rest fs e h k)
 items_pass (initialised x d rest) fs e h k = rw e (items_pass rest fs e h k)
 items_pass (main_with body rest) fs e h k =
     rw e
-        (statements_pass body (Block ∷ fs) zero (ap (λ n. suc n) e) (omega arith) (Mark 125 ∷ write_items rest k)
-        ∙ items_pass rest fs e (omega arith) k)
+    (statements_pass body (Block ∷ fs) zero (ap (λ n. suc n) e) (omega arith) (Mark 125 ∷ write_items rest k)
+    ∙ items_pass rest fs e (omega arith) k)
 items_pass (item_group n body rest) fs e h k =
     items_pass body (Group ∷ fs) e (omega arith) (Endif ∷ write_items rest k) ∙ items_pass rest fs e (omega arith) k
 items_pass (item_choice n body other rest) fs e h k =

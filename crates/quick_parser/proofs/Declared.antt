@@ -1,12 +1,12 @@
 -- The declared names of items are those that stand behind an `int`.
-use Rattle.std.proofs.Common.{◌≡◌, ℕ, Bool, true, false, ◌||◌, List, [], ◌∷◌, ◌++◌, refl, ap, ◌∙◌, sym, arith}
+use Rattle.std.proofs.Common.{◌≡◌, ℕ, Bool, true, false, ◌||◌, List, [], ◌∷◌, ◌++◌, refl, ap, ◌∙◌, sym}
 use Rattle.std.proofs.lemmas.List.Folds.{list_any-append}
 use Rattle.std.specs.List.{list_any}
 use Rattle.std.specs.Str.{bytes_eq}
-use Rattle.quick_form.specs.Symbols.{Symbol, Int, Void, While, Return, Putchar, Main, Name, Number, Mark, Ifdef, Else, Endif}
+use Rattle.quick_form.specs.Symbols.{Symbol, Mark, Else, Endif}
 use Rattle.quick_form.specs.Form as form
 use Rattle.quick_form.specs.Form.{Named, Literal, Term, Sum, Statements, no_more, assignment, output, return_of, loop, group, choice, Items, no_item, variable, initialised, main_with, item_group, item_choice, operand_symbol, write_terms, write_sum, write_statements, write_items, declared_names}
-use Rattle.quick_parser.specs.Laws.{declares, begins_with_name, DeclaredBehindInt}
+use Rattle.quick_parser.specs.Laws.{declares, DeclaredBehindInt}
 
 operand_declares :
     (n : List ℕ) (o : form.Operand) (k : List Symbol) → declares n (operand_symbol o ∷ k) ≡ declares n k
@@ -67,10 +67,10 @@ items_declare n (item_group x body rest) k =
 items_declare n (item_choice x body other rest) k =
     items_declare n body (Else ∷ write_items other (Endif ∷ write_items rest k))
     ∙ ap (λ b. list_any (bytes_eq n) (declared_names body) || b)
-        (items_declare n other (Endif ∷ write_items rest k)
-        ∙ ap (λ b. list_any (bytes_eq n) (declared_names other) || b) (items_declare n rest k))
+    (items_declare n other (Endif ∷ write_items rest k)
+    ∙ ap (λ b. list_any (bytes_eq n) (declared_names other) || b) (items_declare n rest k))
     ∙ rw (list_any-append (bytes_eq n) (declared_names body) (declared_names other ++ declared_names rest), list_any-append (bytes_eq n) (declared_names other) (declared_names rest))
-        (rw (or_assoc, or_assoc) refl)
+    (rw (or_assoc, or_assoc) refl)
 
 pub declared_behind_int : DeclaredBehindInt
 declared_behind_int n items = items_declare n items [] ∙ or_false (list_any (bytes_eq n) (declared_names items))

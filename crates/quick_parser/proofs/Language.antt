@@ -1,17 +1,14 @@
 -- The language of a spot: the symbols that end a file there, and the step backwards over a symbol.
-use Rattle.std.proofs.Common.{◌≡◌, ℕ, zero, suc, ◌+◌, ◌-◌, ◌≤◌, ◌<◌, ◌⊎◌, inl, inr, max, Bool, true, false, List, [], ◌∷◌, ◌++◌, Option, Some, None, refl, ap, ◌∙◌, sym, subst, arith}
-use Rattle.std.specs.Prelude.{option_map, option_and_then, if◌then◌else◌, ◌==◌, nat_lt}
-use Rattle.quick_form.specs.Symbols.{Symbol, Int, Void, While, Return, Putchar, Main, Name, Number, Mark, Ifdef, Else, Endif, Malformed}
-use Rattle.quick_form.specs.Form as form
-use Rattle.quick_form.specs.Form.{Named, Literal, Term, Sum, Statements, no_more, assignment, output, return_of, loop, group, choice, Items, no_item, variable, initialised, main_with, item_group, item_choice, operand_symbol, write_terms, write_sum, write_statements, write_items, statement_blocks, item_blocks}
+use Rattle.std.proofs.Common.{◌≡◌, ℕ, zero, suc, ◌-◌, ◌≤◌, ◌⊎◌, List, [], ◌∷◌}
+use Rattle.quick_form.specs.Symbols.{Symbol, Void, Main, Name, Number, Mark, Else, Endif}
+use Rattle.quick_form.specs.Form.{Term, Sum, Statements, Items, write_terms, write_sum, write_statements, write_items, statement_blocks, item_blocks}
 use Rattle.quick_parser.specs.declared.spots.SumEnd.{SumEnd}
 use Rattle.quick_parser.specs.declared.spots.SumEnd.TheVariants.{Statement, Output, Condition}
 use Rattle.quick_parser.specs.declared.spots.Place.{Place}
 use Rattle.quick_parser.specs.declared.spots.Place.TheVariants.{Entry, Declarator, Declared, Initializer, Semicolon, MainOpening, MainVoid, MainClosing, Body, Assignment, Opening, Operand, Operator}
 use Rattle.quick_parser.specs.declared.spots.Frame.{Frame}
 use Rattle.quick_parser.specs.declared.spots.Frame.TheVariants.{Block, Group, Alternative}
-use Rattle.quick_parser.specs.Spots.{Spot, block_count, advanced, next_move}
-use Rattle.quick_parser.proofs.Complete.{spot}
+use Rattle.quick_parser.specs.Spots.{Spot, block_count}
 
 abbrev pub Language : Type 1
 Language = List Symbol → Type 0

@@ -2,7 +2,8 @@ pub mod Complete
 pub mod Language
 pub mod Backwards
 pub mod Sound
-pub mod Tests
+pub mod TestNotes
 pub mod Declared
 pub mod Machine
 pub mod NameLemmas
+pub mod FrameLemmas

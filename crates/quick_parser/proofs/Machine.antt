@@ -1,22 +1,22 @@
 -- The laws of the machine.
-use Rattle.std.proofs.Common.{◌≡◌, ◌↔◌, ℕ, ◌+◌, ◌-◌, ◌≤◌, Bool, true, false, List, [], ◌∷◌, ◌++◌, length, Option, Some, None, refl, ap, ◌∙◌, sym, subst, arith, append-nil}
+use Rattle.std.proofs.Common.{◌≡◌, ℕ, ◌≤◌, true, List, [], ◌∷◌, ◌++◌, length, Option, Some, None, refl, ap, ◌∙◌, sym, subst, arith, append-nil}
 use Rattle.std.specs.Prelude.{option_map, option_and_then}
 use Rattle.quick_form.specs.Symbols.{Symbol, Ifdef, tested_names}
-use Rattle.quick_form.specs.Form.{Items, write_items, item_blocks, IsWritten, IsBeginning}
+use Rattle.quick_form.specs.Form.{IsWritten}
 use Rattle.quick_parser.specs.declared.spots.SumEnd.{SumEnd}
 use Rattle.quick_parser.specs.declared.spots.SumEnd.TheVariants.{Statement, Output, Condition}
 use Rattle.quick_parser.specs.declared.spots.Place.{Place}
-use Rattle.quick_parser.specs.declared.spots.Place.TheVariants.{Entry, Declarator, Declared, Initializer, Semicolon, MainOpening, MainVoid, MainClosing, Body, Assignment, Opening, Operand, Operator}
+use Rattle.quick_parser.specs.declared.spots.Place.TheVariants.{Entry, Assignment, Opening, Operand, Operator}
 use Rattle.quick_parser.specs.declared.spots.Frame.{Frame}
 use Rattle.quick_parser.specs.declared.spots.Frame.TheVariants.{Block, Group, Alternative}
 use Rattle.quick_parser.specs.Spots.{Spot, advanced}
 use Rattle.quick_parser.specs.Steps.{State, start, noted, step, steps, after, is_end, is_complete}
 use Rattle.quick_parser.specs.Completion.{closing_symbols, sum_ending, entry_ending, completion}
 use Rattle.quick_parser.specs.Laws.{StatesComplete, StatesBegin, RefusalsEnd, CompleteIsWritten, RefusedIsUnwritten, TestsAreKept}
-use Rattle.quick_parser.proofs.Complete.{advances, spot, items_pass}
-use Rattle.quick_parser.proofs.Language.{Closes, EndsAt}
+use Rattle.quick_parser.proofs.Complete.{advances, items_pass}
+use Rattle.quick_parser.proofs.Language.{EndsAt}
 use Rattle.quick_parser.proofs.Sound.{sound, spot_ends}
-use Rattle.quick_parser.proofs.Tests.{tests_of, notes, tests_of-nil, notes_told, notes_fit}
+use Rattle.quick_parser.proofs.TestNotes.{tests_of, notes, tests_of-nil, notes_told, notes_fit}
 
 -- A reading is one of the grammar and one of the tests.
 pub record Parts (s t : State) (ks : List Symbol) : Type 0 where
@@ -34,7 +34,7 @@ first_step :
     (s t : State) (k : Symbol) (ks : List Symbol) (x : Option (List (List ℕ))) (y : Option Spot)
     → noted s.tested_names k ≡ x → advanced s.spot k ≡ y
     → option_and_then (λ u. steps u ks)
-        (option_and_then (λ ns. option_map (λ p. let u : State = record { spot = p; tested_names = ns } in u) y) x) ≡ Some t
+    (option_and_then (λ ns. option_map (λ p. let u : State = record { spot = p; tested_names = ns } in u) y) x) ≡ Some t
     → FirstStep s t k ks
 first_step s t k ks None y f g e = absurd cc
 first_step s t k ks (Some ns) None f g e = absurd cc
@@ -131,10 +131,10 @@ pub states_complete : StatesComplete
 states_complete ks s e =
     let end_of_ks = sound ks start.spot s.spot (parts ks start s e).grammar (completion s) (spot_ends s.spot) in
     let none : tested_names (completion s) ≡ [] =
-        ending_untested s.spot.place (closing_symbols s.spot.open_frames) (closing_untested s.spot.open_frames) in
+    ending_untested s.spot.place (closing_symbols s.spot.open_frames) (closing_untested s.spot.open_frames) in
     let told = kept ks s e in
     let few : length (tested_names (ks ++ completion s)) ≤ 128 =
-        rw (untested_end ks (completion s) none, sym told.0) told.1 in
+    rw (untested_end ks (completion s) none, sym told.0) told.1 in
     start_written (ks ++ completion s) end_of_ks few
 
 pub states_begin : StatesBegin
@@ -147,11 +147,12 @@ nothing_left Entry (_ ∷ fs) e = absurd cc
 nothing_left _ fs e = absurd cc
 
 pub complete_is_written : CompleteIsWritten
-complete_is_written ks s e =
-    (λ h.
-        let w = states_complete ks s e in
-        let all : ks ++ completion s ≡ ks = rw (nothing_left s.spot.place s.spot.open_frames h) (append-nil ks) in
-        subst IsWritten all w,
-    λ w. let r = written_read ks w in
-        let same : s ≡ record { spot = start.spot; tested_names = tested_names ks } = cc in
-        ap is_complete same)
+complete_is_written ks s e = (
+  λ h.
+      let w = states_complete ks s e in
+      let all : ks ++ completion s ≡ ks = rw (nothing_left s.spot.place s.spot.open_frames h) (append-nil ks) in
+      subst IsWritten all w,
+  λ w. let r = written_read ks w in
+      let same : s ≡ record { spot = start.spot; tested_names = tested_names ks } = cc in
+      ap is_complete same,
+)

@@ -1,23 +1,20 @@
 -- A parser reads nothing but beginnings of files: each spot that it comes to has an end.
-use Rattle.std.proofs.Common.{eqb-true, ◌≡◌, ℕ, zero, suc, ◌+◌, ◌-◌, ◌≤◌, ◌<◌, ◌⊎◌, inl, inr, max, Bool, true, false, List, [], ◌∷◌, ◌++◌, Option, Some, None, refl, ap, ◌∙◌, sym, subst, arith}
-use Rattle.std.specs.Prelude.{option_map, option_and_then, if◌then◌else◌, ◌==◌, nat_lt}
-use Rattle.std.proofs.lemmas.Bool.{ltb-true}
-use Rattle.quick_form.specs.Symbols.{Symbol, Int, Void, While, Return, Putchar, Main, Name, Number, Mark, Ifdef, Else, Endif, Malformed}
-use Rattle.quick_form.specs.Form as form
-use Rattle.quick_form.specs.Form.{Named, Literal, Term, Sum, Statements, no_more, assignment, output, return_of, loop, group, choice, Items, no_item, variable, initialised, main_with, item_group, item_choice, operand_symbol, write_terms, write_sum, write_statements, write_items, statement_blocks, item_blocks}
+use Rattle.std.proofs.Common.{◌≡◌, ℕ, suc, inl, List, [], ◌∷◌, ◌++◌, Option, Some, None, refl, subst}
+use Rattle.std.specs.Prelude.{option_and_then}
+use Rattle.quick_form.specs.Symbols.{Symbol, Void, Mark}
+use Rattle.quick_form.specs.Form.{Literal}
 use Rattle.quick_parser.specs.declared.spots.SumEnd.{SumEnd}
 use Rattle.quick_parser.specs.declared.spots.SumEnd.TheVariants.{Statement, Output, Condition}
 use Rattle.quick_parser.specs.declared.spots.Place.{Place}
 use Rattle.quick_parser.specs.declared.spots.Place.TheVariants.{Entry, Declarator, Declared, Initializer, Semicolon, MainOpening, MainVoid, MainClosing, Body, Assignment, Opening, Operand, Operator}
 use Rattle.quick_parser.specs.declared.spots.Frame.{Frame}
 use Rattle.quick_parser.specs.declared.spots.Frame.TheVariants.{Block, Group, Alternative}
-use Rattle.quick_parser.specs.declared.spots.Move.{Move}
-use Rattle.quick_parser.specs.declared.spots.Move.TheVariants.{To, Enter, Turn, Leave}
-use Rattle.quick_parser.specs.Spots.{Spot, block_count, moved, advanced}
+use Rattle.quick_parser.specs.Spots.{Spot, block_count, advanced}
 use Rattle.quick_parser.specs.Completion.{closing_symbols, entry_ending, empty_block, sum_ending, zero_sum}
-use Rattle.quick_parser.proofs.Complete.{advances, spot}
+use Rattle.quick_parser.proofs.Complete.{advances}
 use Rattle.quick_parser.proofs.Backwards.{backwards, none_then, operand_then, end_then}
-use Rattle.quick_parser.proofs.Language.{Language, Follows, ItemsThen, StatementsThen, ListThen, BranchEnds, BodyThen, ClosingThen, VoidThen, MainThen, NameThen, ValueThen, DeclaredThen, TermsThen, SumThen, SumEnds, Ends, Closes, EndsAt}
+use Rattle.quick_parser.proofs.Language.{Language, Follows, ListThen, BodyThen, ClosingThen, VoidThen, SumThen, SumEnds, Ends, Closes, EndsAt}
+
 -- the first step of a reading, and the rest of it
 pub record StepsOn (p q : Spot) (k : Symbol) (ks : List Symbol) : Type 0 where
   pub next : Spot
@@ -46,20 +43,20 @@ closes (Block ∷ fs) =
     record {
       rest = closing_symbols fs;
       is = refl;
-      more = none_then (block_count fs) (Closes fs) (closing_symbols fs) (closes fs)
+      more = none_then (block_count fs) (Closes fs) (closing_symbols fs) (closes fs);
     }
 closes (Group ∷ fs) =
     inl
-        (record {
-          rest = closing_symbols fs;
-          is = refl;
-          more = none_then (block_count fs) (Closes fs) (closing_symbols fs) (closes fs)
-        })
+    (record {
+      rest = closing_symbols fs;
+      is = refl;
+      more = none_then (block_count fs) (Closes fs) (closing_symbols fs) (closes fs);
+    })
 closes (Alternative ∷ fs) =
     record {
       rest = closing_symbols fs;
       is = refl;
-      more = none_then (block_count fs) (Closes fs) (closing_symbols fs) (closes fs)
+      more = none_then (block_count fs) (Closes fs) (closing_symbols fs) (closes fs);
     }
 
 -- the end of each entry, where k ends what is open
@@ -72,7 +69,7 @@ body_ends n L k c =
       rest = Mark 125 ∷ k;
       is = refl;
       more = none_then (suc n) (Follows (Mark 125) (ListThen n L)) (Mark 125 ∷ k)
-          (record { rest = k; is = refl; more = none_then n L k c })
+          (record { rest = k; is = refl; more = none_then n L k c });
     }
 
 sum_ends : (e : SumEnd) (n : ℕ) (L : Language) (k : List Symbol) → L k → SumEnds e n L (sum_ending e k)
@@ -94,10 +91,10 @@ entry_ends : (p : Place) (n : ℕ) (L : Language) (k : List Symbol) → L k → 
 entry_ends Entry n L k c = none_then n L k c
 entry_ends Declarator n L k c =
     inl
-        (record {
-          name = 97 ∷ [];
-          more = record { rest = Mark 59 ∷ k; is = refl; more = inl (semicolon_ends n L k c) }
-        })
+    (record {
+      name = 97 ∷ [];
+      more = record { rest = Mark 59 ∷ k; is = refl; more = inl (semicolon_ends n L k c) };
+    })
 entry_ends Declared n L k c = inl (semicolon_ends n L k c)
 entry_ends Initializer n L k c =
     record { digits = 48 ∷ []; more = record { rest = Mark 59 ∷ k; is = refl; more = semicolon_ends n L k c } }

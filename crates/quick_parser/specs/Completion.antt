@@ -1,13 +1,12 @@
 -- The shortest end of a file at a spot: no state is a dead end.
-use Rattle.std.specs.Prelude.{ℕ, List, [], ◌∷◌}
-use Rattle.quick_form.specs.Symbols.{Symbol, Void, Main, Name, Number, Mark, Endif}
+use Rattle.std.specs.Prelude.{List, [], ◌∷◌}
+use Rattle.quick_form.specs.Symbols.{Symbol, Void, Name, Number, Mark, Endif}
 use Rattle.quick_parser.specs.declared.spots.SumEnd.{SumEnd}
 use Rattle.quick_parser.specs.declared.spots.SumEnd.TheVariants.{Statement, Output, Condition}
 use Rattle.quick_parser.specs.declared.spots.Place.{Place}
 use Rattle.quick_parser.specs.declared.spots.Place.TheVariants.{Entry, Declarator, Declared, Initializer, Semicolon, MainOpening, MainVoid, MainClosing, Body, Assignment, Opening, Operand, Operator}
 use Rattle.quick_parser.specs.declared.spots.Frame.{Frame}
 use Rattle.quick_parser.specs.declared.spots.Frame.TheVariants.{Block, Group, Alternative}
-use Rattle.quick_parser.specs.Spots.{Spot}
 use Rattle.quick_parser.specs.Steps.{State}
 
 -- the ends of the open frames

@@ -2,10 +2,9 @@
 ghost use Rattle.std.specs.Prelude.{◌≡◌, [], ◌∷◌, OnOk, OnErr, Some, None};
 ghost use Rattle.quick_parser.specs.Spots.{block_count, innermost, left_frames, turned_frames};
 
+use crate::spots::Frame;
 use std::alloc::{AllocError, Global};
 use std::marker::Model;
-
-use crate::spots::Frame;
 
 /// The open frames, seen as a list with the innermost first.
 #[derive(Drop)]

@@ -8,6 +8,8 @@ mod parser;
 mod spots;
 mod symbols;
 mod tested;
+#[cfg(test)]
+mod tests;
 
 pub use laws::{
     complete_is_written, declared_behind_int, refusals_end, refused_is_unwritten, states_begin,

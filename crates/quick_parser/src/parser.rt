@@ -8,14 +8,13 @@ ghost use Rattle.quick_parser.specs.Spots.{moved, spot_move};
 ghost use Rattle.quick_parser.specs.Steps.{start, with_test, noted, step, is_complete};
 ghost use Rattle.quick_parser.specs.Tokens.{symbol_of};
 
-use std::alloc::{AllocError, Global};
-use std::marker::Model;
-
 use crate::frames::OpenFrames;
 use crate::moves::next_move;
 use crate::spots::{Frame, Move, Place};
 use crate::symbols::Symbol;
 use crate::tested::TestedNames;
+use std::alloc::{AllocError, Global};
+use std::marker::Model;
 
 /// Want of memory.
 pub type NoMemory = AllocError;
@@ -53,7 +52,12 @@ impl Parser {
     fn next_move(&self, symbol: &Symbol) -> Option<Move>
         ensures { result ≡ spot_move self.now.spot (symbol_of symbol.now) }
     {
-        next_move(self.place, self.open.innermost(), self.open.block_count(), symbol)
+        next_move(
+            self.place,
+            self.open.innermost(),
+            self.open.block_count(),
+            symbol,
+        )
     }
 
     /// Whether the limit on tested names lets the symbol stand.

@@ -1,6 +1,6 @@
-use Rattle.std.proofs.Common.{ℕ, ◌≤◌, ◌≡◌, ◌+◌, List, [], ◌∷◌, length, reverse, arith}
+use Rattle.std.proofs.Common.{reverse, arith}
 use Rattle.std.proofs.lemmas.List.{length-reverse}
-use Rattle.quick_parser.proofs.NameLemmas.{block_count-le}
+use Rattle.quick_parser.proofs.FrameLemmas.{block_count-le}
 use Rattle.quick_parser.proofs.frames.OpenFrames.push.Goals as goal
 
 pub overflow_add-self : goal.overflow_add-self

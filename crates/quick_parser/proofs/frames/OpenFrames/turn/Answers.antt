@@ -1,7 +1,7 @@
-use Rattle.std.proofs.Common.{◌≡◌, List, Option, Some, sym, ap, ◌∙◌, reverse, slice_set, length, ◌-◌}
-use Rattle.quick_parser.specs.declared.spots.Frame.TheVariants.{Group, Alternative}
-use Rattle.quick_parser.specs.Spots.{innermost, turned_frames, block_count}
-use Rattle.quick_parser.proofs.NameLemmas.{reverse-turned, block_count-turned}
+use Rattle.std.proofs.Common.{◌≡◌, Some, ap, ◌∙◌, reverse, length}
+use Rattle.quick_parser.specs.declared.spots.Frame.TheVariants.{Group}
+use Rattle.quick_parser.specs.Spots.{innermost, turned_frames}
+use Rattle.quick_parser.proofs.FrameLemmas.{reverse-turned, block_count-turned}
 use Rattle.quick_parser.proofs.frames.OpenFrames.turn.Goals as goal
 
 pub invariant_of-self : goal.invariant_of-self

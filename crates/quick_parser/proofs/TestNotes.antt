@@ -1,5 +1,5 @@
 -- The names that a state keeps are the tested names, in the order of their first tests.
-use Rattle.std.proofs.Common.{◌≡◌, ℕ, ◌+◌, ◌≤◌, ◌<◌, Bool, true, false, not, ◌&&◌, ◌||◌, List, [], ◌∷◌, ◌++◌, length, Option, Some, None, refl, ap, ◌∙◌, sym, subst, arith, append_assoc, append-nil, length-append}
+use Rattle.std.proofs.Common.{◌≡◌, ℕ, ◌≤◌, ◌<◌, Bool, true, false, not, ◌&&◌, ◌||◌, List, [], ◌∷◌, ◌++◌, length, Option, Some, None, refl, ap, ◌∙◌, sym, arith, append_assoc, append-nil, length-append}
 use Rattle.std.proofs.lemmas.Bool.{ltb-true, lt-ltb}
 use Rattle.std.proofs.lemmas.List.Folds.{list_any-append}
 use Rattle.std.proofs.lemmas.Slice.Eq.{bytes_eq-Decides}
@@ -54,19 +54,19 @@ not_or false false = refl
 test_first :
     (ns : List (List ℕ)) (n : List ℕ) (ts : List (List ℕ)) (b : Bool) → list_any (bytes_eq n) ns ≡ b
     → (if b then ns else ns ++ n ∷ []) ++ filter (is_absent (if b then ns else ns ++ n ∷ [])) ts
-        ≡ ns ++ filter (is_absent ns) (n ∷ filter (λ m. not (bytes_eq m n)) ts)
+    ≡ ns ++ filter (is_absent ns) (n ∷ filter (λ m. not (bytes_eq m n)) ts)
 test_first ns n ts true here =
     rw here
-        (ap (λ l. ns ++ l)
-        (sym
-        (filter-filter (is_absent ns) (λ m. not (bytes_eq m n)) (is_absent ns)
-        (λ m. absent_other ns n here m (bytes_eq m n) refl) ts)))
+    (ap (λ l. ns ++ l)
+    (sym
+    (filter-filter (is_absent ns) (λ m. not (bytes_eq m n)) (is_absent ns)
+    (λ m. absent_other ns n here m (bytes_eq m n) refl) ts)))
 test_first ns n ts false new =
     rw (append_assoc, new)
-        (ap (λ l. ns ++ (n ∷ l))
-        (sym
-        (filter-filter (is_absent ns) (λ m. not (bytes_eq m n)) (is_absent (ns ++ n ∷ []))
-        (λ m. ap not (list_any-append (bytes_eq m) ns (n ∷ [])) ∙ not_or (list_any (bytes_eq m) ns) (bytes_eq m n)) ts)))
+    (ap (λ l. ns ++ (n ∷ l))
+    (sym
+    (filter-filter (is_absent ns) (λ m. not (bytes_eq m n)) (is_absent (ns ++ n ∷ []))
+    (λ m. ap not (list_any-append (bytes_eq m) ns (n ∷ [])) ∙ not_or (list_any (bytes_eq m) ns) (bytes_eq m n)) ts)))
 
 tests_of-filter :
     (ks : List Symbol) (ns : List (List ℕ)) → tests_of ns ks ≡ ns ++ filter (is_absent ns) (tested_names ks)
