@@ -7,3 +7,4 @@ pub mod Declared
 pub mod Machine
 pub mod NameLemmas
 pub mod FrameLemmas
+pub mod SymbolKinds

@@ -1,5 +1,5 @@
 -- The laws of the machine.
-use Rattle.std.proofs.Common.{◌≡◌, ℕ, ◌≤◌, true, List, [], ◌∷◌, ◌++◌, length, Option, Some, None, refl, ap, ◌∙◌, sym, subst, arith, append-nil}
+use Rattle.std.proofs.Common.{◌≡◌, ℕ, ◌≤◌, true, ◌&&◌, List, [], ◌∷◌, ◌++◌, length, Option, Some, None, refl, ap, ◌∙◌, sym, subst, arith, append-nil}
 use Rattle.std.specs.Prelude.{option_map, option_and_then}
 use Rattle.quick_form.specs.Symbols.{Symbol, Ifdef, tested_names}
 use Rattle.quick_form.specs.Form.{IsWritten}
@@ -10,9 +10,9 @@ use Rattle.quick_parser.specs.declared.spots.Place.TheVariants.{Entry, Assignmen
 use Rattle.quick_parser.specs.declared.spots.Frame.{Frame}
 use Rattle.quick_parser.specs.declared.spots.Frame.TheVariants.{Block, Group, Alternative}
 use Rattle.quick_parser.specs.Spots.{Spot, advanced}
-use Rattle.quick_parser.specs.Steps.{State, start, noted, step, steps, after, is_end, is_complete}
+use Rattle.quick_parser.specs.Steps.{State, start, noted, step, steps, after, is_entry, is_closed, is_complete}
 use Rattle.quick_parser.specs.Completion.{closing_symbols, sum_ending, entry_ending, completion}
-use Rattle.quick_parser.specs.Laws.{StatesComplete, StatesBegin, RefusalsEnd, CompleteIsWritten, RefusedIsUnwritten, TestsAreKept}
+use Rattle.quick_parser.specs.Laws.{StatesComplete, StatesBegin, RefusalsEnd, CompleteIsWritten, RefusedIsUnwritten, TestsAreKept, OneStepMore}
 use Rattle.quick_parser.proofs.Complete.{advances, items_pass}
 use Rattle.quick_parser.proofs.Language.{EndsAt}
 use Rattle.quick_parser.proofs.Sound.{sound, spot_ends}
@@ -141,7 +141,7 @@ pub states_begin : StatesBegin
 states_begin ks s e = (completion s, states_complete ks s e)
 
 -- a complete state has the empty completion
-nothing_left : (p : Place) (fs : List Frame) → is_end p fs ≡ true → entry_ending p (closing_symbols fs) ≡ []
+nothing_left : (p : Place) (fs : List Frame) → (is_entry p && is_closed fs) ≡ true → entry_ending p (closing_symbols fs) ≡ []
 nothing_left Entry [] e = refl
 nothing_left Entry (_ ∷ fs) e = absurd cc
 nothing_left _ fs e = absurd cc
@@ -156,3 +156,26 @@ complete_is_written ks s e = (
       let same : s ≡ record { spot = start.spot; tested_names = tested_names ks } = cc in
       ap is_complete same,
 )
+
+pub steps-append :
+    (ks rest : List Symbol) (s : State) → steps s (ks ++ rest) ≡ option_and_then (λ t. steps t rest) (steps s ks)
+steps-append [] rest s = refl
+steps-append (k ∷ ks) rest s = next_same (step s k) (λ t. steps-append ks rest t)
+  where
+    next_same :
+        (x : Option State) → ((t : State) → steps t (ks ++ rest) ≡ option_and_then (λ u. steps u rest) (steps t ks))
+        → option_and_then (λ t. steps t (ks ++ rest)) x
+        ≡ option_and_then (λ u. steps u rest) (option_and_then (λ t. steps t ks) x)
+    next_same None h = refl
+    next_same (Some t) h = h t
+
+last_step : (k : Symbol) (x : Option State) → option_and_then (λ t. steps t (k ∷ [])) x ≡ option_and_then (λ t. step t k) x
+last_step k None = refl
+last_step k (Some t) = only_step (step t k)
+  where
+    only_step : (y : Option State) → option_and_then (λ u. Some u) y ≡ y
+    only_step None = refl
+    only_step (Some u) = refl
+
+pub one_step_more : OneStepMore
+one_step_more ks k = steps-append ks (k ∷ []) start ∙ last_step k (after ks)

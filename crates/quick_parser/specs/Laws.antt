@@ -1,11 +1,11 @@
 -- LAWS of the machine, each the contract of a function of this crate.
-use Rattle.std.specs.Prelude.{◌≡◌, ◌↔◌, ℕ, Bool, true, false, ◌||◌, List, [], ◌∷◌, ◌++◌, Some, None}
+use Rattle.std.specs.Prelude.{◌≡◌, ◌↔◌, ℕ, Bool, true, false, ◌&&◌, ◌||◌, List, [], ◌∷◌, ◌++◌, Some, None, is_some, option_and_then}
 use Rattle.std.specs.List.{list_any}
 use Rattle.std.specs.Str.{bytes_eq}
-use Rattle.quick_form.specs.Symbols.{Symbol, Int, Name, tested_names}
+use Rattle.quick_form.specs.Symbols.{Symbol, Int, Name, Number, Ifdef, Malformed, tested_names}
 use Rattle.quick_form.specs.Form.{Items, write_items, declared_names, IsWritten, IsBeginning}
 use Rattle.quick_parser.specs.Completion.{completion}
-use Rattle.quick_parser.specs.Steps.{State, after, is_complete}
+use Rattle.quick_parser.specs.Steps.{State, has_room, step, after, is_entry, is_complete}
 
 -- no state is a dead end: what was read is a whole file with the state's completion behind it
 abbrev pub StatesComplete : Type 0
@@ -30,6 +30,27 @@ RefusedIsUnwritten = (ks : List Symbol) → after ks ≡ None → IsWritten ks �
 -- the state has the tested names in the order of their first tests
 abbrev pub TestsAreKept : Type 0
 TestsAreKept = (ks : List Symbol) (s : State) → after ks ≡ Some s → s.tested_names ≡ tested_names ks
+
+-- one symbol more is one step more
+abbrev pub OneStepMore : Type 0
+OneStepMore = (ks : List Symbol) (k : Symbol) → after (ks ++ k ∷ []) ≡ option_and_then (λ s. step s k) (after ks)
+
+-- where one name may stand, outside directive lines, each may; likewise numbers
+abbrev pub NamesAreAlike : Type 0
+NamesAreAlike = (s : State) (x y : List ℕ) → step s (Name x) ≡ step s (Name y)
+
+abbrev pub NumbersAreAlike : Type 0
+NumbersAreAlike = (s : State) (d e : List ℕ) → step s (Number d) ≡ step s (Number e)
+
+-- A name may be tested where an entry may begin, if it was tested or fewer than 128 names were.
+abbrev pub TestsStandAtEntries : Type 0
+TestsStandAtEntries =
+    (s : State) (n : List ℕ)
+    → is_some (step s (Ifdef n)) ≡ (is_entry s.spot.place && has_room s.tested_names n)
+
+-- what is no token of the form stands nowhere
+abbrev pub MalformedIsRefused : Type 0
+MalformedIsRefused = (s : State) → step s Malformed ≡ None
 
 -- whether the list begins with the name n
 abbrev pub begins_with_name : List ℕ → List Symbol → Bool

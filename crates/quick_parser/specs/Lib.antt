@@ -2,4 +2,4 @@ pub mod Spots
 pub mod Steps
 pub mod Completion
 pub mod Laws
-pub mod Tokens
+pub mod View

@@ -1,5 +1,5 @@
 -- A parser as a machine: its states, and what a symbol does to them.
-use Rattle.std.specs.Prelude.{ℕ, Bool, true, false, nat_lt, ◌||◌, List, [], ◌∷◌, ◌++◌, length, Option, Some, None, if◌then◌else◌, option_map, option_and_then}
+use Rattle.std.specs.Prelude.{ℕ, Bool, true, false, nat_lt, ◌&&◌, ◌||◌, List, [], ◌∷◌, ◌++◌, length, Option, Some, None, if◌then◌else◌, option_map, option_and_then}
 use Rattle.std.specs.List.{list_any}
 use Rattle.std.specs.Str.{bytes_eq}
 use Rattle.quick_form.specs.Symbols.{Symbol, Ifdef}
@@ -43,10 +43,15 @@ steps s (k ∷ ks) = option_and_then (λ t. steps t ks) (step s k)
 abbrev pub after : List Symbol → Option State
 after ks = steps start ks
 
--- between items, with nothing open
-abbrev pub is_end : Place → List Frame → Bool
-is_end Entry [] = true
-is_end p fs = false
+-- where an entry of a list may begin
+abbrev pub is_entry : Place → Bool
+is_entry Entry = true
+is_entry p = false
 
+abbrev pub is_closed : List Frame → Bool
+is_closed [] = true
+is_closed (f ∷ fs) = false
+
+-- between items, with nothing open
 abbrev pub is_complete : State → Bool
-is_complete s = is_end s.spot.place s.spot.open_frames
+is_complete s = is_entry s.spot.place && is_closed s.spot.open_frames

@@ -1,5 +1,5 @@
 //! What the machine's states mean, as laws about lists of symbols. Each function is its contract alone.
-ghost use Rattle.quick_parser.specs.Laws.{StatesComplete, StatesBegin, RefusalsEnd, CompleteIsWritten, RefusedIsUnwritten, TestsAreKept, DeclaredBehindInt};
+ghost use Rattle.quick_parser.specs.Laws.{StatesComplete, StatesBegin, RefusalsEnd, CompleteIsWritten, RefusedIsUnwritten, TestsAreKept, OneStepMore, NamesAreAlike, NumbersAreAlike, TestsStandAtEntries, MalformedIsRefused, DeclaredBehindInt};
 
 /// No state is a dead end.
 pub fn states_complete()
@@ -29,6 +29,31 @@ pub fn refused_is_unwritten()
 /// A state keeps the tested names in the order of their first tests.
 pub fn tests_are_kept()
     ensures { TestsAreKept }
+{}
+
+/// One symbol more is one step more.
+pub fn one_step_more()
+    ensures { OneStepMore }
+{}
+
+/// Where one name may stand, outside directive lines, each may.
+pub fn names_are_alike()
+    ensures { NamesAreAlike }
+{}
+
+/// Where one number may stand, each may.
+pub fn numbers_are_alike()
+    ensures { NumbersAreAlike }
+{}
+
+/// A name may be tested where an entry may begin, within the limit on tested names.
+pub fn tests_stand_at_entries()
+    ensures { TestsStandAtEntries }
+{}
+
+/// What is no token of the form stands nowhere.
+pub fn malformed_is_refused()
+    ensures { MalformedIsRefused }
 {}
 
 /// The declared names of items are those behind an `int`.

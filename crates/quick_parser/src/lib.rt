@@ -12,8 +12,9 @@ mod tested;
 mod tests;
 
 pub use laws::{
-    complete_is_written, declared_behind_int, refusals_end, refused_is_unwritten, states_begin,
-    states_complete, tests_are_kept,
+    complete_is_written, declared_behind_int, malformed_is_refused, names_are_alike,
+    numbers_are_alike, one_step_more, refusals_end, refused_is_unwritten, states_begin,
+    states_complete, tests_are_kept, tests_stand_at_entries,
 };
 pub use parser::{NoMemory, Parser};
 pub use spots::{Frame, Move, Place, SumEnd};

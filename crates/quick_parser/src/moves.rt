@@ -2,7 +2,7 @@
 ghost use Rattle.std.specs.Prelude.{◌≡◌, Some};
 ghost use Rattle.quick_parser.specs.Spots.{outside, inside, wanted, brace_move, endif_move, else_move, entry_move, declarator_move, initializer_move, void_move, operand_move, mark_move, declared_move, operator_move, end_mark, end_move, next_move};
 ghost use Rattle.quick_form.specs.Symbols.{While};
-ghost use Rattle.quick_parser.specs.Tokens.{symbol_of};
+ghost use Rattle.quick_parser.specs.View.{symbol_view};
 
 use crate::spots::{Frame, Move, Place, SumEnd};
 use crate::symbols::Symbol;
@@ -63,7 +63,7 @@ fn else_move(innermost: Option<Frame>) -> Option<Move>
 }
 
 fn entry_move(innermost: Option<Frame>, blocks: usize, symbol: &Symbol) -> Option<Move>
-    ensures { result ≡ entry_move innermost blocks (symbol_of symbol.now) }
+    ensures { result ≡ entry_move innermost blocks (symbol_view symbol.now) }
 {
     match symbol {
         Symbol::Int => outside(blocks, Move::To(Place::Declarator)),
@@ -80,7 +80,7 @@ fn entry_move(innermost: Option<Frame>, blocks: usize, symbol: &Symbol) -> Optio
 }
 
 fn declarator_move(symbol: &Symbol) -> Option<Move>
-    ensures { result ≡ declarator_move (symbol_of symbol.now) }
+    ensures { result ≡ declarator_move (symbol_view symbol.now) }
 {
     match symbol {
         Symbol::Name(_) => Some(Move::To(Place::Declared)),
@@ -90,7 +90,7 @@ fn declarator_move(symbol: &Symbol) -> Option<Move>
 }
 
 fn declared_move(symbol: &Symbol) -> Option<Move>
-    ensures { result ≡ declared_move (symbol_of symbol.now) }
+    ensures { result ≡ declared_move (symbol_view symbol.now) }
 {
     match symbol {
         Symbol::Mark(b'=') => Some(Move::To(Place::Initializer)),
@@ -100,7 +100,7 @@ fn declared_move(symbol: &Symbol) -> Option<Move>
 }
 
 fn initializer_move(symbol: &Symbol) -> Option<Move>
-    ensures { result ≡ initializer_move (symbol_of symbol.now) }
+    ensures { result ≡ initializer_move (symbol_view symbol.now) }
 {
     match symbol {
         Symbol::Number(_) => Some(Move::To(Place::Semicolon)),
@@ -109,7 +109,7 @@ fn initializer_move(symbol: &Symbol) -> Option<Move>
 }
 
 fn void_move(symbol: &Symbol) -> Option<Move>
-    ensures { result ≡ void_move (symbol_of symbol.now) }
+    ensures { result ≡ void_move (symbol_view symbol.now) }
 {
     match symbol {
         Symbol::Void => Some(Move::To(Place::MainClosing)),
@@ -119,7 +119,7 @@ fn void_move(symbol: &Symbol) -> Option<Move>
 
 /// Where one mark is wanted.
 fn mark_move(mark: u8, next: Move, symbol: &Symbol) -> Option<Move>
-    ensures { result ≡ mark_move mark next (symbol_of symbol.now) }
+    ensures { result ≡ mark_move mark next (symbol_view symbol.now) }
 {
     match symbol {
         Symbol::Mark(byte) if *byte == mark => Some(next),
@@ -128,7 +128,7 @@ fn mark_move(mark: u8, next: Move, symbol: &Symbol) -> Option<Move>
 }
 
 fn operand_move(end: SumEnd, symbol: &Symbol) -> Option<Move>
-    ensures { result ≡ operand_move end (symbol_of symbol.now) }
+    ensures { result ≡ operand_move end (symbol_view symbol.now) }
 {
     match symbol {
         Symbol::Name(_) | Symbol::Number(_) => Some(Move::To(Place::Operator(end))),
@@ -158,7 +158,7 @@ fn end_move(end: SumEnd) -> Move
 }
 
 fn operator_move(end: SumEnd, symbol: &Symbol) -> Option<Move>
-    ensures { result ≡ operator_move end (symbol_of symbol.now) }
+    ensures { result ≡ operator_move end (symbol_view symbol.now) }
 {
     match symbol {
         Symbol::Mark(b'+' | b'-') => Some(Move::To(Place::Operand(end))),
@@ -173,7 +173,7 @@ pub fn next_move(
     blocks: usize,
     symbol: &Symbol,
 ) -> Option<Move>
-    ensures { result ≡ next_move place innermost blocks (symbol_of symbol.now) }
+    ensures { result ≡ next_move place innermost blocks (symbol_view symbol.now) }
 {
     match place {
         Place::Entry => entry_move(innermost, blocks, symbol),

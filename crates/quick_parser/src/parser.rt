@@ -6,7 +6,7 @@ ghost use Rattle.quick_parser.specs.declared.spots.Move.TheVariants.{Enter};
 ghost use Rattle.quick_parser.specs.declared.spots.Frame.TheVariants.{Group};
 ghost use Rattle.quick_parser.specs.Spots.{moved, spot_move};
 ghost use Rattle.quick_parser.specs.Steps.{start, with_test, noted, step, is_complete};
-ghost use Rattle.quick_parser.specs.Tokens.{symbol_of};
+ghost use Rattle.quick_parser.specs.View.{symbol_view};
 
 use crate::frames::OpenFrames;
 use crate::moves::next_move;
@@ -50,7 +50,7 @@ impl Parser {
 
     /// What the grammar lets the symbol do.
     fn next_move(&self, symbol: &Symbol) -> Option<Move>
-        ensures { result ≡ spot_move self.now.spot (symbol_of symbol.now) }
+        ensures { result ≡ spot_move self.now.spot (symbol_view symbol.now) }
     {
         next_move(
             self.place,
@@ -62,7 +62,7 @@ impl Parser {
 
     /// Whether the limit on tested names lets the symbol stand.
     fn has_room(&self, symbol: &Symbol) -> bool
-        ensures { result ≡ is_some (noted self.now.tested_names (symbol_of symbol.now)) }
+        ensures { result ≡ is_some (noted self.now.tested_names (symbol_view symbol.now)) }
     {
         match symbol {
             Symbol::Ifdef(name) => self.tested.has_room(name),
@@ -72,7 +72,7 @@ impl Parser {
 
     /// Whether some file of the form goes on with this symbol.
     pub fn accepts(&self, symbol: &Symbol) -> bool
-        ensures { result ≡ is_some (step self.now (symbol_of symbol.now)) }
+        ensures { result ≡ is_some (step self.now (symbol_view symbol.now)) }
     {
         self.has_room(symbol) && self.next_move(symbol).is_some()
     }
@@ -120,8 +120,8 @@ impl Parser {
     /// Goes on with the symbol, and answers whether it is accepted. The parser stays as it was after a symbol that isn't, and
     /// after want of memory.
     pub fn take(&mut self, symbol: &Symbol) -> Result<bool, NoMemory>
-        ensures answer { IfOk result (λ taken. taken ≡ is_some (step self.old (symbol_of symbol.now))) }
-        ensures state { OnOk result (self.new ≡ unwrap_or (step self.old (symbol_of symbol.now)) self.old) }
+        ensures answer { IfOk result (λ taken. taken ≡ is_some (step self.old (symbol_view symbol.now))) }
+        ensures state { OnOk result (self.new ≡ unwrap_or (step self.old (symbol_view symbol.now)) self.old) }
         ensures err { OnErr result (self.new ≡ self.old) }
     {
         if !self.has_room(symbol) {
