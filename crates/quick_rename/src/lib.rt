@@ -5,6 +5,8 @@ ghost use Rattle.std.specs.Prelude.{◌≡◌, true, IfOk};
 ghost use Rattle.quick_form.specs.Words.{is_name};
 ghost use Rattle.quick_rename.specs.Answer.{IsAnswer};
 
+mod visit;
+
 use std::alloc::{AllocError, Global};
 
 /// What a renaming answers of a file.
