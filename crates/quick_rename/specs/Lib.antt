@@ -1,2 +1,4 @@
 pub mod Answer
 pub mod Visits
+pub mod Readings
+pub mod Scans

@@ -1,12 +1,20 @@
 //! The renaming of one name in a file of the quick form.
 #![tactic(auto)]
 
-ghost use Rattle.std.specs.Prelude.{◌≡◌, true, IfOk};
+ghost use Rattle.std.specs.Prelude.{◌≡◌, ℕ, true, IfOk};
 ghost use Rattle.quick_form.specs.Words.{is_name};
 ghost use Rattle.quick_rename.specs.Answer.{IsAnswer};
 
+mod fault;
+mod form;
+mod scan;
 mod visit;
 
+use crate::form::{Reading, read};
+use crate::scan::Scan;
+use crate::visit::visit;
+use quick_lexer::renamed;
+use quick_parser::Parser;
 use std::alloc::{AllocError, Global};
 
 /// What a renaming answers of a file.
@@ -20,10 +28,49 @@ pub enum Answer {
     NotQuick { offset: usize },
 }
 
+/// The most bytes of a file of the form.
+const MOST_BYTES: usize = 16_777_216;
+
+/// Renames in a file that was read as one of the form.
+fn rename_read(
+    alloc: Global,
+    bytes: &[u8],
+    old: &[u8],
+    new: &[u8],
+    parser: &Parser,
+) -> Result<Answer, AllocError> {
+    let mut scan = Scan::new(old, new, parser);
+    visit(&mut scan, bytes)?;
+    match scan.fault(bytes.len()) {
+        Some(offset) => Ok(Answer::NotQuick { offset }),
+        None => Ok(Answer::Renamed {
+            bytes: renamed(alloc, bytes, old, new)?,
+            tokens: scan.tokens(),
+        }),
+    }
+}
+
 /// Renames one name in a file of the quick form.
-pub fn rename(_alloc: Global, _bytes: &[u8], _old: &[u8], _new: &[u8]) -> Result<Answer, AllocError>
-    requires { is_name _new.now ≡ true }
-    ensures { IfOk result (IsAnswer _old.now _new.now _bytes.now) }
+pub fn rename(alloc: Global, bytes: &[u8], old: &[u8], new: &[u8]) -> Result<Answer, AllocError>
+    requires { is_name new.now ≡ true }
+    ensures { IfOk result (IsAnswer old.now new.now bytes.now) }
 {
-    Err(AllocError)
+    if bytes.len() > MOST_BYTES {
+        return too_long(alloc, &bytes[..MOST_BYTES]);
+    }
+    match read(alloc, bytes)? {
+        Reading::Fault { offset } => Ok(Answer::NotQuick { offset }),
+        Reading::Whole(parser) => rename_read(alloc, bytes, old, new, &parser),
+    }
+}
+
+/// The fault of a file that has more bytes than these.
+fn too_long(alloc: Global, front: &[u8]) -> Result<Answer, AllocError>
+    ensures { IfOk result (λ answer. (offset : ℕ) × (answer ≡ Answer.NotQuick offset)) }
+{
+    let offset = match read(alloc, front)? {
+        Reading::Fault { offset } => offset.min(MOST_BYTES),
+        Reading::Whole(_) => MOST_BYTES,
+    };
+    Ok(Answer::NotQuick { offset })
 }

@@ -1,10 +1,10 @@
 //! A walk over the symbols of a file, one after another.
-ghost use Rattle.std.specs.Prelude.{◌≡◌, ◌==◌, ◌<◌, ◌≤◌, List, [], ◌∷◌, ◌++◌, true, false, length, take, slice_index, All, IfOk, IfNone, IfSome, MatchOption};
+ghost use Rattle.std.specs.Prelude.{◌≡◌, ◌==◌, ◌<◌, ◌≤◌, ℕ, List, [], ◌∷◌, ◌++◌, true, false, length, take, slice_index, All, IfOk, OnOk, IfNone, IfSome, MatchOption};
 ghost use Rattle.quick_form.specs.Symbols.{Symbol as Spelled, symbols_of, line_symbols, lines_of};
 ghost use Rattle.quick_lexer.specs.View.{symbol_view, token_symbols};
 ghost use Rattle.quick_rename.specs.Visits.{lines_in, Visits};
 
-use quick_lexer::{directive, first_symbol, Symbol};
+use quick_lexer::{Symbol, directive, first_symbol};
 use std::alloc::AllocError;
 
 /// What goes over the symbols of a file, and may refuse one.
@@ -15,8 +15,12 @@ pub(crate) trait Visitor {
     /// Holds where it takes no such symbols.
     ghost refuses: { List Spelled → Type 0 };
 
-    /// Takes a symbol, which begins at the offset `at` or behind blanks there. `false` where it refuses it.
-    fn take(&mut self, symbol: &Symbol, at: usize) -> Result<bool, AllocError>
+    /// The words that it goes by, which stay.
+    ghost words: { Self → List (List ℕ) };
+
+    /// Takes a symbol, whose last byte stands before the offset `end`. `false` where it refuses it.
+    fn take(&mut self, symbol: &Symbol, end: usize) -> Result<bool, AllocError>
+        ensures words { OnOk result (words self.new ≡ words self.old) }
         ensures taken { IfOk result (λ yes. yes ≡ true → (ks : List Spelled) → took self.old ks → took self.new (ks ++ symbol_view symbol.now ∷ [])) }
         ensures refused { IfOk result (λ yes. yes ≡ false → (ks : List Spelled) → took self.old ks → refuses (ks ++ symbol_view symbol.now ∷ [])) };
 }
@@ -51,6 +55,19 @@ fn first_line<'a>(text: &'a [u8]) -> (&'a [u8], Option<&'a [u8]>)
     }
 }
 
+/// The length of a line without the blanks and tabs at its end.
+fn solid_len(line: &[u8]) -> usize
+    ensures { result ≤ length line.now }
+{
+    match line
+        .iter()
+        .rposition(|byte| *byte != b' ' && *byte != b'\t')
+    {
+        Some(i) => i + 1,
+        None => 0,
+    }
+}
+
 /// Visits the tokens of a line that is no directive line, and that ends at the offset `end`.
 fn visit_tokens<'a, V: Visitor>(
     visitor: &mut V,
@@ -58,14 +75,14 @@ fn visit_tokens<'a, V: Visitor>(
     end: usize,
 ) -> Result<Option<Stop<'a>>, AllocError>
     requires { length line.now ≤ end }
-    ensures { IfOk result (λ stop. Visits V.took V.refuses visitor.old visitor.new (token_symbols line.now) stop) }
+    ensures words { OnOk result (V.words visitor.new ≡ V.words visitor.old) }
+    ensures visits { IfOk result (λ stop. Visits V.took V.refuses visitor.old visitor.new (token_symbols line.now) stop) }
 {
     let mut rest = line;
     while let Some((symbol, next)) = first_symbol(rest) {
-        let at = end - rest.len();
-        if !visitor.take(&symbol, at)? {
+        if !visitor.take(&symbol, end - next.len())? {
             return Ok(Some(Stop {
-                at,
+                at: end - rest.len(),
                 text: rest,
                 is_directive: false,
             }));
@@ -82,13 +99,14 @@ fn visit_line<'a, V: Visitor>(
     end: usize,
 ) -> Result<Option<Stop<'a>>, AllocError>
     requires { length line.now ≤ end }
-    ensures { IfOk result (λ stop. Visits V.took V.refuses visitor.old visitor.new (line_symbols line.now) stop) }
+    ensures words { OnOk result (V.words visitor.new ≡ V.words visitor.old) }
+    ensures visits { IfOk result (λ stop. Visits V.took V.refuses visitor.old visitor.new (line_symbols line.now) stop) }
 {
     match directive(line) {
         None => visit_tokens(visitor, line, end),
         Some(symbol) => {
             let at = end - line.len();
-            if visitor.take(&symbol, at)? {
+            if visitor.take(&symbol, at + solid_len(line))? {
                 Ok(None)
             } else {
                 Ok(Some(Stop {
@@ -106,7 +124,8 @@ pub(crate) fn visit<'a, V: Visitor>(
     visitor: &mut V,
     bytes: &'a [u8],
 ) -> Result<Option<Stop<'a>>, AllocError>
-    ensures { IfOk result (λ stop. Visits V.took V.refuses visitor.old visitor.new (symbols_of bytes.now) stop) }
+    ensures words { OnOk result (V.words visitor.new ≡ V.words visitor.old) }
+    ensures visits { IfOk result (λ stop. Visits V.took V.refuses visitor.old visitor.new (symbols_of bytes.now) stop) }
 {
     let mut text = Some(bytes);
     while let Some(rest) = text {
