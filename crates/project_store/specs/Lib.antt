@@ -1,8 +1,10 @@
 pub mod Lookup
 pub mod Faults
 pub mod Room
+pub mod Store
 pub mod Sink
-pub mod Calls
 pub mod Named
+pub mod Calls
 pub mod MemoryStore
 pub mod MemorySink
+pub mod SureSink

@@ -11,8 +11,10 @@ mod memory_sink;
 mod memory_store;
 mod sink;
 mod store;
+mod sure_sink;
 
 pub use memory_sink::MemorySink;
 pub use memory_store::MemoryStore;
 pub use sink::{Sink, SinkFailed};
 pub use store::{Store, StoreFault, WriteFailed};
+pub use sure_sink::SureSink;
