@@ -8,3 +8,6 @@ pub mod Calls
 pub mod MemoryStore
 pub mod MemorySink
 pub mod SureSink
+pub mod SureStore
+pub mod Packed
+pub mod PackedFiles

@@ -9,12 +9,15 @@ mod calls;
 mod lookup;
 mod memory_sink;
 mod memory_store;
+mod packed;
 mod sink;
 mod store;
 mod sure_sink;
+mod sure_store;
 
 pub use memory_sink::MemorySink;
 pub use memory_store::MemoryStore;
 pub use sink::{Sink, SinkFailed};
 pub use store::{Store, StoreFault, WriteFailed};
 pub use sure_sink::SureSink;
+pub use sure_store::SureStore;

@@ -70,6 +70,7 @@ impl Sink for SureSink {
         ensures ok { IfOk result (λ n. taken_by self.new ≡ taken_by self.old ++ take n bytes.now) }
         ensures room { IfOk result (λ n. room_of self.new + n ≡ room_of self.old) }
         ensures err { OnErr result (taken_by self.new ≡ taken_by self.old) }
+        ensures err_room { OnErr result (room_of self.new ≡ room_of self.old) }
         ensures faults { faults_of self.new ≡ count_after (is_err result) (faults_of self.old) }
         ensures cause { HasCause (faults_of self.old) (faults_of self.new) (IsFault result bytes.now) }
     {
