@@ -1,4 +1,4 @@
-use Rattle.std.specs.Prelude.{ℕ, ◌≤◌, List, map, All, slice_range}
+use Rattle.std.specs.Prelude.{ℕ, ◌≤◌, List, map, slice_range}
 use Rattle.text_edits.specs.Files.{PlainFile}
 use Rattle.project_store.specs.declared.packed.Piece.{Piece}
 use Rattle.project_store.specs.declared.packed.Entry.{Entry}

@@ -24,7 +24,12 @@ pub(crate) fn content_of<'a>(files: &'a Files, name: &str) -> Option<&'a [u8]>
 
 /// Puts the bytes under the name: in place of what the first file with the name holds, or in a
 /// file of their own at the end.
-pub(crate) fn put(alloc: Global, files: &mut Files, name: &str, bytes: &[u8]) -> Result<(), AllocError>
+pub(crate) fn put(
+    alloc: Global,
+    files: &mut Files,
+    name: &str,
+    bytes: &[u8],
+) -> Result<(), AllocError>
     ensures ok { OnOk result (PutsFile (lookup_of (plain_files files.old)) name.now bytes.now (lookup_of (plain_files files.new))) }
     ensures err { OnErr result (plain_files files.new ≡ plain_files files.old) }
 {

@@ -74,13 +74,10 @@ impl Store for MemoryStore {
         ensures cause { HasCause (read_faults_of self.old) (read_faults_of self.new) (IsErrOf result StoreFault.Failed) }
         ensures write_faults { write_faults_of self.new ≡ write_faults_of self.old }
     {
-        if self.calls.next_fails() {
-            self.read_faults = self.read_faults.saturating_add(1);
-            return Err(StoreFault::Failed);
-        }
+        let fails = self.calls.next_fails();
         match content_of(&self.files, name) {
-            Some(bytes) => Ok(Vec::from_slice(alloc, bytes)?),
-            None => {
+            Some(bytes) if !fails => Ok(Vec::from_slice(alloc, bytes)?),
+            _ => {
                 self.read_faults = self.read_faults.saturating_add(1);
                 Err(StoreFault::Failed)
             }

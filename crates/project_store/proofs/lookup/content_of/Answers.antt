@@ -1,4 +1,4 @@
-use Rattle.std.proofs.Common.{◌≡◌, ℕ, List, map, Some, None, sym, ◌∙◌, ap, arith}
+use Rattle.std.proofs.Common.{◌≡◌, map, Some, None, sym, ◌∙◌, ap, arith}
 use Rattle.std.specs.List.{position_from}
 use Rattle.std.proofs.lemmas.List.{length-map, get_or-map}
 use Rattle.text_edits.specs.Files.{plain_file}

@@ -1,8 +1,8 @@
-use Rattle.std.proofs.Common.{◌≡◌, ℕ, map, Some, None, refl, sym, ◌∙◌, ap, subst, arith}
+use Rattle.std.proofs.Common.{◌≡◌, map, Some, None, sym, ◌∙◌, ap, arith}
 use Rattle.std.specs.List.{position_from}
 use Rattle.std.specs.String.{string_bytes}
 use Rattle.std.proofs.lemmas.List.{length-map, get_or-map, map-set, map-append}
-use Rattle.text_edits.specs.Files.{PlainFile, plain_file, lookup_of}
+use Rattle.text_edits.specs.Files.{plain_file}
 use Rattle.project_store.specs.Named.{has_name}
 use Rattle.project_store.proofs.FirstNamed.{place_in_map, IsFirst-found, IsFirst-length, IsFirst-name, PutsFile-replaced, PutsFile-added}
 use Rattle.project_store.proofs.lookup.put.Goals as goal

@@ -1,4 +1,4 @@
-use Rattle.std.proofs.Common.{◌≡◌, ℕ, ◌+◌, ◌++◌, ◌∷◌, [], length, vec_len, All, sym, ◌∙◌, ap, arith, length-append}
+use Rattle.std.proofs.Common.{◌≡◌, ◌+◌, ◌++◌, length, vec_len, ◌∙◌, ap, arith, length-append}
 use Rattle.project_store.specs.declared.packed.Entry.{Entry}
 use Rattle.project_store.specs.Packed.{files_at, IsWithin}
 use Rattle.project_store.proofs.PackedLemmas.{files_at-append, files_at-added, All-within-more, All-pushed, on_err}

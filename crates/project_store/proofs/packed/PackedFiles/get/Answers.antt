@@ -1,8 +1,7 @@
-use Rattle.std.proofs.Common.{◌≡◌, ◌<◌, ℕ, length, Some, sym, ◌∙◌, ap, subst, arith}
+use Rattle.std.proofs.Common.{◌<◌, length, Some, sym, ◌∙◌, ap, arith}
 use Rattle.std.proofs.lemmas.List.{length-map, get_or-map}
-use Rattle.std.proofs.lemmas.List.Elements.{All-get_or}
 use Rattle.project_store.specs.declared.packed.Entry.{Entry}
-use Rattle.project_store.specs.Packed.{bytes_at, file_at, files_at, IsWithin}
+use Rattle.project_store.specs.Packed.{bytes_at, file_at, files_at}
 use Rattle.project_store.proofs.FirstNamed.{IsFirst-found, IsFirst-length, lookup-first, lookup-absent}
 use Rattle.project_store.proofs.PackedLemmas.{IsPieceWithin-more}
 use Rattle.project_store.proofs.packed.PackedFiles.get.Goals as goal

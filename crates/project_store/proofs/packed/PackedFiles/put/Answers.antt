@@ -1,6 +1,6 @@
-use Rattle.std.proofs.Common.{◌≡◌, ◌<◌, ◌≤◌, ◌+◌, ℕ, [], length, None, ◌⊎◌, inl, inr, ⊎_elim, refl, sym, arith}
+use Rattle.std.proofs.Common.{◌≡◌, ◌<◌, ◌+◌, [], length, inl, inr, ⊎_elim, refl, sym, arith}
 use Rattle.text_edits.specs.Files.{PlainFile, lookup_of}
-use Rattle.project_store.specs.Room.{names_taken, LacksRoom}
+use Rattle.project_store.specs.Room.{LacksRoom}
 use Rattle.project_store.specs.PackedFiles.{files_of, spare_names, spare_bytes}
 use Rattle.project_store.proofs.FirstNamed.{IsFirst-found, IsFirst-length, IsFirst-name, lookup-absent, PutsFile-replaced, PutsFile-added}
 use Rattle.project_store.proofs.PackedLemmas.{on_err}
@@ -30,7 +30,7 @@ returns-in_err-add-in-None-clause-full c =
     let self = c.args.self.now in
     let absent = lookup-absent c.args.name.now (files_of self) 0 (sym c.in-None.ensures) in
     let lacks : LacksRoom (lookup_of (files_of self) c.args.name.now) (spare_names self) (spare_bytes self) (length c.args.name.now + length c.args.bytes.now) =
-        rw absent (⊎_elim (λ (none : spare_names self ≡ 0). inl (omega arith)) (λ (few : spare_bytes self < length c.args.name.now + length c.args.bytes.now). inr few) c.in_err-add-in-None.ensures.full) in
+    rw absent (⊎_elim (λ (none : spare_names self ≡ 0). inl (omega arith)) (λ (few : spare_bytes self < length c.args.name.now + length c.args.bytes.now). inr few) c.in_err-add-in-None.ensures.full) in
     on_err _ lacks
 
 pub returns-in_ok-add-in-None-clause-names : goal.returns-in_ok-add-in-None-clause-names
