@@ -20,8 +20,10 @@ pub record HasCause (before now : ℕ) (fault : Type 0) : Type 0 where
 
 -- for a count of `u64`, to rise is to be greater than before or at the end
 abbrev pub RoseIsGreaterOrLast : Type 0
-RoseIsGreaterOrLast = (before now : ℕ) → now < 2 ^ 64 → (Rose before now ↔ ((before < now) ⊎ (now ≡ 2 ^ 64 - 1)))
+RoseIsGreaterOrLast =
+    (before now : ℕ) → now < 2 ^ 64 → (Rose before now ↔ ((before < now) ⊎ (now ≡ 2 ^ 64 - 1)))
 
 -- a count that rose in a part of a run and fell in no other part rose over the whole run
 abbrev pub RiseStays : Type 0
-RiseStays = (first before now last : ℕ) → first ≤ before → Rose before now → now ≤ last → Rose first last
+RiseStays =
+    (first before now last : ℕ) → first ≤ before → Rose before now → now ≤ last → Rose first last

@@ -30,7 +30,8 @@ pub(crate) fn put(
     name: &str,
     bytes: &[u8],
 ) -> Result<(), AllocError>
-    ensures ok { OnOk result (PutsFile (lookup_of (plain_files files.old)) name.now bytes.now (lookup_of (plain_files files.new))) }
+    ensures ok { OnOk result
+        (PutsFile (lookup_of (plain_files files.old)) name.now bytes.now (lookup_of (plain_files files.new))) }
     ensures err { OnErr result (plain_files files.new ≡ plain_files files.old) }
 {
     let bytes = Vec::from_slice(alloc, bytes)?;

@@ -66,12 +66,15 @@ impl Store for MemoryStore {
     ghost bytes_left = { λ _. 0 };
 
     fn read(&mut self, alloc: Global, name: &str) -> Result<Vec<u8>, StoreFault>
-        ensures fails { IsErrOf result StoreFault.Failed ↔ (NextFails (calls_of self.old) ⊎ (held self.old name.now ≡ None)) }
+        ensures fails { IsErrOf result StoreFault.Failed
+            ↔ (NextFails (calls_of self.old) ⊎ (held self.old name.now ≡ None)) }
         ensures bytes { IfOk result (λ bytes. held self.old name.now ≡ Some bytes.items) }
         ensures files { SameFiles (held self.old) (held self.new) }
         ensures calls { CountsCall (calls_of self.old) (calls_of self.new) }
-        ensures read_faults { read_faults_of self.new ≡ count_after (is_failed result) (read_faults_of self.old) }
-        ensures cause { HasCause (read_faults_of self.old) (read_faults_of self.new) (IsErrOf result StoreFault.Failed) }
+        ensures read_faults { read_faults_of self.new
+            ≡ count_after (is_failed result) (read_faults_of self.old) }
+        ensures cause { HasCause (read_faults_of self.old) (read_faults_of self.new)
+            (IsErrOf result StoreFault.Failed) }
         ensures write_faults { write_faults_of self.new ≡ write_faults_of self.old }
     {
         let fails = self.calls.next_fails();
@@ -89,7 +92,8 @@ impl Store for MemoryStore {
         ensures ok { OnOk result (PutsFile (held self.old) name.now bytes.now (held self.new)) }
         ensures err { OnErr result (SameFiles (held self.old) (held self.new)) }
         ensures calls { CountsCall (calls_of self.old) (calls_of self.new) }
-        ensures write_faults { write_faults_of self.new ≡ count_after (is_err result) (write_faults_of self.old) }
+        ensures write_faults { write_faults_of self.new
+            ≡ count_after (is_err result) (write_faults_of self.old) }
         ensures cause { HasCause (write_faults_of self.old) (write_faults_of self.new) (IsErr result) }
         ensures read_faults { read_faults_of self.new ≡ read_faults_of self.old }
     {

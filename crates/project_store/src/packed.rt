@@ -43,7 +43,8 @@ fn bytes_of<'a>(bytes: &'a [u8], piece: &Piece) -> &'a [u8]
 /// The number of the first entry with the name.
 fn place_of(bytes: &[u8], entries: &[Entry], name: &str) -> Option<usize>
     requires { All (IsWithin (length bytes.now)) entries.now }
-    ensures { result ≡ position_from (λ entry. has_name name.now (file_at bytes.now entry)) 0 entries.now }
+    ensures { result
+        ≡ position_from (λ entry. has_name name.now (file_at bytes.now entry)) 0 entries.now }
 {
     for (at, entry) in entries.iter().enumerate() {
         if bytes_of(bytes, &entry.name) == name.as_bytes() {
@@ -110,11 +111,14 @@ impl PackedFiles {
 
     /// Adds a file at the end.
     pub(crate) fn add(&mut self, name: &str, bytes: &[u8]) -> Result<(), AllocError>
-        ensures ok { OnOk result (files_of self.new ≡ files_of self.old ++ record { name = name.now; bytes = bytes.now } ∷ []) }
+        ensures ok { OnOk result
+            (files_of self.new ≡ files_of self.old ++ record { name = name.now; bytes = bytes.now } ∷ []) }
         ensures err { OnErr result (files_of self.new ≡ files_of self.old) }
-        ensures full { OnErr result ((spare_names self.old ≡ 0) ⊎ (spare_bytes self.old < length name.now + length bytes.now)) }
+        ensures full { OnErr result
+            ((spare_names self.old ≡ 0) ⊎ (spare_bytes self.old < length name.now + length bytes.now)) }
         ensures names { OnOk result (spare_names self.old ≤ spare_names self.new + 1) }
-        ensures bytes { OnOk result (spare_bytes self.old ≤ spare_bytes self.new + length name.now + length bytes.now) }
+        ensures bytes { OnOk result
+            (spare_bytes self.old ≤ spare_bytes self.new + length name.now + length bytes.now) }
     {
         let name = append(&mut self.buffer, name.as_bytes())?;
         let content = append(&mut self.buffer, bytes)?;
@@ -125,7 +129,8 @@ impl PackedFiles {
     /// Gives the file at the place other bytes.
     fn replace(&mut self, at: usize, bytes: &[u8]) -> Result<(), AllocError>
         requires { at < length (files_of self.old) }
-        ensures ok { OnOk result (ReplacesContent (files_of self.old) at bytes.now (files_of self.new)) }
+        ensures ok { OnOk result
+            (ReplacesContent (files_of self.old) at bytes.now (files_of self.new)) }
         ensures err { OnErr result (files_of self.new ≡ files_of self.old) }
         ensures full { OnErr result (spare_bytes self.old < length bytes.now) }
         ensures names { OnOk result (spare_names self.new ≡ spare_names self.old) }
@@ -139,11 +144,16 @@ impl PackedFiles {
     /// Puts the bytes under the name: in place of what the first file with the name holds, or in a
     /// file of their own at the end.
     pub(crate) fn put(&mut self, name: &str, bytes: &[u8]) -> Result<(), AllocError>
-        ensures ok { OnOk result (PutsFile (lookup_of (files_of self.old)) name.now bytes.now (lookup_of (files_of self.new))) }
+        ensures ok { OnOk result
+            (PutsFile (lookup_of (files_of self.old)) name.now bytes.now (lookup_of (files_of self.new))) }
         ensures err { OnErr result (files_of self.new ≡ files_of self.old) }
-        ensures full { OnErr result (LacksRoom (lookup_of (files_of self.old) name.now) (spare_names self.old) (spare_bytes self.old) (length name.now + length bytes.now)) }
-        ensures names { OnOk result (spare_names self.old ≤ spare_names self.new + names_taken (lookup_of (files_of self.old) name.now)) }
-        ensures bytes { OnOk result (spare_bytes self.old ≤ spare_bytes self.new + length name.now + length bytes.now) }
+        ensures full { OnErr result
+            (LacksRoom (lookup_of (files_of self.old) name.now) (spare_names self.old) (spare_bytes self.old)
+            (length name.now + length bytes.now)) }
+        ensures names { OnOk result
+            (spare_names self.old ≤ spare_names self.new + names_taken (lookup_of (files_of self.old) name.now)) }
+        ensures bytes { OnOk result
+            (spare_bytes self.old ≤ spare_bytes self.new + length name.now + length bytes.now) }
     {
         match self.place(name) {
             Some(at) => self.replace(at, bytes)?,

@@ -85,8 +85,10 @@ impl Store for SureStore {
         ensures files { SameFiles (held self.old) (held self.new) }
         ensures names { names_left_of self.new ≡ names_left_of self.old }
         ensures room { bytes_left_of self.new ≡ bytes_left_of self.old }
-        ensures read_faults { read_faults_of self.new ≡ count_after (is_failed result) (read_faults_of self.old) }
-        ensures cause { HasCause (read_faults_of self.old) (read_faults_of self.new) (IsErrOf result StoreFault.Failed) }
+        ensures read_faults { read_faults_of self.new
+            ≡ count_after (is_failed result) (read_faults_of self.old) }
+        ensures cause { HasCause (read_faults_of self.old) (read_faults_of self.new)
+            (IsErrOf result StoreFault.Failed) }
         ensures write_faults { write_faults_of self.new ≡ write_faults_of self.old }
     {
         match self.files.get(name) {
@@ -99,14 +101,19 @@ impl Store for SureStore {
     }
 
     fn write(&mut self, name: &str, bytes: &[u8]) -> Result<(), WriteFailed>
-        ensures fails { IsErr result ↔ LacksRoom (held self.old name.now) (names_left_of self.old) (bytes_left_of self.old) (length name.now + length bytes.now) }
+        ensures fails { IsErr result
+            ↔ LacksRoom (held self.old name.now) (names_left_of self.old) (bytes_left_of self.old)
+            (length name.now + length bytes.now) }
         ensures ok { OnOk result (PutsFile (held self.old) name.now bytes.now (held self.new)) }
-        ensures names { OnOk result (names_left_of self.new + names_taken (held self.old name.now) ≡ names_left_of self.old) }
-        ensures room { OnOk result (bytes_left_of self.new + length name.now + length bytes.now ≡ bytes_left_of self.old) }
+        ensures names { OnOk result
+            (names_left_of self.new + names_taken (held self.old name.now) ≡ names_left_of self.old) }
+        ensures room { OnOk result
+            (bytes_left_of self.new + length name.now + length bytes.now ≡ bytes_left_of self.old) }
         ensures err { OnErr result (SameFiles (held self.old) (held self.new)) }
         ensures err_names { OnErr result (names_left_of self.new ≡ names_left_of self.old) }
         ensures err_room { OnErr result (bytes_left_of self.new ≡ bytes_left_of self.old) }
-        ensures write_faults { write_faults_of self.new ≡ count_after (is_err result) (write_faults_of self.old) }
+        ensures write_faults { write_faults_of self.new
+            ≡ count_after (is_err result) (write_faults_of self.old) }
         ensures cause { HasCause (write_faults_of self.old) (write_faults_of self.new) (IsErr result) }
         ensures read_faults { read_faults_of self.new ≡ read_faults_of self.old }
     {
