@@ -2,6 +2,7 @@
 //! definitions (in `specs/`) and its laws, each the contract of a function without a body.
 #![tactic(auto)]
 
+ghost use Rattle.quick_form.specs.Growth.{RunsGrow};
 ghost use Rattle.quick_form.specs.Quick.{OneReading, RenamedSymbols, RenamedReads, RenamingKeepsBehaviour};
 
 /// A file reads as one list of items at most, so it has one program at most in a configuration.
@@ -29,4 +30,11 @@ pub fn renaming_keeps_behaviour()
     ensures { RenamingKeepsBehaviour }
 {
     renamed_reads();
+}
+
+/// A larger bound keeps the answer of a run that has ended or is undefined, and only lengthens the
+/// output of one that the bound cut off.
+pub fn runs_grow()
+    ensures { RunsGrow }
+{
 }
