@@ -2,7 +2,7 @@
 use Rattle.std.proofs.Common.{◌≡◌, ℕ, ◌+◌, ◌-◌, ◌*◌, ◌<◌, ◌≤◌, ◌==◌, length, get_or, map, Bool, true, false, ◌||◌, ◌&&◌, cond, List, [], ◌∷◌, refl, sym, ap, ◌∙◌, inl, inr, arith}
 use Rattle.std.specs.List.{list_any, list_all, filter}
 use Rattle.std.specs.Str.{bytes_eq}
-use Rattle.std.proofs.lemmas.Bool.{cases_Bool, both_ways, true≢false, ne_eqb, eqb-true, eqb-false, and_parts, and_left, or_parts, or_from, or_cases, cond-true, cond-false, false_from_ne_true}
+use Rattle.std.proofs.lemmas.Bool.{both_ways, ne_eqb, eqb-true, eqb-false, and_parts, or_parts, or_cases, cond-false}
 use Rattle.quick_form.specs.Words.{value_from, keywords, is_keyword}
 use Rattle.quick_lexer.specs.Keywords.{begins_with, keywords_from}
 
@@ -54,8 +54,9 @@ begins-elsewhere b (c ∷ k) [] h n = absurd (both_ways false refl h)
 begins-elsewhere b (c ∷ k) (f ∷ fs) h n =
     let p = or_parts (f == b) (list_any (λ g. g == b) fs) n in
     elim (or_cases (c == f) (list_any (λ g. c == g) fs) h) as (λ _. (c == b) ≡ false) [
-        inl e ↦ ap (λ x. x == b) (eqb-true c f e) ∙ p.0
-      | inr e ↦ begins-elsewhere b (c ∷ k) fs e p.1 ]
+      | inl e ↦ ap (λ x. x == b) (eqb-true c f e) ∙ p.0
+      | inr e ↦ begins-elsewhere b (c ∷ k) fs e p.1
+    ]
 
 none-begins : (b : ℕ) (fs : List ℕ) (ks : List (List ℕ)) → list_all (λ k. list_any (λ f. begins_with f k) fs) ks ≡ true → list_any (λ f. f == b) fs ≡ false → filter (begins_with b) ks ≡ []
 none-begins b fs [] h n = refl

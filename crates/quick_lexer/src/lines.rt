@@ -4,8 +4,8 @@ ghost use Rattle.quick_form.specs.Symbols as spec;
 ghost use Rattle.quick_lexer.specs.Lines.{BeginsWithSymbol};
 ghost use Rattle.quick_lexer.specs.View.{piece_view, symbol_view, token_symbols};
 
-use crate::pieces::{first_solid_piece, Piece};
-use crate::symbols::{word_symbol, Symbol};
+use crate::pieces::{Piece, first_solid_piece};
+use crate::symbols::{Symbol, word_symbol};
 use crate::words::is_name;
 
 /// The symbol of a piece that is neither a blank nor a tab.

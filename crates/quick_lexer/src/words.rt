@@ -68,7 +68,9 @@ fn keywords_from(first: u8) -> &'static [&'static [u8]]
         b'i' => &[b"if", b"inline", b"int"],
         b'l' => &[b"long"],
         b'r' => &[b"register", b"restrict", b"return"],
-        b's' => &[b"short", b"signed", b"sizeof", b"static", b"struct", b"switch"],
+        b's' => &[
+            b"short", b"signed", b"sizeof", b"static", b"struct", b"switch",
+        ],
         b't' => &[b"typedef"],
         b'u' => &[b"union", b"unsigned"],
         b'v' => &[b"void", b"volatile"],
