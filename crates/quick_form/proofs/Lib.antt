@@ -1,4 +1,4 @@
-pub mod LexingPieces
+mod LexingPieces
 mod LexingWords
 mod LexingLines
 mod LexingItems
