@@ -1,5 +1,10 @@
-mod LexingPieces
+mod Examples
+pub mod LexingPieces
 mod LexingWords
 mod LexingLines
 mod LexingItems
-mod Examples
+pub mod Reading
+pub mod Swap
+pub mod Changed
+pub mod ChangedRun
+pub mod Behaviour

@@ -32,38 +32,36 @@ renamed_symbol old new s = s
 abbrev pub token_count : List ℕ → List ℕ → ℕ
 token_count old bytes = count_by (uses old) (symbols_of bytes)
 
-abbrev pub renamed_operand : List ℕ → List ℕ → Operand → Operand
-renamed_operand old new (Named x) = Named (renamed_word old new x)
-renamed_operand old new (Literal d) = Literal d
+-- Items with each name changed by a function; the names that groups test stay.
+abbrev pub changed_operand : (List ℕ → List ℕ) → Operand → Operand
+changed_operand f (Named x) = Named (f x)
+changed_operand f (Literal d) = Literal d
 
-abbrev pub renamed_term : List ℕ → List ℕ → Term → Term
-renamed_term old new t = record { subtracted = t.subtracted; operand = renamed_operand old new t.operand }
+abbrev pub changed_term : (List ℕ → List ℕ) → Term → Term
+changed_term f t = record { subtracted = t.subtracted; operand = changed_operand f t.operand }
 
-abbrev pub renamed_sum : List ℕ → List ℕ → Sum → Sum
-renamed_sum old new s =
-    record { first = renamed_operand old new s.first; more = map (renamed_term old new) s.more }
+abbrev pub changed_sum : (List ℕ → List ℕ) → Sum → Sum
+changed_sum f s = record { first = changed_operand f s.first; more = map (changed_term f) s.more }
 
--- The names that groups test stay.
-abbrev pub renamed_statements : List ℕ → List ℕ → Statements → Statements
-renamed_statements old new no_more = no_more
-renamed_statements old new (assignment x s rest) =
-    assignment (renamed_word old new x) (renamed_sum old new s) (renamed_statements old new rest)
-renamed_statements old new (output s rest) = output (renamed_sum old new s) (renamed_statements old new rest)
-renamed_statements old new (return_of s rest) = return_of (renamed_sum old new s) (renamed_statements old new rest)
-renamed_statements old new (loop s body rest) =
-    loop (renamed_sum old new s) (renamed_statements old new body) (renamed_statements old new rest)
-renamed_statements old new (group n body rest) =
-    group n (renamed_statements old new body) (renamed_statements old new rest)
-renamed_statements old new (choice n body other rest) =
-    choice n (renamed_statements old new body) (renamed_statements old new other) (renamed_statements old new rest)
+abbrev pub changed_statements : (List ℕ → List ℕ) → Statements → Statements
+changed_statements f no_more = no_more
+changed_statements f (assignment x s rest) = assignment (f x) (changed_sum f s) (changed_statements f rest)
+changed_statements f (output s rest) = output (changed_sum f s) (changed_statements f rest)
+changed_statements f (return_of s rest) = return_of (changed_sum f s) (changed_statements f rest)
+changed_statements f (loop s body rest) = loop (changed_sum f s) (changed_statements f body) (changed_statements f rest)
+changed_statements f (group n body rest) = group n (changed_statements f body) (changed_statements f rest)
+changed_statements f (choice n body other rest) =
+    choice n (changed_statements f body) (changed_statements f other) (changed_statements f rest)
 
+abbrev pub changed_items : (List ℕ → List ℕ) → Items → Items
+changed_items f no_item = no_item
+changed_items f (variable x rest) = variable (f x) (changed_items f rest)
+changed_items f (initialised x d rest) = initialised (f x) d (changed_items f rest)
+changed_items f (main_with body rest) = main_with (changed_statements f body) (changed_items f rest)
+changed_items f (item_group n body rest) = item_group n (changed_items f body) (changed_items f rest)
+changed_items f (item_choice n body other rest) =
+    item_choice n (changed_items f body) (changed_items f other) (changed_items f rest)
+
+-- the items with new for old
 abbrev pub renamed_items : List ℕ → List ℕ → Items → Items
-renamed_items old new no_item = no_item
-renamed_items old new (variable x rest) = variable (renamed_word old new x) (renamed_items old new rest)
-renamed_items old new (initialised x d rest) = initialised (renamed_word old new x) d (renamed_items old new rest)
-renamed_items old new (main_with body rest) =
-    main_with (renamed_statements old new body) (renamed_items old new rest)
-renamed_items old new (item_group n body rest) =
-    item_group n (renamed_items old new body) (renamed_items old new rest)
-renamed_items old new (item_choice n body other rest) =
-    item_choice n (renamed_items old new body) (renamed_items old new other) (renamed_items old new rest)
+renamed_items old new items = changed_items (renamed_word old new) items

@@ -1,14 +1,29 @@
-//! The quick form: its definitions and its laws.
+//! The quick form: files whose `#ifdef` groups hold whole declarations or statements. Here are its
+//! definitions (in `specs/`) and its laws, each the contract of a function without a body.
 #![tactic(auto)]
 
-ghost use Rattle.quick_form.specs.Quick.{RenamedReads, RenamedSymbols};
+ghost use Rattle.quick_form.specs.Quick.{OneReading, RenamedSymbols, RenamedReads, RenamingKeepsBehaviour};
 
-/// The law that a text with one name made another spells the same symbols, but for that name outside directive lines.
+/// A file reads as one list of items at most, so it has one program at most in a configuration.
+pub fn one_reading()
+    ensures { OneReading }
+{}
+
+/// A file with one name made another spells the same symbols, but for that name outside directive
+/// lines.
 pub fn renamed_symbols()
     ensures { RenamedSymbols }
 {}
 
-/// The law that a text with one name made another reads as the items with the same change.
+/// A file with one name made another reads as the items with the same change.
 pub fn renamed_reads()
     ensures { RenamedReads }
 {}
+
+/// A file that `quick` takes and the renamed file are accepted in the same configurations, and run
+/// alike there.
+pub fn renaming_keeps_behaviour()
+    ensures { RenamingKeepsBehaviour }
+{
+    renamed_reads();
+}

@@ -1,4 +1,3 @@
-pub mod Keywords
 pub mod View
 pub mod Lines
 pub mod Output

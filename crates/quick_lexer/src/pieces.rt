@@ -6,7 +6,8 @@ ghost use Rattle.quick_form.specs.Symbols.{piece_bytes, pieces_of, is_blank_piec
 ghost use Rattle.quick_lexer.specs.Lines.{begins_with_blank, BeginsWith};
 ghost use Rattle.quick_lexer.specs.View.{piece_view};
 
-use crate::words::{is_blank, is_word_byte};
+use crate::words::is_blank;
+use c_names::is_word_byte;
 
 /// A longest run of letters, digits and `_`, or one other byte.
 #[derive(Clone, Copy, Debug, PartialEq)]

@@ -1,0 +1,96 @@
+ghost use Rattle.std.specs.Prelude.{◌↔◌, IsTrue};
+ghost use Rattle.c_text.specs.Token.{plain_token, SameSpelling};
+
+use crate::origin::Origin;
+
+/// Why a piece of text is no lawful token.
+#[derive(Clone, Copy, Debug, PartialEq, Eq)]
+pub enum BadKind {
+    /// A byte that begins no token.
+    BadByte = 1,
+    /// A comment that the file ends in.
+    OpenComment = 2,
+    /// A character or text that its line ends in.
+    OpenQuote = 3,
+    /// A number, character or text of C that the engine doesn't read.
+    OutOfProfile = 4,
+}
+
+/// The kinds of preprocessing tokens, with keywords apart from other names.
+#[derive(Clone, Copy, Debug, PartialEq, Eq)]
+pub enum TokenKind {
+    /// An identifier that is no keyword (6.4.2).
+    Name,
+    /// One of the 44 keywords (6.4.1).
+    Keyword,
+    /// A preprocessing number (6.4.8).
+    Number,
+    /// A character constant (6.4.4.4).
+    Character,
+    /// A string literal (6.4.5).
+    Text,
+    /// A punctuator (6.4.6).
+    Punctuator,
+    Bad(BadKind),
+}
+
+/// A preprocessing token.
+#[derive(Debug, Drop)]
+pub struct Token {
+    pub kind: TokenKind,
+    /// Its spelling, without splices.
+    pub text: Vec<u8>,
+    /// Whether it follows the token before it at once: with nothing between but splices. A `(` that
+    /// follows the name of a `#define` so begins the macro's parameters (6.10.3).
+    pub joined: bool,
+    pub origin: Origin,
+}
+
+impl Token {
+    /// Whether the two are the same token of C: of one kind and of the same bytes. Where they stand
+    /// doesn't count.
+    pub fn same_spelling(&self, other: &Token) -> bool
+        ensures { IsTrue result ↔ SameSpelling (plain_token self.now) (plain_token other.now) }
+    {
+        self.kind == other.kind && self.text.as_slice() == other.text.as_slice()
+    }
+}
+
+#[cfg(test)]
+mod tests {
+    use super::*;
+    use crate::origin::Place;
+    use std::alloc::{AllocError, Global};
+    use std::test::Fail;
+    use text_edits::Span;
+
+    fn token(alloc: Global, kind: TokenKind, text: &[u8], start: u32) -> Result<Token, AllocError> {
+        let span = Span {
+            start,
+            end: start.saturating_add(1),
+        };
+        let origin = Origin {
+            file: 0,
+            span,
+            place: Place::Text,
+            site: span,
+            site_file: 0,
+        };
+        Ok(Token {
+            kind,
+            text: Vec::from_slice(alloc, text)?,
+            joined: false,
+            origin,
+        })
+    }
+
+    #[test]
+    fn places_do_not_count(rt: HostRuntime) -> Result<(), Fail> {
+        let name = token(rt.alloc(), TokenKind::Name, b"x", 0)?;
+        assert!(rt; name.same_spelling(&token(rt.alloc(), TokenKind::Name, b"x", 7)?));
+        assert!(rt; !name.same_spelling(&token(rt.alloc(), TokenKind::Name, b"y", 0)?));
+        let bad = TokenKind::Bad(BadKind::BadByte);
+        assert!(rt; !name.same_spelling(&token(rt.alloc(), bad, b"x", 0)?));
+        Ok(())
+    }
+}

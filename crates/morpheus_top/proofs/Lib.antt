@@ -1,0 +1,4 @@
+pub mod Giving
+pub mod QuickLemmas
+pub mod WordLemmas
+pub mod Promises

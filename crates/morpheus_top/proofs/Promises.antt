@@ -1,0 +1,289 @@
+-- What follows from a call's answer, status by status.
+use Rattle.std.proofs.Common.{◌≡◌, ◌≢◌, ◌⊎◌, inl, inr, ℕ, ◌+◌, ◌<◌, ◌≤◌, List, [], ◌∷◌, ◌++◌, length, Some, None, Option, IsSome, refl, sym, ◌∙◌, ap, subst, arith, codes, decimal, Contains, length-append, lit<, true}
+use Rattle.quick_form.specs.Renaming.{token_count}
+use Rattle.quick_form.specs.Quick.{Takes, KeepsBehaviour, RenamingKeepsBehaviour}
+use Rattle.project_store.specs.Lookup.{SameFiles, PutsFile, LeavesPart}
+use Rattle.project_store.specs.Faults.{Rose}
+use Rattle.project_store.specs.Room.{LacksRoom}
+use Rattle.morpheus_top.specs.declared.replies.Reply.{Reply}
+use Rattle.morpheus_top.specs.declared.replies.Reply.TheVariants.{Renamed, Usage, ReadFault, WriteFault, WantOfMemory, NotQuick}
+use Rattle.quick_form.specs.Words.{is_name}
+use Rattle.c_names.specs.Names.{is_new_name}
+use Rattle.morpheus_top.specs.Words.{Renaming, target, Asks, IsUsage}
+use Rattle.morpheus_top.specs.Replies.{status_of, report_of}
+use Rattle.morpheus_top.specs.States.{StoreState, SinkState, Kept}
+use Rattle.morpheus_top.specs.Calls.{TakesFile, RefusesFile, renamed_file, WritesFile, WritesPart, LacksRoomFor, SaysReadFault, SaysWriteFault, SaysNotQuick, SaysRenamed, Holds, Reports, BreaksOff, Answers}
+use Rattle.morpheus_top.specs.Promises.{IsOneOf, NoFault, SinkLacksRoom, IsRoomFor, BehaviourIsKept}
+
+-- words that ask for a renaming ask for that one alone
+pub one_renaming : (words : List (List ℕ)) (r s : Renaming) → Asks words r → Asks words s → r ≡ s
+one_renaming words r s a b =
+    let e : codes "quick" ∷ r.file ∷ r.old ∷ r.new ∷ r.out ∷ [] ≡ codes "quick" ∷ s.file ∷ s.old ∷ s.new ∷ s.out ∷ [] = sym a.words_are ∙ b.words_are in
+    let file : r.file ≡ s.file = cc in
+    let old : r.old ≡ s.old = cc in
+    let new : r.new ≡ s.new = cc in
+    let out : r.out ≡ s.out = cc in
+    let f : List ℕ → Renaming = λ x. record { file = x; old = r.old; new = r.new; out = r.out } in
+    let g : List ℕ → Renaming = λ x. record { file = s.file; old = x; new = r.new; out = r.out } in
+    let h : List ℕ → Renaming = λ x. record { file = s.file; old = s.old; new = x; out = r.out } in
+    let k : List ℕ → Renaming = λ x. record { file = s.file; old = s.old; new = s.new; out = x } in
+    ap f file ∙ (ap g old ∙ (ap h new ∙ ap k out))
+
+-- no status but 6 is that of a failing sink
+settled : (words : List (List ℕ)) (b a : StoreState) (s t : SinkState) (status n : ℕ) (A : Answers words b a s t status) → status ≡ n → (n ≡ 6 → ⊥) → status_of A.reply ≡ n
+settled words b a s t status n A e d = elim A.told [ inl k ↦ sym k.0 ∙ e | inr k ↦ absurd (d (sym e ∙ k.0)) ]
+
+on_usage : (words : List (List ℕ)) (b a : StoreState) (r : Reply) → Holds words b a r → status_of r ≡ 2 → IsUsage words
+on_usage words b a (Renamed n) h e = absurd (omega arith)
+on_usage words b a Usage h e = h.0
+on_usage words b a ReadFault h e = absurd (omega arith)
+on_usage words b a WriteFault h e = absurd (omega arith)
+on_usage words b a WantOfMemory h e = absurd (omega arith)
+on_usage words b a (NotQuick o) h e = absurd (omega arith)
+
+on_read_fault : (words : List (List ℕ)) (b a : StoreState) (r : Reply) → Holds words b a r → status_of r ≡ 3 → SaysReadFault words b a
+on_read_fault words b a (Renamed n) h e = absurd (omega arith)
+on_read_fault words b a Usage h e = absurd (omega arith)
+on_read_fault words b a ReadFault h e = h
+on_read_fault words b a WriteFault h e = absurd (omega arith)
+on_read_fault words b a WantOfMemory h e = absurd (omega arith)
+on_read_fault words b a (NotQuick o) h e = absurd (omega arith)
+
+on_write_fault : (words : List (List ℕ)) (b a : StoreState) (r : Reply) → Holds words b a r → status_of r ≡ 4 → SaysWriteFault words b a
+on_write_fault words b a (Renamed n) h e = absurd (omega arith)
+on_write_fault words b a Usage h e = absurd (omega arith)
+on_write_fault words b a ReadFault h e = absurd (omega arith)
+on_write_fault words b a WriteFault h e = h
+on_write_fault words b a WantOfMemory h e = absurd (omega arith)
+on_write_fault words b a (NotQuick o) h e = absurd (omega arith)
+
+on_not_quick : (words : List (List ℕ)) (b a : StoreState) (r : Reply) → Holds words b a r → status_of r ≡ 12 → SaysNotQuick words b a
+on_not_quick words b a (Renamed n) h e = absurd (omega arith)
+on_not_quick words b a Usage h e = absurd (omega arith)
+on_not_quick words b a ReadFault h e = absurd (omega arith)
+on_not_quick words b a WriteFault h e = absurd (omega arith)
+on_not_quick words b a WantOfMemory h e = absurd (omega arith)
+on_not_quick words b a (NotQuick o) h e = h
+
+on_renamed : (words : List (List ℕ)) (b a : StoreState) (r : Reply) → Holds words b a r → status_of r ≡ 0 → (n : ℕ) × SaysRenamed words b a n
+on_renamed words b a (Renamed n) h e = (n, h)
+on_renamed words b a Usage h e = absurd (omega arith)
+on_renamed words b a ReadFault h e = absurd (omega arith)
+on_renamed words b a WriteFault h e = absurd (omega arith)
+on_renamed words b a WantOfMemory h e = absurd (omega arith)
+on_renamed words b a (NotQuick o) h e = absurd (omega arith)
+
+on_others : (words : List (List ℕ)) (b a : StoreState) (r : Reply) → Holds words b a r → (status_of r ≡ 0 → ⊥) → (status_of r ≡ 4 → ⊥) → Kept b a
+on_others words b a (Renamed n) h p q = absurd (p refl)
+on_others words b a Usage h p q = h.1
+on_others words b a ReadFault h p q = h.kept
+on_others words b a WriteFault h p q = absurd (q refl)
+on_others words b a WantOfMemory h p q = h
+on_others words b a (NotQuick o) h p q = h.kept
+
+pub usage_lem : (words : List (List ℕ)) (b a : StoreState) (s t : SinkState) (status : ℕ) → Answers words b a s t status → status ≡ 2 → IsUsage words
+usage_lem words b a s t status A e = on_usage words b a A.reply A.holds (settled words b a s t status 2 A e (λ k. omega arith))
+
+pub read_fault_lem : (words : List (List ℕ)) (b a : StoreState) (s t : SinkState) (status : ℕ) → Answers words b a s t status → status ≡ 3 → SaysReadFault words b a
+read_fault_lem words b a s t status A e = on_read_fault words b a A.reply A.holds (settled words b a s t status 3 A e (λ k. omega arith))
+
+pub write_fault_lem : (words : List (List ℕ)) (b a : StoreState) (s t : SinkState) (status : ℕ) → Answers words b a s t status → status ≡ 4 → SaysWriteFault words b a
+write_fault_lem words b a s t status A e = on_write_fault words b a A.reply A.holds (settled words b a s t status 4 A e (λ k. omega arith))
+
+pub not_quick_lem : (words : List (List ℕ)) (b a : StoreState) (s t : SinkState) (status : ℕ) → Answers words b a s t status → status ≡ 12 → SaysNotQuick words b a
+not_quick_lem words b a s t status A e = on_not_quick words b a A.reply A.holds (settled words b a s t status 12 A e (λ k. omega arith))
+
+pub renamed_lem : (words : List (List ℕ)) (b a : StoreState) (s t : SinkState) (status : ℕ) → Answers words b a s t status → status ≡ 0 → (n : ℕ) × SaysRenamed words b a n
+renamed_lem words b a s t status A e = on_renamed words b a A.reply A.holds (settled words b a s t status 0 A e (λ k. omega arith))
+
+pub sink_fault_lem : (words : List (List ℕ)) (b a : StoreState) (s t : SinkState) (status : ℕ) → (A : Answers words b a s t status) → status ≡ 6 → BreaksOff s t A.reply
+sink_fault_lem words b a s t status A e =
+    elim A.told [ inl k ↦ absurd (no_six A.reply (sym k.0 ∙ e)) | inr k ↦ k.1 ]
+  where
+    no_six : (r : Reply) → status_of r ≡ 6 → ⊥
+    no_six (Renamed n) e = omega arith
+    no_six Usage e = omega arith
+    no_six ReadFault e = omega arith
+    no_six WriteFault e = omega arith
+    no_six WantOfMemory e = omega arith
+    no_six (NotQuick o) e = omega arith
+
+same_bytes : (b : StoreState) (r r' : Renaming) (bytes bytes' : List ℕ) → r' ≡ r → b.file r.file ≡ Some bytes → b.file r'.file ≡ Some bytes' → bytes' ≡ bytes
+same_bytes b r r' bytes bytes' e p q =
+    let f : b.file r'.file ≡ b.file r.file = ap (λ (x : Renaming). b.file x.file) e in
+    let g : ◌≡◌ {A = Option (List ℕ)} (Some bytes') (Some bytes) = sym q ∙ (f ∙ p) in cc
+
+-- a file that is taken is renamed, unless memory ends or the store fails
+taken_reply : (words : List (List ℕ)) (b a : StoreState) (r : Renaming) (bytes : List ℕ) → Asks words r → b.tells → TakesFile r b.file bytes → (SaysReadFault words b a → ⊥) → (SaysWriteFault words b a → ⊥) → (reply : Reply) → Holds words b a reply → (reply ≡ Renamed (token_count r.old bytes)) ⊎ (reply ≡ WantOfMemory)
+taken_reply words b a r bytes asked tells takes no_read no_write (Renamed n) h =
+    let w = h.wrote tells in
+    let e = one_renaming words h.renaming r h.asked asked in
+    let f = same_bytes b r h.renaming bytes w.bytes e takes.held w.taken.held in
+    inl (ap Renamed (h.counts tells ∙ (ap (λ (x : Renaming). token_count x.old w.bytes) e ∙ ap (token_count r.old) f)))
+taken_reply words b a r bytes asked tells takes no_read no_write Usage h = absurd (h.0 r asked)
+taken_reply words b a r bytes asked tells takes no_read no_write ReadFault h = absurd (no_read h)
+taken_reply words b a r bytes asked tells takes no_read no_write WriteFault h = absurd (no_write h)
+taken_reply words b a r bytes asked tells takes no_read no_write WantOfMemory h = inr refl
+taken_reply words b a r bytes asked tells takes no_read no_write (NotQuick o) h =
+    let w = h.refused tells in
+    let e = one_renaming words h.renaming r h.asked asked in
+    let f = same_bytes b r h.renaming bytes w.bytes e takes.held w.held in
+    absurd (w.refused (subst (Takes h.renaming.old h.renaming.new) (sym f) (subst (λ (x : Renaming). Takes x.old x.new bytes) (sym e) takes.takes)))
+
+-- a file that isn't taken is refused, unless memory ends or the store fails
+refused_reply : (words : List (List ℕ)) (b a : StoreState) (r : Renaming) → Asks words r → b.tells → RefusesFile r b.file → (SaysReadFault words b a → ⊥) → (SaysWriteFault words b a → ⊥) → (reply : Reply) → Holds words b a reply → (status_of reply ≡ 12) ⊎ (status_of reply ≡ 7)
+refused_reply words b a r asked tells refuses no_read no_write (Renamed n) h =
+    let w = h.wrote tells in
+    let e = one_renaming words h.renaming r h.asked asked in
+    let f = same_bytes b r h.renaming refuses.bytes w.bytes e refuses.held w.taken.held in
+    absurd (refuses.refused (subst (λ (x : Renaming). Takes x.old x.new refuses.bytes) e (subst (Takes h.renaming.old h.renaming.new) f w.taken.takes)))
+refused_reply words b a r asked tells refuses no_read no_write Usage h = absurd (h.0 r asked)
+refused_reply words b a r asked tells refuses no_read no_write ReadFault h = absurd (no_read h)
+refused_reply words b a r asked tells refuses no_read no_write WriteFault h = absurd (no_write h)
+refused_reply words b a r asked tells refuses no_read no_write WantOfMemory h = inr refl
+refused_reply words b a r asked tells refuses no_read no_write (NotQuick o) h = inl refl
+
+usage_reply : (words : List (List ℕ)) (b a : StoreState) → IsUsage words → (reply : Reply) → Holds words b a reply → (status_of reply ≡ 2) ⊎ (status_of reply ≡ 7)
+usage_reply words b a u (Renamed n) h = absurd (u h.renaming h.asked)
+usage_reply words b a u Usage h = inl refl
+usage_reply words b a u ReadFault h = absurd (u h.renaming h.asked)
+usage_reply words b a u WriteFault h = absurd (u h.renaming h.asked)
+usage_reply words b a u WantOfMemory h = inr refl
+usage_reply words b a u (NotQuick o) h = absurd (u h.renaming h.asked)
+
+first_of_three : (x y z n : ℕ) → n ≡ x → IsOneOf (x ∷ y ∷ z ∷ []) n
+first_of_three x y z n e = (0, lit< tt, sym e)
+
+second_of_three : (x y z n : ℕ) → n ≡ y → IsOneOf (x ∷ y ∷ z ∷ []) n
+second_of_three x y z n e = (1, lit< tt, sym e)
+
+third_of_three : (x y z n : ℕ) → n ≡ z → IsOneOf (x ∷ y ∷ z ∷ []) n
+third_of_three x y z n e = (2, lit< tt, sym e)
+
+pub usage_only_lem : (words : List (List ℕ)) (b a : StoreState) (s t : SinkState) (status : ℕ) → Answers words b a s t status → IsUsage words → IsOneOf (2 ∷ 6 ∷ 7 ∷ []) status
+usage_only_lem words b a s t status A u =
+    elim A.told [
+      inl k ↦ elim (usage_reply words b a u A.reply A.holds) [
+        inl e ↦ first_of_three 2 6 7 status (k.0 ∙ e)
+      | inr e ↦ third_of_three 2 6 7 status (k.0 ∙ e) ]
+    | inr k ↦ second_of_three 2 6 7 status k.0 ]
+
+no_read_rise : (words : List (List ℕ)) (b a : StoreState) (s t : SinkState) → NoFault b.read_faults a.read_faults b.write_faults a.write_faults s.faults t.faults → SaysReadFault words b a → ⊥
+no_read_rise words b a s t f h = f.read h.rose
+
+no_write_rise : (words : List (List ℕ)) (b a : StoreState) (s t : SinkState) → NoFault b.read_faults a.read_faults b.write_faults a.write_faults s.faults t.faults → SaysWriteFault words b a → ⊥
+no_write_rise words b a s t f h = f.write h.rose
+
+zero_or_seven : (status n : ℕ) (reply : Reply) → status ≡ status_of reply → (reply ≡ Renamed n) ⊎ (reply ≡ WantOfMemory) → (status ≡ 0) ⊎ (status ≡ 7)
+zero_or_seven status n reply e (inl k) = inl (e ∙ ap status_of k)
+zero_or_seven status n reply e (inr k) = inr (e ∙ ap status_of k)
+
+pub complete_lem : (words : List (List ℕ)) (b a : StoreState) (s t : SinkState) (status : ℕ) → Answers words b a s t status → (r : Renaming) (bytes : List ℕ) → Asks words r → b.tells → TakesFile r b.file bytes → NoFault b.read_faults a.read_faults b.write_faults a.write_faults s.faults t.faults → (status ≡ 0) ⊎ (status ≡ 7)
+complete_lem words b a s t status A r bytes asked tells takes f =
+    elim A.told [
+      inl k ↦ zero_or_seven status (token_count r.old bytes) A.reply k.0
+        (taken_reply words b a r bytes asked tells takes (no_read_rise words b a s t f) (no_write_rise words b a s t f) A.reply A.holds)
+    | inr k ↦ absurd (f.report k.1.rose) ]
+
+pub refuses_lem : (words : List (List ℕ)) (b a : StoreState) (s t : SinkState) (status : ℕ) → Answers words b a s t status → (r : Renaming) → Asks words r → b.tells → RefusesFile r b.file → NoFault b.read_faults a.read_faults b.write_faults a.write_faults s.faults t.faults → (status ≡ 12) ⊎ (status ≡ 7)
+refuses_lem words b a s t status A r asked tells refuses f =
+    elim A.told [
+      inl k ↦ elim (refused_reply words b a r asked tells refuses (no_read_rise words b a s t f) (no_write_rise words b a s t f) A.reply A.holds) [
+        inl e ↦ inl (k.0 ∙ e)
+      | inr e ↦ inr (k.0 ∙ e) ]
+    | inr k ↦ absurd (f.report k.1.rose) ]
+
+-- a told room that holds the file is no cause of a read fault, nor one that is enough of a write fault
+no_read_there : (words : List (List ℕ)) (b a : StoreState) (r : Renaming) (bytes : List ℕ) → Asks words r → b.tells_room → b.file r.file ≡ Some bytes → SaysReadFault words b a → ⊥
+no_read_there words b a r bytes asked room there h =
+    let e = one_renaming words h.renaming r h.asked asked in
+    let absent : ◌≡◌ {A = Option (List ℕ)} (Some bytes) None = sym there ∙ (sym (ap (λ (x : Renaming). b.file x.file) e) ∙ h.absent room) in cc
+
+no_write_there : (words : List (List ℕ)) (b a : StoreState) (r : Renaming) (bytes : List ℕ) → Asks words r → b.tells_room → b.file r.file ≡ Some bytes → (LacksRoom (b.file (target r)) b.names_left b.bytes_left (length (target r) + length (renamed_file r bytes)) → ⊥) → SaysWriteFault words b a → ⊥
+no_write_there words b a r bytes asked room held fits h =
+    let w = h.lacks room in
+    let e = one_renaming words h.renaming r h.asked asked in
+    let f = same_bytes b r h.renaming bytes w.bytes e held w.taken.held in
+    fits (subst (λ c. LacksRoom (b.file (target r)) b.names_left b.bytes_left (length (target r) + length (renamed_file r c))) f
+    (subst (λ (x : Renaming). LacksRoom (b.file (target x)) b.names_left b.bytes_left (length (target x) + length (renamed_file x w.bytes))) e w.lacks))
+
+pub absent_lem : (words : List (List ℕ)) (b a : StoreState) (s t : SinkState) (status : ℕ) → Answers words b a s t status → status ≡ 3 → b.tells_room → (r : Renaming) → Asks words r → b.file r.file ≡ None
+absent_lem words b a s t status A e room r asked =
+    let h = read_fault_lem words b a s t status A e in
+    sym (ap (λ (x : Renaming). b.file x.file) (one_renaming words h.renaming r h.asked asked)) ∙ h.absent room
+
+pub lacks_lem : (words : List (List ℕ)) (b a : StoreState) (s t : SinkState) (status : ℕ) → Answers words b a s t status → status ≡ 4 → b.tells_room → (r : Renaming) → Asks words r → LacksRoomFor r b.file b.names_left b.bytes_left
+lacks_lem words b a s t status A e room r asked =
+    let h = write_fault_lem words b a s t status A e in
+    subst (λ (x : Renaming). LacksRoomFor x b.file b.names_left b.bytes_left) (one_renaming words h.renaming r h.asked asked) (h.lacks room)
+
+pub part_lem : (words : List (List ℕ)) (b a : StoreState) (s t : SinkState) (status : ℕ) → Answers words b a s t status → status ≡ 4 → b.tells → (r : Renaming) → Asks words r → WritesPart r b.file a.file
+part_lem words b a s t status A e tells r asked =
+    let h = write_fault_lem words b a s t status A e in
+    subst (λ (x : Renaming). WritesPart x b.file a.file) (one_renaming words h.renaming r h.asked asked) (h.part tells)
+
+pub written_lem : (words : List (List ℕ)) (b a : StoreState) (s t : SinkState) (status : ℕ) → Answers words b a s t status → status ≡ 0 → b.tells → (r : Renaming) → Asks words r → WritesFile r b.file a.file
+written_lem words b a s t status A e tells r asked =
+    let h = (renamed_lem words b a s t status A e).1 in
+    subst (λ (x : Renaming). WritesFile x b.file a.file) (one_renaming words h.renaming r h.asked asked) (h.wrote tells)
+
+pub not_taken_lem : (words : List (List ℕ)) (b a : StoreState) (s t : SinkState) (status : ℕ) → Answers words b a s t status → status ≡ 12 → b.tells → (r : Renaming) → Asks words r → RefusesFile r b.file
+not_taken_lem words b a s t status A e tells r asked =
+    let h = not_quick_lem words b a s t status A e in
+    subst (λ (x : Renaming). RefusesFile x b.file) (one_renaming words h.renaming r h.asked asked) (h.refused tells)
+
+pub sink_lacks_lem : (words : List (List ℕ)) (b a : StoreState) (s t : SinkState) (status : ℕ) → Answers words b a s t status → s.tells_room → status ≡ 6 → SinkLacksRoom words b a s.room
+sink_lacks_lem words b a s t status A room e = record {
+  reply = A.reply;
+  holds = A.holds;
+  lacks = (sink_fault_lem words b a s t status A e).lacks room;
+}
+
+report_length : (n : ℕ) → length (report_of WantOfMemory) ≤ length (report_of (Renamed n))
+report_length n =
+    simp length-append (omega arith)
+
+fits_reply : (n room : ℕ) (reply : Reply) → length (report_of (Renamed n)) ≤ room → (reply ≡ Renamed n) ⊎ (reply ≡ WantOfMemory) → room < length (report_of reply) → ⊥
+fits_reply n room reply h (inl e) k =
+    let g = subst (λ (x : Reply). room < length (report_of x)) e k in omega arith
+fits_reply n room reply h (inr e) k =
+    let g = subst (λ (x : Reply). room < length (report_of x)) e k in
+    let p = report_length n in omega (arith, g, p, h)
+
+pub sure_lem : (words : List (List ℕ)) (b a : StoreState) (s t : SinkState) (status : ℕ) → Answers words b a s t status → (b.tells_room → b.tells) → (r : Renaming) (bytes : List ℕ) → Asks words r → b.tells_room → s.tells_room → TakesFile r b.file bytes → IsRoomFor r b.file bytes b.names_left b.bytes_left s.room → (status ≡ 0) ⊎ (status ≡ 7)
+sure_lem words b a s t status A law r bytes asked room sink takes fits =
+    let reply = taken_reply words b a r bytes asked (law room) takes
+          (no_read_there words b a r bytes asked room takes.held)
+          (no_write_there words b a r bytes asked room takes.held fits.store) A.reply A.holds in
+    elim A.told [
+      inl k ↦ zero_or_seven status (token_count r.old bytes) A.reply k.0 reply
+    | inr k ↦ absurd (fits_reply (token_count r.old bytes) s.room A.reply fits.sink reply (k.1.lacks sink)) ]
+
+pub untouched_lem : (words : List (List ℕ)) (b a : StoreState) (s t : SinkState) (status : ℕ) → Answers words b a s t status → (status ≡ 0 → ⊥) → (status ≡ 4 → ⊥) → (status ≡ 6 → ⊥) → Kept b a
+untouched_lem words b a s t status A p q k =
+    elim A.told [
+      inl e ↦ on_others words b a A.reply A.holds (λ z. p (e.0 ∙ z)) (λ z. q (e.0 ∙ z))
+    | inr e ↦ absurd (k e.0) ]
+
+status_is : (r : Reply) → IsOneOf (0 ∷ 2 ∷ 3 ∷ 4 ∷ 6 ∷ 7 ∷ 12 ∷ []) (status_of r)
+status_is (Renamed n) = (0, lit< tt, refl)
+status_is Usage = (1, lit< tt, refl)
+status_is ReadFault = (2, lit< tt, refl)
+status_is WriteFault = (3, lit< tt, refl)
+status_is WantOfMemory = (5, lit< tt, refl)
+status_is (NotQuick o) = (6, lit< tt, refl)
+
+pub statuses_lem : (words : List (List ℕ)) (b a : StoreState) (s t : SinkState) (status : ℕ) → Answers words b a s t status → IsOneOf (0 ∷ 2 ∷ 3 ∷ 4 ∷ 6 ∷ 7 ∷ 12 ∷ []) status
+statuses_lem words b a s t status A =
+    elim A.told [
+      inl e ↦ subst (IsOneOf (0 ∷ 2 ∷ 3 ∷ 4 ∷ 6 ∷ 7 ∷ 12 ∷ [])) (sym e.0) (status_is A.reply)
+    | inr e ↦ subst (IsOneOf (0 ∷ 2 ∷ 3 ∷ 4 ∷ 6 ∷ 7 ∷ 12 ∷ [])) (sym e.0) (4, lit< tt, refl) ]
+
+pub behaviour_lem : RenamingKeepsBehaviour → ((w : List ℕ) → is_new_name w ≡ true → is_name w ≡ true) → (words : List (List ℕ)) (b a : StoreState) (s t : SinkState) (status : ℕ) → Answers words b a s t status → status ≡ 0 → b.tells → (r : Renaming) → Asks words r → BehaviourIsKept r b.file a.file
+behaviour_lem law names words b a s t status A e tells r asked bytes renamed held after =
+    let w = written_lem words b a s t status A e tells r asked in
+    let f = same_bytes b r r bytes w.bytes refl held w.taken.held in
+    let stands : a.file (target r) ≡ Some (renamed_file r bytes) = w.put.named ∙ ap (λ c. Some (renamed_file r c)) f in
+    let content : renamed ≡ renamed_file r bytes = let g : ◌≡◌ {A = Option (List ℕ)} (Some renamed) (Some (renamed_file r bytes)) = sym after ∙ stands in cc in
+    subst (KeepsBehaviour bytes) (sym content)
+    (law r.old r.new bytes (names r.new asked.good.new) (subst (Takes r.old r.new) f w.taken.takes))

@@ -1,0 +1,10 @@
+use Rattle.std.proofs.Common.{map}
+use Rattle.std.specs.String.{string_bytes}
+use Rattle.morpheus_top.proofs.WordLemmas.{new_name_is_name}
+use Rattle.morpheus_top.proofs.top.answer.Goals as goal
+
+pub quick-requires : goal.quick-requires
+quick-requires g c = new_name_is_name c.in-Some.renaming.new.now c.in-Some.ensures.good.new
+
+pub returns-in-Some : goal.returns-in-Some
+returns-in-Some g c = c.quick.ensures (map string_bytes c.args.words.now) c.in-Some.ensures

@@ -1,0 +1,54 @@
+use Rattle.morpheus_top.proofs.WordLemmas.{new_name_is_name}
+use Rattle.morpheus_top.proofs.Promises.{statuses_lem, usage_lem, usage_only_lem, read_fault_lem, write_fault_lem, sink_fault_lem, not_taken_lem, complete_lem, refuses_lem, written_lem, part_lem, untouched_lem, absent_lem, lacks_lem, sink_lacks_lem, sure_lem, behaviour_lem}
+use Rattle.morpheus_top.proofs.top.morpheus.Goals as goal
+
+pub returns-clause-statuses : goal.returns-clause-statuses
+returns-clause-statuses g c = statuses_lem _ _ _ _ _ _ c.serve.ensures
+
+pub returns-clause-usage : goal.returns-clause-usage
+returns-clause-usage g c = usage_lem _ _ _ _ _ _ c.serve.ensures
+
+pub returns-clause-usage_only : goal.returns-clause-usage_only
+returns-clause-usage_only g c = usage_only_lem _ _ _ _ _ _ c.serve.ensures
+
+pub returns-clause-read_fault : goal.returns-clause-read_fault
+returns-clause-read_fault g c = λ e. (read_fault_lem _ _ _ _ _ _ c.serve.ensures e).rose
+
+pub returns-clause-write_fault : goal.returns-clause-write_fault
+returns-clause-write_fault g c = λ e. (write_fault_lem _ _ _ _ _ _ c.serve.ensures e).rose
+
+pub returns-clause-sink_fault : goal.returns-clause-sink_fault
+returns-clause-sink_fault g c = λ e. (sink_fault_lem _ _ _ _ _ _ c.serve.ensures e).rose
+
+pub returns-clause-not_quick : goal.returns-clause-not_quick
+returns-clause-not_quick g c = not_taken_lem _ _ _ _ _ _ c.serve.ensures
+
+pub returns-clause-complete : goal.returns-clause-complete
+returns-clause-complete g c = λ f t r bytes a k. complete_lem _ _ _ _ _ _ c.serve.ensures r bytes a t k f
+
+pub returns-clause-refuses : goal.returns-clause-refuses
+returns-clause-refuses g c = λ f t r a k. refuses_lem _ _ _ _ _ _ c.serve.ensures r a t k f
+
+pub returns-clause-written : goal.returns-clause-written
+returns-clause-written g c = written_lem _ _ _ _ _ _ c.serve.ensures
+
+pub returns-clause-in_part : goal.returns-clause-in_part
+returns-clause-in_part g c = part_lem _ _ _ _ _ _ c.serve.ensures
+
+pub returns-clause-untouched : goal.returns-clause-untouched
+returns-clause-untouched g c = untouched_lem _ _ _ _ _ _ c.serve.ensures
+
+pub returns-clause-absent : goal.returns-clause-absent
+returns-clause-absent g c = absent_lem _ _ _ _ _ _ c.serve.ensures
+
+pub returns-clause-store_full : goal.returns-clause-store_full
+returns-clause-store_full g c = lacks_lem _ _ _ _ _ _ c.serve.ensures
+
+pub returns-clause-sink_full : goal.returns-clause-sink_full
+returns-clause-sink_full g c = λ e t. sink_lacks_lem _ _ _ _ _ _ c.serve.ensures t e
+
+pub returns-clause-sure : goal.returns-clause-sure
+returns-clause-sure g c = λ t k r bytes a f h. sure_lem _ _ _ _ _ _ c.serve.ensures (g.met.S.Store.room_is_told c.args.store.now) r bytes a t k f h
+
+pub returns-clause-behaviour : goal.returns-clause-behaviour
+returns-clause-behaviour g c = behaviour_lem c.renaming_keeps_behaviour.ensures new_name_is_name _ _ _ _ _ _ c.serve.ensures

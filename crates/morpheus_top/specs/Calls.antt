@@ -1,0 +1,97 @@
+-- What is true of the words, the store and the sink when a call has replied.
+use Rattle.std.specs.Prelude.{◌≡◌, ℕ, ◌<◌, ◌+◌, List, ◌++◌, length, Some, None, ◌⊎◌}
+use Rattle.quick_form.specs.Renaming.{renamed_bytes, token_count}
+use Rattle.quick_form.specs.Quick.{Takes}
+use Rattle.text_edits.specs.Files.{Lookup}
+use Rattle.project_store.specs.Lookup.{PutsFile, LeavesPart}
+use Rattle.project_store.specs.Faults.{Rose}
+use Rattle.project_store.specs.Room.{LacksRoom}
+use Rattle.morpheus_top.specs.Words.{Renaming, target, Asks, IsUsage}
+use Rattle.morpheus_top.specs.declared.replies.Reply.{Reply}
+use Rattle.morpheus_top.specs.declared.replies.Reply.TheVariants.{Renamed, Usage, ReadFault, WriteFault, WantOfMemory, NotQuick}
+use Rattle.morpheus_top.specs.Replies.{status_of, report_of}
+use Rattle.morpheus_top.specs.Sinks.{TookFront}
+use Rattle.morpheus_top.specs.States.{StoreState, SinkState, Kept}
+
+abbrev pub renamed_file : Renaming → List ℕ → List ℕ
+renamed_file r bytes = renamed_bytes r.old r.new bytes
+
+-- these are the bytes of the file that is asked for, and it is taken
+pub record TakesFile (r : Renaming) (files : Lookup) (bytes : List ℕ) : Type 0 where
+  pub held : files r.file ≡ Some bytes
+  pub takes : Takes r.old r.new bytes
+
+-- the file that is asked for isn't taken
+pub record RefusesFile (r : Renaming) (files : Lookup) : Type 0 where
+  pub bytes : List ℕ
+  pub held : files r.file ≡ Some bytes
+  pub refused : Takes r.old r.new bytes → ⊥
+
+-- The renamed file stands under its name and every other name is as before.
+pub record WritesFile (r : Renaming) (before after : Lookup) : Type 0 where
+  pub bytes : List ℕ
+  pub taken : TakesFile r before bytes
+  pub put : PutsFile before (target r) (renamed_file r bytes) after
+
+-- Under the name stands a prefix of the renamed file or what stood there, and every other name is as before.
+pub record WritesPart (r : Renaming) (before after : Lookup) : Type 0 where
+  pub bytes : List ℕ
+  pub taken : TakesFile r before bytes
+  pub left : LeavesPart before (target r) (renamed_file r bytes) after
+
+-- the room is too small for the renamed file
+pub record LacksRoomFor (r : Renaming) (files : Lookup) (names_left bytes_left : ℕ) : Type 0 where
+  pub bytes : List ℕ
+  pub taken : TakesFile r files bytes
+  pub lacks : LacksRoom (files (target r)) names_left bytes_left (length (target r) + length (renamed_file r bytes))
+
+pub record SaysReadFault (words : List (List ℕ)) (before after : StoreState) : Type 0 where
+  pub renaming : Renaming
+  pub asked : Asks words renaming
+  pub rose : Rose before.read_faults after.read_faults
+  pub kept : Kept before after
+  pub absent : before.tells_room → before.file renaming.file ≡ None
+
+pub record SaysWriteFault (words : List (List ℕ)) (before after : StoreState) : Type 0 where
+  pub renaming : Renaming
+  pub asked : Asks words renaming
+  pub rose : Rose before.write_faults after.write_faults
+  pub part : before.tells → WritesPart renaming before.file after.file
+  pub lacks : before.tells_room → LacksRoomFor renaming before.file before.names_left before.bytes_left
+
+pub record SaysNotQuick (words : List (List ℕ)) (before after : StoreState) : Type 0 where
+  pub renaming : Renaming
+  pub asked : Asks words renaming
+  pub kept : Kept before after
+  pub refused : before.tells → RefusesFile renaming before.file
+
+pub record SaysRenamed (words : List (List ℕ)) (before after : StoreState) (tokens : ℕ) : Type 0 where
+  pub renaming : Renaming
+  pub asked : Asks words renaming
+  pub wrote : before.tells → WritesFile renaming before.file after.file
+  pub counts : (told : before.tells) → tokens ≡ token_count renaming.old (wrote told).bytes
+
+-- the cause of a reply, and what it says of the store
+abbrev pub Holds : List (List ℕ) → StoreState → StoreState → Reply → Type 0
+Holds words before after (Renamed tokens) = SaysRenamed words before after tokens
+Holds words before after Usage = IsUsage words × Kept before after
+Holds words before after ReadFault = SaysReadFault words before after
+Holds words before after WriteFault = SaysWriteFault words before after
+Holds words before after WantOfMemory = Kept before after
+Holds words before after (NotQuick offset) = SaysNotQuick words before after
+
+-- the sink took the whole report
+abbrev pub Reports : SinkState → SinkState → Reply → Type 0
+Reports before after reply = before.tells → after.taken ≡ before.taken ++ report_of reply
+
+-- the sink failed, and took a front of the report; where it tells its room, that was too small for the report
+pub record BreaksOff (before after : SinkState) (reply : Reply) : Type 0 where
+  pub rose : Rose before.faults after.faults
+  pub front : before.tells → TookFront before.taken (report_of reply) after.taken
+  pub lacks : before.tells_room → before.room < length (report_of reply)
+
+-- what a call answered: a reply with its cause, its status and its report; or 6 where the sink failed in the report
+pub record Answers (words : List (List ℕ)) (before after : StoreState) (sink sink' : SinkState) (status : ℕ) : Type 0 where
+  pub reply : Reply
+  pub holds : Holds words before after reply
+  pub told : ((status ≡ status_of reply) × Reports sink sink' reply) ⊎ ((status ≡ 6) × BreaksOff sink sink' reply)

@@ -1,0 +1,39 @@
+-- What a caller may rely on, status by status; all of it follows from `Answers`.
+use Rattle.std.specs.Prelude.{◌≡◌, ℕ, ◌<◌, ◌≤◌, ◌+◌, List, [], ◌∷◌, length, Some, None, Contains}
+use Rattle.quick_form.specs.Quick.{KeepsBehaviour}
+use Rattle.quick_form.specs.Renaming.{token_count}
+use Rattle.text_edits.specs.Files.{Lookup}
+use Rattle.project_store.specs.Faults.{Rose}
+use Rattle.project_store.specs.Room.{LacksRoom}
+use Rattle.morpheus_top.specs.declared.replies.Reply.{Reply}
+use Rattle.morpheus_top.specs.declared.replies.Reply.TheVariants.{Renamed}
+use Rattle.morpheus_top.specs.Words.{Renaming, target, Asks}
+use Rattle.morpheus_top.specs.Replies.{report_of}
+use Rattle.morpheus_top.specs.States.{StoreState, SinkState}
+use Rattle.morpheus_top.specs.Calls.{TakesFile, renamed_file, Holds}
+
+-- n is one of the numbers
+abbrev pub IsOneOf : List ℕ → ℕ → Type 0
+IsOneOf numbers n = Contains numbers n
+
+-- In every configuration the file that was read and the one that stands under its new name are accepted alike and run alike.
+abbrev pub BehaviourIsKept : Renaming → Lookup → Lookup → Type 0
+BehaviourIsKept r before after =
+    (bytes renamed : List ℕ) → before r.file ≡ Some bytes → after (target r) ≡ Some renamed → KeepsBehaviour bytes renamed
+
+-- none of the three counts of faults rose: of reads, of writes, and of the sink
+pub record NoFault (reads reads' writes writes' reports reports' : ℕ) : Type 0 where
+  pub read : Rose reads reads' → ⊥
+  pub write : Rose writes writes' → ⊥
+  pub report : Rose reports reports' → ⊥
+
+-- the sink's room was too small for the report of a reply whose cause holds
+pub record SinkLacksRoom (words : List (List ℕ)) (before after : StoreState) (room : ℕ) : Type 0 where
+  pub reply : Reply
+  pub holds : Holds words before after reply
+  pub lacks : room < length (report_of reply)
+
+-- the room is enough for the renamed file, and for the report of it
+pub record IsRoomFor (r : Renaming) (files : Lookup) (bytes : List ℕ) (names_left bytes_left room : ℕ) : Type 0 where
+  pub store : LacksRoom (files (target r)) names_left bytes_left (length (target r) + length (renamed_file r bytes)) → ⊥
+  pub sink : length (report_of (Renamed (token_count r.old bytes))) ≤ room

@@ -1,0 +1,76 @@
+-- The steps of `quick`: what is planned for the bytes of a file, and what becomes of the plan.
+use Rattle.std.specs.Prelude.{◌≡◌, ℕ, ◌+◌, List, length, ◌⊎◌}
+use Rattle.std.specs.String.{string_bytes}
+use Rattle.quick_form.specs.Renaming.{renamed_bytes, token_count}
+use Rattle.quick_form.specs.Quick.{Takes}
+use Rattle.project_store.specs.Lookup.{PutsFile, LeavesPart}
+use Rattle.project_store.specs.Faults.{Rose}
+use Rattle.project_store.specs.Room.{LacksRoom}
+use Rattle.morpheus_top.specs.declared.replies.Reply.{Reply}
+use Rattle.morpheus_top.specs.declared.replies.Reply.TheVariants.{Renamed, Usage, ReadFault, WriteFault, WantOfMemory, NotQuick}
+use Rattle.morpheus_top.specs.declared.words.Renaming.{Renaming as Words}
+use Rattle.morpheus_top.specs.declared.quick.Plan.{Plan}
+use Rattle.morpheus_top.specs.declared.quick.Plan.TheVariants.{Say, Write}
+use Rattle.morpheus_top.specs.Words.{Renaming, target}
+use Rattle.morpheus_top.specs.States.{StoreState, Kept}
+use Rattle.morpheus_top.specs.Calls.{renamed_file}
+
+-- the renaming that the words ask for
+abbrev pub asked : Words → Renaming
+asked r = record { file = r.file.now; old = r.old.now; new = r.new.now; out = r.out.now }
+
+pub record RefusesBytes (r : Renaming) (bytes : List ℕ) (reply : Reply) : Type 0 where
+  pub offset : ℕ
+  pub reply_is : reply ≡ NotQuick offset
+  pub refused : Takes r.old r.new bytes → ⊥
+
+pub record RenamesBytes (r : Renaming) (bytes name content : List ℕ) (reply : Reply) : Type 0 where
+  pub tokens : ℕ
+  pub reply_is : reply ≡ Renamed tokens
+  pub takes : Takes r.old r.new bytes
+  pub tokens_are : tokens ≡ token_count r.old bytes
+  pub name_is : name ≡ target r
+  pub content_is : content ≡ renamed_file r bytes
+
+abbrev pub IsPlan : Renaming → List ℕ → Plan → Type 0
+IsPlan r bytes (Say answer) = RefusesBytes r bytes answer.reply
+IsPlan r bytes (Write name content answer) = RenamesBytes r bytes (string_bytes name) content.items answer.reply
+
+-- the bytes stand under the name
+pub record IsWritten (before after : StoreState) (name content : List ℕ) (planned reply : Reply) : Type 0 where
+  pub reply_is : reply ≡ planned
+  pub put : before.tells → PutsFile before.file name content after.file
+
+-- the store failed to write
+pub record IsBroken (before after : StoreState) (name content : List ℕ) (reply : Reply) : Type 0 where
+  pub reply_is : reply ≡ WriteFault
+  pub rose : Rose before.write_faults after.write_faults
+  pub left : before.tells → LeavesPart before.file name content after.file
+  pub lacks : before.tells_room → LacksRoom (before.file name) before.names_left before.bytes_left (length name + length content)
+
+abbrev pub IsCarriedOut : StoreState → StoreState → Plan → Reply → Type 0
+IsCarriedOut before after (Say answer) reply = (reply ≡ answer.reply) × Kept before after
+IsCarriedOut before after (Write name content answer) reply =
+    IsWritten before after (string_bytes name) content.items answer.reply reply
+    ⊎ IsBroken before after (string_bytes name) content.items reply
+
+pub record RanWhole (r : Renaming) (bytes : List ℕ) (before after : StoreState) (tokens : ℕ) : Type 0 where
+  pub takes : Takes r.old r.new bytes
+  pub tokens_are : tokens ≡ token_count r.old bytes
+  pub put : before.tells → PutsFile before.file (target r) (renamed_file r bytes) after.file
+
+pub record RanInPart (r : Renaming) (bytes : List ℕ) (before after : StoreState) : Type 0 where
+  pub takes : Takes r.old r.new bytes
+  pub rose : Rose before.write_faults after.write_faults
+  pub left : before.tells → LeavesPart before.file (target r) (renamed_file r bytes) after.file
+  pub lacks : before.tells_room → LacksRoom (before.file (target r)) before.names_left before.bytes_left
+    (length (target r) + length (renamed_file r bytes))
+
+-- what became of the bytes of the file
+abbrev pub Ran : Renaming → List ℕ → StoreState → StoreState → Reply → Type 0
+Ran r bytes before after (Renamed tokens) = RanWhole r bytes before after tokens
+Ran r bytes before after WriteFault = RanInPart r bytes before after
+Ran r bytes before after WantOfMemory = Kept before after
+Ran r bytes before after (NotQuick offset) = (Takes r.old r.new bytes → ⊥) × Kept before after
+Ran r bytes before after Usage = ⊥
+Ran r bytes before after ReadFault = ⊥

@@ -1,0 +1,12 @@
+//! All that the program does: a command is carried out over a store, and its report given to a sink.
+#![tactic(auto)]
+
+mod give;
+mod quick;
+mod replies;
+mod top;
+mod words;
+
+
+pub use replies::Reply;
+pub use top::morpheus;

@@ -1,0 +1,19 @@
+use Rattle.std.specs.Prelude.{ℕ, ◌+◌, ◌-◌, ◌^◌, ◌≤◌, min, Bool, true, false}
+
+-- the count after one more: it stands still at the end of `u64`
+abbrev pub raised : ℕ → ℕ
+raised count = min (count + 1) (2 ^ 64 - 1)
+
+-- a count of faults after a call: one more where the call was a fault
+abbrev pub count_after : Bool → ℕ → ℕ
+count_after true count = raised count
+count_after false count = count
+
+-- the count is greater than before, or stands at the end of `u64`
+abbrev pub Rose : ℕ → ℕ → Type 0
+Rose before now = raised before ≤ now
+
+-- the count didn't fall, and it rose where there was a fault
+pub record HasCause (before now : ℕ) (fault : Type 0) : Type 0 where
+  pub kept : before ≤ now
+  pub rose : fault → Rose before now

@@ -1,0 +1,18 @@
+//! The outside: where files are read and written, and where a report goes.
+//!
+//! `Store` and `Sink` say what may be relied on, whatever is behind them. The stores and sinks here
+//! live in memory: `MemoryStore` and `MemorySink` fail at calls that are chosen beforehand,
+//! `SureStore` and `SureSink` have their room reserved and fail for want of room alone.
+#![tactic(auto)]
+
+mod calls;
+mod lookup;
+mod memory_sink;
+mod memory_store;
+mod sink;
+mod store;
+
+pub use memory_sink::MemorySink;
+pub use memory_store::MemoryStore;
+pub use sink::{Sink, SinkFailed};
+pub use store::{Store, StoreFault, WriteFailed};

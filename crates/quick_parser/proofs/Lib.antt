@@ -1,0 +1,10 @@
+pub mod Complete
+pub mod Language
+pub mod Backwards
+pub mod Sound
+pub mod TestNotes
+pub mod Declared
+pub mod Machine
+pub mod NameLemmas
+pub mod FrameLemmas
+pub mod SymbolKinds

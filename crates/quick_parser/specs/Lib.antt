@@ -1,0 +1,4 @@
+pub mod Spots
+pub mod Steps
+pub mod Completion
+pub mod Laws
