@@ -12,6 +12,7 @@ use crate::quick::quick;
 use crate::replies::Answer;
 use crate::words::asked_renaming;
 use project_store::{Sink, Store};
+use quick_form::renaming_keeps_behaviour;
 use std::alloc::Global;
 
 /// The status where the sink failed.
@@ -108,5 +109,7 @@ pub fn morpheus<S: Store, K: Sink>(
         → IsRoomFor r (S.file store.old) bytes (S.names_left store.old) (S.bytes_left store.old) (K.room out.old)
         → (result ≡ 0) ⊎ (result ≡ 7) }
 {
+    // The law behind the clause on behaviour; it does nothing.
+    renaming_keeps_behaviour();
     serve(alloc, words, store, out)
 }

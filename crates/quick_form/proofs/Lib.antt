@@ -1,3 +1,8 @@
+mod Examples
+pub mod LexingPieces
+mod LexingWords
+mod LexingLines
+mod LexingItems
 pub mod Reading
 pub mod Swap
 pub mod Changed

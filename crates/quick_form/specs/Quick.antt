@@ -1,11 +1,11 @@
 -- What `quick` takes, and what it promises.
-use Rattle.std.specs.Prelude.{◌≡◌, ◌↔◌, ℕ, Bool, true, false, List, [], ◌∷◌}
+use Rattle.std.specs.Prelude.{◌≡◌, ◌↔◌, ℕ, Bool, true, false, List, map}
 use Rattle.std.specs.List.{list_any}
 use Rattle.std.specs.Str.{bytes_eq}
 use Rattle.quick_form.specs.Words.{is_name}
 use Rattle.quick_form.specs.Symbols.{symbols_of, tested_names, uses, mentions}
 use Rattle.quick_form.specs.Form.{Items, Reads, IsForm, declared_names}
-use Rattle.quick_form.specs.Renaming.{renamed_bytes, renamed_items}
+use Rattle.quick_form.specs.Renaming.{renamed_bytes, renamed_symbol, renamed_items}
 use Rattle.quick_form.specs.Program.{program, IsAccepted}
 use Rattle.quick_form.specs.Run.{run}
 
@@ -34,6 +34,12 @@ pub record KeepsBehaviour (before after : List ℕ) : Type 0 where
 -- a file reads as one list of items at most
 abbrev pub OneReading : Type 0
 OneReading = (bytes : List ℕ) (a b : Items) → Reads bytes a → Reads bytes b → a ≡ b
+
+-- the renamed file spells the renamed symbols
+abbrev pub RenamedSymbols : Type 0
+RenamedSymbols =
+    (old new bytes : List ℕ) → is_name old ≡ true → is_name new ≡ true
+    → symbols_of (renamed_bytes old new bytes) ≡ map (renamed_symbol old new) (symbols_of bytes)
 
 -- the renamed file reads as the renamed items
 abbrev pub RenamedReads : Type 0

@@ -1,5 +1,5 @@
 -- A file with one name made another, and its items with the same change.
-use Rattle.std.specs.Prelude.{◌≡◌, ℕ, Bool, true, false, ◌==◌, List, [], ◌∷◌, ◌++◌, length, filter, map, if◌then◌else◌}
+use Rattle.std.specs.Prelude.{ℕ, List, [], ◌∷◌, map, if◌then◌else◌}
 use Rattle.std.specs.List.{flat_map, join_with_byte, count_by}
 use Rattle.std.specs.Str.{bytes_eq}
 use Rattle.quick_form.specs.Symbols.{Piece, Word, Other, Symbol, Name, pieces_of, solid_pieces, is_directive_line, lines_of, symbols_of, uses}
@@ -22,6 +22,11 @@ renamed_line old new line =
 -- the bytes with new for every token old, and every other byte as it is
 abbrev pub renamed_bytes : List ℕ → List ℕ → List ℕ → List ℕ
 renamed_bytes old new bytes = join_with_byte 10 (map (renamed_line old new) (lines_of bytes))
+
+-- a symbol with new for the name old; what directive lines test stays
+abbrev pub renamed_symbol : List ℕ → List ℕ → Symbol → Symbol
+renamed_symbol old new (Name x) = Name (renamed_word old new x)
+renamed_symbol old new s = s
 
 -- how many tokens are old, directive lines aside
 abbrev pub token_count : List ℕ → List ℕ → ℕ

@@ -29,6 +29,10 @@ pub data Piece : Type 0 where
   Word : List ℕ → Piece
   Other : ℕ → Piece
 
+abbrev pub piece_bytes : Piece → List ℕ
+piece_bytes (Word w) = w
+piece_bytes (Other b) = b ∷ []
+
 -- the pieces of a line that begins with a letter, digit or `_`, given those of what follows
 abbrev pub with_letter : ℕ → List Piece → List Piece
 with_letter b [] = Word (b ∷ []) ∷ []

@@ -2,4 +2,3 @@ pub mod Spots
 pub mod Steps
 pub mod Completion
 pub mod Laws
-pub mod View

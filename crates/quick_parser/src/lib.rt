@@ -6,7 +6,6 @@ mod laws;
 mod moves;
 mod parser;
 mod spots;
-mod symbols;
 mod tested;
 #[cfg(test)]
 mod tests;
@@ -18,4 +17,3 @@ pub use laws::{
 };
 pub use parser::{NoMemory, Parser};
 pub use spots::{Frame, Move, Place, SumEnd};
-pub use symbols::Symbol;

@@ -2,10 +2,10 @@
 ghost use Rattle.std.specs.Prelude.{◌≡◌, Some};
 ghost use Rattle.quick_parser.specs.Spots.{outside, inside, wanted, brace_move, endif_move, else_move, entry_move, declarator_move, initializer_move, void_move, operand_move, mark_move, declared_move, operator_move, end_mark, end_move, next_move};
 ghost use Rattle.quick_form.specs.Symbols.{While};
-ghost use Rattle.quick_parser.specs.View.{symbol_view};
+ghost use Rattle.quick_lexer.specs.View.{symbol_view};
 
 use crate::spots::{Frame, Move, Place, SumEnd};
-use crate::symbols::Symbol;
+use quick_lexer::Symbol;
 
 /// The most blocks that may be open at once.
 const MOST_BLOCKS: usize = 64;

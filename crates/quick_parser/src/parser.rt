@@ -6,13 +6,13 @@ ghost use Rattle.quick_parser.specs.declared.spots.Move.TheVariants.{Enter};
 ghost use Rattle.quick_parser.specs.declared.spots.Frame.TheVariants.{Group};
 ghost use Rattle.quick_parser.specs.Spots.{moved, spot_move};
 ghost use Rattle.quick_parser.specs.Steps.{start, with_test, noted, step, is_complete};
-ghost use Rattle.quick_parser.specs.View.{symbol_view};
+ghost use Rattle.quick_lexer.specs.View.{symbol_view};
 
 use crate::frames::OpenFrames;
 use crate::moves::next_move;
 use crate::spots::{Frame, Move, Place};
-use crate::symbols::Symbol;
 use crate::tested::TestedNames;
+use quick_lexer::Symbol;
 use std::alloc::{AllocError, Global};
 use std::marker::Model;
 

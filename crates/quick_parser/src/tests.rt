@@ -1,6 +1,6 @@
 //! Small files, symbol by symbol.
-use crate::symbols::Symbol::*;
 use crate::{Parser, Symbol};
+use quick_lexer::Symbol::*;
 use std::alloc::{AllocError, Global};
 use std::test::Fail;
 

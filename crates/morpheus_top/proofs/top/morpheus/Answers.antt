@@ -49,3 +49,6 @@ returns-clause-sink_full g c = λ e t. sink_lacks_lem _ _ _ _ _ _ c.serve.ensure
 
 pub returns-clause-sure : goal.returns-clause-sure
 returns-clause-sure g c = λ t k r bytes a f h. sure_lem _ _ _ _ _ _ c.serve.ensures (g.met.S.Store.room_is_told c.args.store.now) r bytes a t k f h
+
+pub returns-clause-behaviour : goal.returns-clause-behaviour
+returns-clause-behaviour g c = behaviour_lem c.renaming_keeps_behaviour.ensures new_name_is_name _ _ _ _ _ _ c.serve.ensures
