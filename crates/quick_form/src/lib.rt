@@ -33,5 +33,4 @@ pub fn renaming_keeps_behaviour()
 /// output of one that the bound cut off.
 pub fn runs_grow()
     ensures { RunsGrow }
-{
-}
+{}

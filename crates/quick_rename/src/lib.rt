@@ -16,9 +16,11 @@ mod visit;
 use crate::form::{Reading, read};
 use crate::scan::Scan;
 use crate::visit::visit;
-use quick_lexer::renamed;
 use quick_form::one_reading;
-use quick_parser::{complete_is_written, declared_behind_int, refused_is_unwritten, tests_are_kept, Parser};
+use quick_lexer::renamed;
+use quick_parser::{
+    Parser, complete_is_written, declared_behind_int, refused_is_unwritten, tests_are_kept,
+};
 use std::alloc::{AllocError, Global};
 
 /// What a renaming answers of a file.
