@@ -1,7 +1,6 @@
 -- Bytes that are given piece by piece.
-use Rattle.std.proofs.Common.{◌≡◌, ℕ, ◌++◌, ◌+◌, ◌-◌, ◌≤◌, List, [], ◌∷◌, length, take, drop, refl, sym, ◌∙◌, ap, arith, length-drop, append_assoc, Result, Ok, Err, OnErr}
+use Rattle.std.proofs.Common.{◌≡◌, ℕ, ◌++◌, ◌+◌, ◌-◌, ◌≤◌, List, length, take, drop, sym, ◌∙◌, ap, arith, length-drop, append_assoc, Result, Ok, Err, OnErr}
 use Rattle.std.proofs.Math.Seq.{take-add}
-use Rattle.project_store.specs.Lookup.{IsPrefix}
 use Rattle.morpheus_top.specs.Sinks.{TookFront}
 use Rattle.std.proofs.lemmas.List.{take_all, take-append-drop}
 

@@ -1,9 +1,7 @@
 -- What follows from a call's answer, status by status.
-use Rattle.std.proofs.Common.{◌≡◌, ◌≢◌, ◌⊎◌, inl, inr, ℕ, ◌+◌, ◌<◌, ◌≤◌, List, [], ◌∷◌, ◌++◌, length, Some, None, Option, IsSome, refl, sym, ◌∙◌, ap, subst, arith, codes, decimal, Contains, length-append, lit<, true}
+use Rattle.std.proofs.Common.{◌≡◌, ◌⊎◌, inl, inr, ℕ, ◌+◌, ◌<◌, ◌≤◌, List, [], ◌∷◌, length, Some, None, Option, refl, sym, ◌∙◌, ap, subst, arith, codes, length-append, lit<, true}
 use Rattle.quick_form.specs.Renaming.{token_count}
 use Rattle.quick_form.specs.Quick.{Takes, KeepsBehaviour, RenamingKeepsBehaviour}
-use Rattle.project_store.specs.Lookup.{SameFiles, PutsFile, LeavesPart}
-use Rattle.project_store.specs.Faults.{Rose}
 use Rattle.project_store.specs.Room.{LacksRoom}
 use Rattle.morpheus_top.specs.declared.replies.Reply.{Reply}
 use Rattle.morpheus_top.specs.declared.replies.Reply.TheVariants.{Renamed, Usage, ReadFault, WriteFault, WantOfMemory, NotQuick}
@@ -12,7 +10,7 @@ use Rattle.c_names.specs.Names.{is_new_name}
 use Rattle.morpheus_top.specs.Words.{Renaming, target, Asks, IsUsage}
 use Rattle.morpheus_top.specs.Replies.{status_of, report_of}
 use Rattle.morpheus_top.specs.States.{StoreState, SinkState, Kept}
-use Rattle.morpheus_top.specs.Calls.{TakesFile, RefusesFile, renamed_file, WritesFile, WritesPart, LacksRoomFor, SaysReadFault, SaysWriteFault, SaysNotQuick, SaysRenamed, Holds, Reports, BreaksOff, Answers}
+use Rattle.morpheus_top.specs.Calls.{TakesFile, RefusesFile, renamed_file, WritesFile, WritesPart, LacksRoomFor, SaysReadFault, SaysWriteFault, SaysNotQuick, SaysRenamed, Holds, BreaksOff, Answers}
 use Rattle.morpheus_top.specs.Promises.{IsOneOf, NoFault, SinkLacksRoom, IsRoomFor, BehaviourIsKept}
 
 -- words that ask for a renaming ask for that one alone

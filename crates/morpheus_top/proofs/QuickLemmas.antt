@@ -1,11 +1,11 @@
 -- The steps of `quick` joined.
-use Rattle.std.proofs.Common.{◌≡◌, ◌⊎◌, inl, inr, ℕ, ◌+◌, ◌≤◌, List, length, Some, None, Option, refl, sym, ◌∙◌, ap, subst, Vec, arith}
+use Rattle.std.proofs.Common.{◌≡◌, inl, inr, ℕ, ◌+◌, List, length, Some, sym, ◌∙◌, ap, subst, Vec}
 use Rattle.std.specs.String.{string_bytes}
 use Rattle.quick_form.specs.Renaming.{renamed_bytes, token_count}
 use Rattle.quick_form.specs.Quick.{Takes}
-use Rattle.project_store.specs.Lookup.{SameFiles, PutsFile, LeavesPart, HoldsPrefix}
-use Rattle.project_store.specs.Faults.{Rose, HasCause}
-use Rattle.project_store.specs.Room.{LacksRoom, names_taken}
+use Rattle.project_store.specs.Lookup.{SameFiles, PutsFile, LeavesPart}
+use Rattle.project_store.specs.Faults.{Rose}
+use Rattle.project_store.specs.Room.{LacksRoom}
 use Rattle.quick_rename.specs.declared.Answer.{Answer as File}
 use Rattle.quick_rename.specs.declared.Answer.TheVariants as file
 use Rattle.quick_rename.specs.Answer.{IsRenamed, IsAnswer}
@@ -15,8 +15,8 @@ use Rattle.morpheus_top.specs.declared.quick.Plan.{Plan}
 use Rattle.morpheus_top.specs.declared.quick.Plan.TheVariants.{Say, Write}
 use Rattle.morpheus_top.specs.Words.{Renaming, target, Asks}
 use Rattle.morpheus_top.specs.States.{StoreState, Kept}
-use Rattle.morpheus_top.specs.Calls.{TakesFile, renamed_file, WritesFile, WritesPart, LacksRoomFor, RefusesFile, SaysReadFault, SaysWriteFault, SaysNotQuick, SaysRenamed, Holds}
-use Rattle.morpheus_top.specs.Quick.{RefusesBytes, RenamesBytes, IsPlan, IsWritten, IsBroken, IsCarriedOut, RanWhole, RanInPart, Ran}
+use Rattle.morpheus_top.specs.Calls.{renamed_file, Holds}
+use Rattle.morpheus_top.specs.Quick.{RefusesBytes, RenamesBytes, IsPlan, IsWritten, IsBroken, IsCarriedOut, Ran}
 
 pub renames_bytes : (r : Renaming) (bytes old new : List ℕ) (a : File) (content : Vec ℕ _) (tokens : ℕ) (name : List ℕ) (reply : Reply) → old ≡ r.old → new ≡ r.new → IsAnswer old new bytes a → a ≡ file.Renamed content tokens → name ≡ target r → reply ≡ Renamed tokens → RenamesBytes r bytes name content.items reply
 renames_bytes r bytes old new a content tokens name reply p q h e n s =

@@ -1,5 +1,5 @@
 -- What a caller may rely on, status by status; all of it follows from `Answers`.
-use Rattle.std.specs.Prelude.{◌≡◌, ℕ, ◌<◌, ◌≤◌, ◌+◌, List, [], ◌∷◌, length, Some, None, Contains}
+use Rattle.std.specs.Prelude.{◌≡◌, ℕ, ◌<◌, ◌≤◌, ◌+◌, List, length, Some, Contains}
 use Rattle.quick_form.specs.Quick.{KeepsBehaviour}
 use Rattle.quick_form.specs.Renaming.{token_count}
 use Rattle.text_edits.specs.Files.{Lookup}
@@ -7,10 +7,10 @@ use Rattle.project_store.specs.Faults.{Rose}
 use Rattle.project_store.specs.Room.{LacksRoom}
 use Rattle.morpheus_top.specs.declared.replies.Reply.{Reply}
 use Rattle.morpheus_top.specs.declared.replies.Reply.TheVariants.{Renamed}
-use Rattle.morpheus_top.specs.Words.{Renaming, target, Asks}
+use Rattle.morpheus_top.specs.Words.{Renaming, target}
 use Rattle.morpheus_top.specs.Replies.{report_of}
-use Rattle.morpheus_top.specs.States.{StoreState, SinkState}
-use Rattle.morpheus_top.specs.Calls.{TakesFile, renamed_file, Holds}
+use Rattle.morpheus_top.specs.States.{StoreState}
+use Rattle.morpheus_top.specs.Calls.{renamed_file, Holds}
 
 -- n is one of the numbers
 abbrev pub IsOneOf : List ℕ → ℕ → Type 0

@@ -1,7 +1,7 @@
 -- The steps of `quick`: what is planned for the bytes of a file, and what becomes of the plan.
 use Rattle.std.specs.Prelude.{◌≡◌, ℕ, ◌+◌, List, length, ◌⊎◌}
 use Rattle.std.specs.String.{string_bytes}
-use Rattle.quick_form.specs.Renaming.{renamed_bytes, token_count}
+use Rattle.quick_form.specs.Renaming.{token_count}
 use Rattle.quick_form.specs.Quick.{Takes}
 use Rattle.project_store.specs.Lookup.{PutsFile, LeavesPart}
 use Rattle.project_store.specs.Faults.{Rose}

@@ -1,16 +1,16 @@
 -- What `quick` takes, renamed, is accepted and runs as before.
-use Rattle.std.proofs.Common.{◌≡◌, ◌↔◌, ℕ, Bool, true, false, not, ◌||◌, ◌==◌, List, [], ◌∷◌, ◌++◌, map, refl, sym, ◌∙◌, ap, subst, cond, codes, inl, inr}
+use Rattle.std.proofs.Common.{◌≡◌, ℕ, Bool, true, false, List, [], ◌∷◌, ◌++◌, map, refl, sym, ◌∙◌, ap, subst, cond, codes, inl, inr}
 use Rattle.std.proofs.lemmas.Bool.{cases_Bool}
 use Rattle.std.proofs.lemmas.Slice.Eq.{bytes_eq-Decides}
 use Rattle.std.specs.List.{list_any, flat_map, AllByRecursion}
 use Rattle.std.specs.Str.{bytes_eq}
 use Rattle.quick_form.specs.Words.{is_name, is_number, is_blank}
-use Rattle.quick_form.specs.Symbols.{Symbol, Int, Void, While, Return, Putchar, Main, Name, Number, Mark, Ifdef, Else, Endif, Malformed, Piece, Word, Other, word_symbol, piece_symbols, directive_symbol, line_symbols, lines_of, symbols_of, pieces_of, solid_pieces, is_directive_line, after_first_piece, mentions}
-use Rattle.quick_form.specs.Form.{Operand, Named, Literal, Term, Sum, Statements, no_more, assignment, output, return_of, loop, group, choice, Items, no_item, variable, initialised, main_with, item_group, item_choice, operand_symbol, write_terms, write_sum, write_statements, write_items, declared_names, Reads, IsWritten, IsForm}
-use Rattle.quick_form.specs.Renaming.{renamed_word, renamed_bytes, renamed_items, changed_items}
-use Rattle.quick_form.specs.Program.{Declaration, program, IsAccepted}
+use Rattle.quick_form.specs.Symbols.{Symbol, Name, Mark, Ifdef, Else, Endif, Malformed, Piece, Word, Other, word_symbol, piece_symbols, directive_symbol, line_symbols, lines_of, symbols_of, pieces_of, solid_pieces, is_directive_line, after_first_piece, mentions}
+use Rattle.quick_form.specs.Form.{Term, Sum, Statements, no_more, assignment, output, return_of, loop, group, choice, Items, no_item, variable, initialised, main_with, item_group, item_choice, write_terms, write_sum, write_statements, write_items, declared_names, Reads}
+use Rattle.quick_form.specs.Renaming.{renamed_bytes, renamed_items}
+use Rattle.quick_form.specs.Program.{program, IsAccepted}
 use Rattle.quick_form.specs.Run.{run}
-use Rattle.quick_form.specs.Quick.{Takes, Accepts, KeepsBehaviour, RenamedReads, RenamingKeepsBehaviour}
+use Rattle.quick_form.specs.Quick.{Takes, KeepsBehaviour, RenamedReads, RenamingKeepsBehaviour}
 use Rattle.quick_form.proofs.Reading.{one_reading_lem}
 use Rattle.quick_form.proofs.Swap.{swapped, swapped-undoes, items_swapped}
 use Rattle.quick_form.proofs.Changed.{changed_declaration, program_changed, accepted_either_way}

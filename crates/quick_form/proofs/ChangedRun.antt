@@ -1,8 +1,7 @@
 -- A program with its names changed, in a memory with its names changed, runs as before.
-use Rattle.std.proofs.Common.{◌≡◌, ℕ, zero, suc, ℤ, pos, ◌+ℤ◌, ◌-ℤ◌, Bool, true, false, List, [], ◌∷◌, ◌++◌, map, refl, sym, ◌∙◌, ap, cond, if◌then◌else◌, Option, Some, None, option_and_then}
+use Rattle.std.proofs.Common.{◌≡◌, ℕ, zero, suc, ℤ, pos, ◌+ℤ◌, ◌-ℤ◌, Bool, true, false, List, [], ◌∷◌, map, refl, sym, ◌∙◌, ap, cond, Option, Some, None, option_and_then}
 use Rattle.std.proofs.Math.Path.{fun_ext}
 use Rattle.std.specs.Str.{bytes_eq}
-use Rattle.quick_form.specs.Words.{value_of}
 use Rattle.quick_form.specs.Form.{Operand, Named, Literal, Term, Sum}
 use Rattle.quick_form.specs.Renaming.{changed_operand, changed_term, changed_sum}
 use Rattle.quick_form.specs.Program.{Code, done, assign, put, give, while_, Declaration, object, function, bodies}

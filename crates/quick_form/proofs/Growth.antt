@@ -1,8 +1,8 @@
 -- A larger bound, over code and turns.
 use Rattle.std.proofs.Common.{◌≡◌, ℕ, zero, suc, ◌≤◌, ℤ, Bool, true, false, List, [], ◌∷◌, ◌++◌, refl, sym, ◌∙◌, ap, subst, cond, Option, Some, None, arith, append_assoc, append-nil}
 use Rattle.quick_form.specs.Form.{Sum}
-use Rattle.quick_form.specs.Program.{Code, done, assign, put, give, while_, Declaration, bodies}
-use Rattle.quick_form.specs.Run.{Memory, with_value, sum_value, Outcome, Falls, Returns, Stops, Fails, behind, followed_by, given, is_zero, byte_of, turns, code_run, first_memory, answer_of, body_run, run, Answer}
+use Rattle.quick_form.specs.Program.{Code, done, assign, put, give, while_, bodies}
+use Rattle.quick_form.specs.Run.{Memory, with_value, sum_value, Outcome, Falls, Returns, Stops, Fails, behind, followed_by, given, is_zero, byte_of, turns, code_run, first_memory, answer_of, body_run}
 use Rattle.quick_form.specs.Growth.{output_of, GoesOn, RunsGrow}
 
 abbrev outcome_output : Outcome → List ℕ

@@ -1,7 +1,7 @@
 -- A file reads as one list of items at most: each symbol tells which item or statement it begins, or that a list ends.
 use Rattle.std.proofs.Common.{◌≡◌, ℕ, Bool, true, false, not, ◌&&◌, ◌==◌, List, [], ◌∷◌, refl, sym, ◌∙◌, ap, arith, if◌then◌else◌}
-use Rattle.quick_form.specs.Symbols.{Symbol, Int, Void, While, Return, Putchar, Main, Name, Number, Mark, Ifdef, Else, Endif, Malformed, symbols_of}
-use Rattle.quick_form.specs.Form.{Operand, Named, Literal, Term, Sum, Statements, no_more, assignment, output, return_of, loop, group, choice, Items, no_item, variable, initialised, main_with, item_group, item_choice, operand_symbol, write_terms, write_sum, write_statements, write_items, Reads}
+use Rattle.quick_form.specs.Symbols.{Symbol, Int, While, Return, Putchar, Name, Mark, Ifdef, Else, Endif}
+use Rattle.quick_form.specs.Form.{Operand, Named, Literal, Term, Sum, Statements, no_more, assignment, output, return_of, loop, group, choice, Items, no_item, variable, initialised, main_with, item_group, item_choice, operand_symbol, write_terms, write_sum, write_statements, write_items}
 use Rattle.quick_form.specs.Quick.{OneReading}
 
 -- no item and no statement begins with what stands here

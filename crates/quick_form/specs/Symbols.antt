@@ -1,6 +1,6 @@
 -- What the bytes of a file spell: the tokens of its lines, each directive line being one symbol.
-use Rattle.std.specs.Prelude.{ℕ, Bool, true, false, ◌==◌, not, List, [], ◌∷◌, ◌++◌, codes, if◌then◌else◌, filter, map}
-use Rattle.std.specs.List.{flat_map, slice_split, list_any}
+use Rattle.std.specs.Prelude.{ℕ, Bool, false, ◌==◌, not, List, [], ◌∷◌, codes, if◌then◌else◌, filter}
+use Rattle.std.specs.List.{flat_map, slice_split}
 use Rattle.std.specs.Str.{bytes_eq}
 use Rattle.quick_form.specs.Words.{is_word_byte, is_blank, is_name, is_number}
 

@@ -1,5 +1,5 @@
 -- The words of the quick form: names and decimal constants (ISO/IEC 9899:2011, 6.4.2, 6.4.4.1).
-use Rattle.std.specs.Prelude.{ℕ, ◌+◌, ◌-◌, ◌*◌, Bool, true, false, not, ◌&&◌, ◌||◌, ◌==◌, nat_le, List, [], ◌∷◌, codes}
+use Rattle.std.specs.Prelude.{ℕ, ◌+◌, ◌-◌, ◌*◌, Bool, false, not, ◌&&◌, ◌||◌, ◌==◌, nat_le, List, [], ◌∷◌, codes}
 use Rattle.std.specs.List.{list_all}
 use Rattle.std.specs.Str.{bytes_eq}
 pub use Rattle.c_names.specs.Names.{is_digit, is_nondigit, is_word_byte, is_identifier, keywords, is_keyword}

@@ -1,6 +1,5 @@
 -- A file spells no more symbols than it has bytes.
-use Rattle.std.proofs.Common.{◌≡◌, ℕ, ◌+◌, ◌≤◌, ◌<◌, ◌==◌, Bool, true, false, not, List, [], ◌∷◌, ◌++◌, length, refl, sym, ◌∙◌, ap, subst, cond, arith, length-append, inl, inr}
-use Rattle.std.proofs.lemmas.Bool.{cases_Bool}
+use Rattle.std.proofs.Common.{◌≡◌, ℕ, ◌+◌, ◌≤◌, ◌==◌, Bool, true, false, List, [], ◌∷◌, length, refl, cond, arith, length-append}
 use Rattle.std.specs.List.{flat_map, slice_split, onto_first}
 use Rattle.quick_form.specs.Words.{is_word_byte, is_blank}
 use Rattle.quick_form.specs.Symbols.{Symbol, Mark, Piece, Word, Other, with_letter, pieces_of, piece_symbols, is_directive_line, solid_pieces, line_symbols, lines_of, symbols_of}

@@ -1,10 +1,10 @@
 -- A file is taken or not, by the parser and by tests.
-use Rattle.std.proofs.Common.{◌≡◌, ◌⊎◌, inl, inr, ℕ, ◌≤◌, ◌<◌, nat_le, Bool, true, false, List, [], Option, Some, None, length, refl, sym, ◌∙◌, ap, subst, arith}
+use Rattle.std.proofs.Common.{◌≡◌, ◌⊎◌, inl, inr, ℕ, ◌≤◌, nat_le, Bool, true, false, List, Option, Some, None, length, refl, subst, arith}
 use Rattle.std.proofs.lemmas.Bool.{cases_Bool, leb-true, leb-false}
 use Rattle.std.specs.List.{list_any}
 use Rattle.std.specs.Str.{bytes_eq}
 use Rattle.quick_form.specs.Symbols.{Symbol, symbols_of, tested_names, uses, mentions}
-use Rattle.quick_form.specs.Form.{Items, Reads, declared_names, IsWritten, IsForm}
+use Rattle.quick_form.specs.Form.{Items, declared_names, IsWritten, IsForm}
 use Rattle.quick_form.specs.Quick.{Takes, OneReading}
 use Rattle.quick_parser.specs.Steps.{State, after, is_complete}
 use Rattle.quick_parser.specs.Laws.{RefusedIsUnwritten, CompleteIsWritten}

@@ -1,11 +1,11 @@
 -- What a walk of the parser says of the symbols.
-use Rattle.std.proofs.Common.{◌≡◌, true, false, List, [], ◌∷◌, ◌++◌, Option, Some, None, refl, sym, ◌∙◌, ap, subst, append_assoc, Bool}
+use Rattle.std.proofs.Common.{◌≡◌, true, false, List, [], ◌∷◌, ◌++◌, Option, Some, None, sym, ◌∙◌, ap, subst, append_assoc}
 use Rattle.quick_form.specs.Symbols.{Symbol}
 use Rattle.quick_form.specs.Form.{IsWritten}
 use Rattle.quick_parser.specs.Steps.{State, start, after, is_complete}
 use Rattle.quick_parser.specs.Laws.{RefusalsEnd, CompleteIsWritten}
 use Rattle.quick_rename.specs.declared.visit.Stop.{Stop}
-use Rattle.quick_rename.specs.Visits.{TakesAll, StopsIn, Visits}
+use Rattle.quick_rename.specs.Visits.{Visits}
 use Rattle.quick_rename.specs.Readings.{IsWhole}
 
 -- where the parser stopped, no file has these symbols

@@ -1,12 +1,12 @@
 -- What the walks over a file say of a renaming in it.
-use Rattle.std.proofs.Common.{◌≡◌, ℕ, ◌+◌, ◌-◌, ◌^◌, ◌≤◌, min, Bool, true, false, not, ◌||◌, List, [], ◌∷◌, ◌++◌, length, count_by, Option, Some, None, is_some, refl, sym, ◌∙◌, ap, subst, cond, arith}
+use Rattle.std.proofs.Common.{◌≡◌, ℕ, ◌-◌, ◌^◌, ◌≤◌, min, Bool, true, false, not, ◌||◌, List, [], ◌∷◌, length, count_by, Option, Some, None, is_some, refl, sym, ◌∙◌, ap, arith}
 use Rattle.std.proofs.lemmas.Bool.{or_parts}
 use Rattle.std.proofs.lemmas.List.Sums.{count_by-le-length}
 use Rattle.std.specs.List.{list_any}
 use Rattle.std.specs.Str.{bytes_eq}
-use Rattle.quick_form.specs.Symbols.{Symbol, Int, Void, While, Return, Putchar, Main, Name, Number, Mark, Ifdef, Else, Endif, Malformed, symbols_of, tested_names, uses, mentions}
-use Rattle.quick_form.specs.Form.{Items, write_items, declared_names, IsWritten, IsForm}
-use Rattle.quick_form.specs.Renaming.{renamed_bytes, token_count}
+use Rattle.quick_form.specs.Symbols.{Symbol, Name, symbols_of, tested_names, uses, mentions}
+use Rattle.quick_form.specs.Form.{declared_names, IsWritten}
+use Rattle.quick_form.specs.Renaming.{token_count}
 use Rattle.quick_form.specs.Quick.{Takes}
 use Rattle.quick_form.proofs.Swap.{bytes_eq-sym}
 use Rattle.quick_parser.specs.Steps.{State, after}
@@ -14,7 +14,7 @@ use Rattle.quick_parser.specs.Laws.{declares, DeclaredBehindInt, TestsAreKept}
 use Rattle.quick_rename.specs.declared.scan.Scan.{Scan}
 use Rattle.quick_rename.specs.declared.visit.Stop.{Stop}
 use Rattle.quick_rename.specs.Scans.{uses_one_of, scan_words, Scanned}
-use Rattle.quick_rename.specs.Visits.{TakesAll, StopsIn, Visits}
+use Rattle.quick_rename.specs.Visits.{Visits}
 use Rattle.quick_rename.specs.Readings.{IsWhole}
 use Rattle.quick_rename.proofs.Counting.{symbols_len}
 

@@ -1,10 +1,9 @@
 -- One symbol more on a walk that looks for the names of a renaming.
-use Rattle.std.proofs.Common.{◌≡◌, ℕ, ◌+◌, ◌-◌, ◌^◌, ◌≤◌, min, Bool, true, false, ◌||◌, ◌&&◌, cond, if◌then◌else◌, List, [], ◌∷◌, ◌++◌, length, count_by, is_some, refl, sym, ◌∙◌, ap, arith, zero-add, add-zero}
+use Rattle.std.proofs.Common.{◌≡◌, ℕ, ◌+◌, ◌-◌, ◌^◌, min, Bool, true, false, ◌||◌, ◌&&◌, cond, if◌then◌else◌, List, [], ◌∷◌, ◌++◌, count_by, is_some, refl, sym, ◌∙◌, ap, arith, zero-add, add-zero}
 use Rattle.std.proofs.lemmas.List.Sums.{sum_by-append}
 use Rattle.std.proofs.lemmas.List.Folds.{list_any-append}
 use Rattle.std.specs.List.{list_any}
-use Rattle.std.specs.Str.{bytes_eq}
-use Rattle.quick_form.specs.Symbols.{Symbol, Int, Void, While, Return, Putchar, Main, Name, Number, Mark, Ifdef, Else, Endif, Malformed, uses, mentions}
+use Rattle.quick_form.specs.Symbols.{Symbol, Int, Name, uses, mentions}
 use Rattle.quick_parser.specs.Laws.{declares, begins_with_name}
 use Rattle.quick_rename.specs.declared.scan.Scan.{Scan}
 use Rattle.quick_rename.specs.Scans.{is_int, ends_with_int, uses_one_of, Scanned}

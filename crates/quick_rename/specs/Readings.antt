@@ -1,8 +1,8 @@
 -- The reading of a file by the form's grammar.
-use Rattle.std.specs.Prelude.{◌≡◌, ℕ, true, List, Some}
+use Rattle.std.specs.Prelude.{◌≡◌, List, Some}
 use Rattle.quick_form.specs.Symbols.{Symbol}
 use Rattle.quick_form.specs.Form.{IsWritten}
-use Rattle.quick_parser.specs.Steps.{State, after, is_complete}
+use Rattle.quick_parser.specs.Steps.{State, after}
 use Rattle.quick_rename.specs.declared.form.Reading.{Reading}
 use Rattle.quick_rename.specs.declared.form.Reading.TheVariants.{Whole, Fault}
 

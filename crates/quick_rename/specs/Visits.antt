@@ -1,7 +1,7 @@
 -- A walk over symbols.
 use Rattle.std.specs.Prelude.{◌≡◌, ℕ, List, [], ◌∷◌, ◌++◌, Option, Some, None}
 use Rattle.std.specs.Borrow.{Bor}
-use Rattle.quick_form.specs.Symbols.{Symbol, symbols_of, lines_of}
+use Rattle.quick_form.specs.Symbols.{Symbol, lines_of}
 use Rattle.quick_rename.specs.declared.visit.Stop.{Stop}
 
 -- the lines of a text, if there is one

@@ -1,4 +1,4 @@
-use Rattle.std.proofs.Common.{◌≡◌, sym, ◌∙◌, ap, true, false, is_some}
+use Rattle.std.proofs.Common.{sym, ◌∙◌}
 use Rattle.quick_form.specs.Symbols.{symbols_of}
 use Rattle.quick_rename.specs.Scans.{Scanned}
 use Rattle.quick_rename.proofs.RenameLemmas.{scanned_all, takes, refuses, tokens_is}

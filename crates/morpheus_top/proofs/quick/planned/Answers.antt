@@ -1,4 +1,3 @@
-use Rattle.std.proofs.Common.{◌≡◌, subst, refl, ap, ◌∙◌}
 use Rattle.morpheus_top.proofs.QuickLemmas.{renames_bytes}
 use Rattle.morpheus_top.specs.Quick.{asked}
 use Rattle.morpheus_top.proofs.quick.planned.Goals as goal

@@ -1,4 +1,4 @@
-use Rattle.std.proofs.Common.{◌≡◌, ◌∙◌, ap, sym, Some}
+use Rattle.std.proofs.Common.{◌∙◌, ap, sym, Some}
 use Rattle.morpheus_top.specs.Quick.{asked}
 use Rattle.morpheus_top.proofs.QuickLemmas.{read_and_ran}
 use Rattle.morpheus_top.proofs.quick.quick.Goals as goal

@@ -1,4 +1,3 @@
-use Rattle.std.proofs.Common.{◌≡◌, Some}
 use Rattle.quick_form.specs.Symbols.{symbols_of}
 use Rattle.quick_rename.proofs.Walk.{stop_in_line}
 use Rattle.quick_rename.proofs.visit.visit.Goals as goal
