@@ -23,11 +23,22 @@ pub record PlainToken : Type 0 where
 
 -- an origin with its spans as pairs of offsets
 abbrev pub plain_origin : Origin → PlainOrigin
-plain_origin o = record { file = o.file; span = plain_span o.span; place = o.place; site = plain_span o.site; site_file = o.site_file }
+plain_origin o = record {
+  file = o.file;
+  span = plain_span o.span;
+  place = o.place;
+  site = plain_span o.site;
+  site_file = o.site_file;
+}
 
 -- a token with its bytes as a list
 abbrev pub plain_token : Token → PlainToken
-plain_token t = record { kind = t.kind; text = t.text.items; joined = t.joined; origin = plain_origin t.origin }
+plain_token t = record {
+  kind = t.kind;
+  text = t.text.items;
+  joined = t.joined;
+  origin = plain_origin t.origin;
+}
 
 -- the tokens are of one kind and have the same bytes
 pub record SameSpelling (a b : PlainToken) : Type 0 where

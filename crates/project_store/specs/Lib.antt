@@ -1,8 +1,13 @@
 pub mod Lookup
 pub mod Faults
 pub mod Room
+pub mod Store
 pub mod Sink
-pub mod Calls
 pub mod Named
+pub mod Calls
 pub mod MemoryStore
 pub mod MemorySink
+pub mod SureSink
+pub mod SureStore
+pub mod Packed
+pub mod PackedFiles

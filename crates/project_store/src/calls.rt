@@ -1,5 +1,4 @@
-ghost use Rattle.std.specs.Prelude.{◌≡◌, ◌↔◌, IsTrue, Contains};
-ghost use Rattle.project_store.specs.Faults.{raised};
+ghost use Rattle.std.specs.Prelude.{◌↔◌, IsTrue, Contains};
 
 /// The calls on an object, numbered from 1, and the numbers of those that shall fail.
 #[derive(Debug, Drop)]
@@ -9,11 +8,10 @@ pub(crate) struct Calls {
 }
 
 impl Calls {
-    ghost use Rattle.project_store.specs.Calls.{NextFails};
+    ghost use Rattle.project_store.specs.Calls.{IsFresh, NextFails, CountsCall};
 
     pub(crate) fn new(failing: Vec<u32>) -> Calls
-        ensures made { result.made ≡ 0 }
-        ensures failing { result.failing ≡ failing }
+        ensures { IsFresh failing.items result }
     {
         Calls { made: 0, failing }
     }
@@ -21,8 +19,7 @@ impl Calls {
     /// Counts the call that begins, and says whether it shall fail.
     pub(crate) fn next_fails(&mut self) -> bool
         ensures fails { IsTrue result ↔ NextFails self.old }
-        ensures made { self.new.made ≡ raised self.old.made }
-        ensures failing { self.new.failing ≡ self.old.failing }
+        ensures counts { CountsCall self.old self.new }
     {
         self.made = self.made.saturating_add(1);
         is_listed(&self.failing, self.made)

@@ -6,13 +6,23 @@
 #![tactic(auto)]
 
 mod calls;
+mod faults;
 mod lookup;
 mod memory_sink;
 mod memory_store;
+mod packed;
 mod sink;
 mod store;
+mod sure_sink;
+mod sure_store;
 
+pub use faults::{a_rise_stays, rising_is_growing_or_standing_at_the_end};
 pub use memory_sink::MemorySink;
 pub use memory_store::MemoryStore;
 pub use sink::{Sink, SinkFailed};
 pub use store::{Store, StoreFault, WriteFailed};
+pub use sure_sink::SureSink;
+pub use sure_store::SureStore;
+
+#[cfg(test)]
+mod tests;

@@ -1,6 +1,6 @@
 ghost use Rattle.std.specs.Prelude.{◌≡◌, OnOk, OnErr, option_copied};
 ghost use Rattle.std.specs.List.{position_from};
-ghost use Rattle.text_edits.specs.Files.{plain_files, lookup_of};
+ghost use Rattle.text_edits.specs.Files.{plain_file, plain_files, lookup_of};
 ghost use Rattle.project_store.specs.Lookup.{PutsFile};
 ghost use Rattle.project_store.specs.Named.{has_name};
 
@@ -9,7 +9,7 @@ use text_edits::{Files, SourceFile};
 
 /// The number of the first file with the name.
 fn place_of(files: &[SourceFile], name: &str) -> Option<usize>
-    ensures { result ≡ position_from (has_name name.now) 0 files.now }
+    ensures { result ≡ position_from (λ file. has_name name.now (plain_file file)) 0 files.now }
 {
     files.iter().position(|file| file.name.as_str() == name)
 }
@@ -24,8 +24,14 @@ pub(crate) fn content_of<'a>(files: &'a Files, name: &str) -> Option<&'a [u8]>
 
 /// Puts the bytes under the name: in place of what the first file with the name holds, or in a
 /// file of their own at the end.
-pub(crate) fn put(alloc: Global, files: &mut Files, name: &str, bytes: &[u8]) -> Result<(), AllocError>
-    ensures ok { OnOk result (PutsFile (lookup_of (plain_files files.old)) name.now bytes.now (lookup_of (plain_files files.new))) }
+pub(crate) fn put(
+    alloc: Global,
+    files: &mut Files,
+    name: &str,
+    bytes: &[u8],
+) -> Result<(), AllocError>
+    ensures ok { OnOk result
+        (PutsFile (lookup_of (plain_files files.old)) name.now bytes.now (lookup_of (plain_files files.new))) }
     ensures err { OnErr result (plain_files files.new ≡ plain_files files.old) }
 {
     let bytes = Vec::from_slice(alloc, bytes)?;

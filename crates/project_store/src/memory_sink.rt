@@ -41,7 +41,8 @@ impl MemorySink {
 
 impl Sink for MemorySink {
     ghost use Rattle.project_store.specs.Sink.{IsFault};
-    ghost use Rattle.project_store.specs.MemorySink.{taken_by, faults_of, ThisFails, CountsCall};
+    ghost use Rattle.project_store.specs.Calls.{NextFails, CountsCall};
+    ghost use Rattle.project_store.specs.MemorySink.{taken_by, calls_of, faults_of};
 
     ghost tells = { λ _. Unit {0} };
 
@@ -54,11 +55,11 @@ impl Sink for MemorySink {
     ghost room = { λ _. 0 };
 
     fn write(&mut self, bytes: &[u8]) -> Result<usize, SinkFailed>
-        ensures fails { ThisFails self.old → IsErr result }
+        ensures fails { NextFails (calls_of self.old) → IsErr result }
         ensures whole { IfOk result (λ n. n ≡ length bytes.now) }
         ensures ok { IfOk result (λ n. taken_by self.new ≡ taken_by self.old ++ take n bytes.now) }
         ensures err { OnErr result (taken_by self.new ≡ taken_by self.old) }
-        ensures calls { CountsCall self.old self.new }
+        ensures calls { CountsCall (calls_of self.old) (calls_of self.new) }
         ensures faults { faults_of self.new ≡ count_after (is_err result) (faults_of self.old) }
         ensures cause { HasCause (faults_of self.old) (faults_of self.new) (IsFault result bytes.now) }
     {

@@ -1,6 +1,7 @@
 ghost use Rattle.std.specs.Prelude.{◌≡◌, ◌↔◌, ◌⊎◌, Some, None, IfOk, OnOk, OnErr, IsErr, IsErrOf, is_err, option_copied};
 ghost use Rattle.project_store.specs.Lookup.{SameFiles, PutsFile};
 ghost use Rattle.project_store.specs.Faults.{HasCause, count_after};
+ghost use Rattle.project_store.specs.Store.{is_failed};
 
 use crate::calls::Calls;
 use crate::lookup::{content_of, put};
@@ -47,7 +48,8 @@ impl MemoryStore {
 }
 
 impl Store for MemoryStore {
-    ghost use Rattle.project_store.specs.MemoryStore.{held, read_faults_of, write_faults_of, ThisFails, CountsCall, is_failed};
+    ghost use Rattle.project_store.specs.Calls.{NextFails, CountsCall};
+    ghost use Rattle.project_store.specs.MemoryStore.{held, calls_of, read_faults_of, write_faults_of};
 
     ghost tells = { λ _. Unit {0} };
 
@@ -64,21 +66,21 @@ impl Store for MemoryStore {
     ghost bytes_left = { λ _. 0 };
 
     fn read(&mut self, alloc: Global, name: &str) -> Result<Vec<u8>, StoreFault>
-        ensures fails { IsErrOf result StoreFault.Failed ↔ (ThisFails self.old ⊎ (held self.old name.now ≡ None)) }
+        ensures fails { IsErrOf result StoreFault.Failed
+            ↔ (NextFails (calls_of self.old) ⊎ (held self.old name.now ≡ None)) }
         ensures bytes { IfOk result (λ bytes. held self.old name.now ≡ Some bytes.items) }
         ensures files { SameFiles (held self.old) (held self.new) }
-        ensures calls { CountsCall self.old self.new }
-        ensures read_faults { read_faults_of self.new ≡ count_after (is_failed result) (read_faults_of self.old) }
-        ensures cause { HasCause (read_faults_of self.old) (read_faults_of self.new) (IsErrOf result StoreFault.Failed) }
+        ensures calls { CountsCall (calls_of self.old) (calls_of self.new) }
+        ensures read_faults { read_faults_of self.new
+            ≡ count_after (is_failed result) (read_faults_of self.old) }
+        ensures cause { HasCause (read_faults_of self.old) (read_faults_of self.new)
+            (IsErrOf result StoreFault.Failed) }
         ensures write_faults { write_faults_of self.new ≡ write_faults_of self.old }
     {
-        if self.calls.next_fails() {
-            self.read_faults = self.read_faults.saturating_add(1);
-            return Err(StoreFault::Failed);
-        }
+        let fails = self.calls.next_fails();
         match content_of(&self.files, name) {
-            Some(bytes) => Ok(Vec::from_slice(alloc, bytes)?),
-            None => {
+            Some(bytes) if !fails => Ok(Vec::from_slice(alloc, bytes)?),
+            _ => {
                 self.read_faults = self.read_faults.saturating_add(1);
                 Err(StoreFault::Failed)
             }
@@ -86,11 +88,12 @@ impl Store for MemoryStore {
     }
 
     fn write(&mut self, name: &str, bytes: &[u8]) -> Result<(), WriteFailed>
-        ensures fails { ThisFails self.old → IsErr result }
+        ensures fails { NextFails (calls_of self.old) → IsErr result }
         ensures ok { OnOk result (PutsFile (held self.old) name.now bytes.now (held self.new)) }
         ensures err { OnErr result (SameFiles (held self.old) (held self.new)) }
-        ensures calls { CountsCall self.old self.new }
-        ensures write_faults { write_faults_of self.new ≡ count_after (is_err result) (write_faults_of self.old) }
+        ensures calls { CountsCall (calls_of self.old) (calls_of self.new) }
+        ensures write_faults { write_faults_of self.new
+            ≡ count_after (is_err result) (write_faults_of self.old) }
         ensures cause { HasCause (write_faults_of self.old) (write_faults_of self.new) (IsErr result) }
         ensures read_faults { read_faults_of self.new ≡ read_faults_of self.old }
     {

@@ -31,7 +31,8 @@ pub trait Sink {
     /// Takes a front of the piece, and says how many bytes that were.
     fn write(&mut self, bytes: &[u8]) -> Result<usize, SinkFailed>
         ensures count { IfOk result (λ n. n ≤ length bytes.now) }
-        ensures ok { IfOk result (λ n. tells self.old → taken self.new ≡ taken self.old ++ take n bytes.now) }
+        ensures ok { IfOk result
+            (λ n. tells self.old → taken self.new ≡ taken self.old ++ take n bytes.now) }
         ensures err { OnErr result (tells self.old → taken self.new ≡ taken self.old) }
         ensures told { tells self.old → tells self.new }
 
@@ -40,7 +41,8 @@ pub trait Sink {
 
         // A sink that tells its room takes the longest front that fits, and fails only where not
         // even one byte does.
-        ensures fits { IfOk result (λ n. tells_room self.old → n ≡ min (length bytes.now) (room self.old)) }
+        ensures fits { IfOk result
+            (λ n. tells_room self.old → n ≡ min (length bytes.now) (room self.old)) }
         ensures room { IfOk result (λ n. tells_room self.old → room self.new + n ≡ room self.old) }
         ensures full { OnErr result (tells_room self.old → room self.old ≡ 0) }
         ensures full_for_some { OnErr result (tells_room self.old → 0 < length bytes.now) }

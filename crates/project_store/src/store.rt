@@ -32,9 +32,10 @@ pub struct WriteFailed;
 /// A place where files are read and written by their names.
 ///
 /// A store may tell what it holds, so that a caller knows which bytes it reads and what a write
-/// changes. It may besides tell the room that it has left, and then it fails only for want of
-/// room. One that tells nothing, as a folder of the machine, has its counts of faults: no call
-/// fails unless one of them rose.
+/// changes. It may besides tell the room that it has left, and then a read fails only at a name
+/// that isn't there, and a write only for want of room. One that tells nothing, as a folder of the
+/// machine, still has its counts of faults: but for want of memory no call fails unless one of them
+/// rose.
 pub trait Store {
     /// Holds where the store tells what it holds.
     ghost tells: { Self → Type 0 };
@@ -59,10 +60,12 @@ pub trait Store {
 
     /// The bytes of the file with the name.
     fn read(&mut self, alloc: Global, name: &str) -> Result<Vec<u8>, StoreFault>
-        ensures bytes { IfOk result (λ bytes. tells self.old → file self.old name.now ≡ Some bytes.items) }
+        ensures bytes { IfOk result
+            (λ bytes. tells self.old → file self.old name.now ≡ Some bytes.items) }
 
         // `Failed` comes only where the count of read faults rose.
-        ensures cause { HasCause (read_faults self.old) (read_faults self.new) (IsErrOf result StoreFault.Failed) }
+        ensures cause { HasCause (read_faults self.old) (read_faults self.new)
+            (IsErrOf result StoreFault.Failed) }
         ensures write_faults { write_faults self.new ≡ write_faults self.old }
 
         // Nothing that the store tells changes, whatever the result.
@@ -72,13 +75,16 @@ pub trait Store {
         ensures names { tells_room self.old → names_left self.new ≡ names_left self.old }
         ensures room { tells_room self.old → bytes_left self.new ≡ bytes_left self.old }
 
-        // A store that tells its room has each file that it holds.
-        ensures absent { IsErrOf result StoreFault.Failed → tells_room self.old → file self.old name.now ≡ None };
+        // A store that tells its room fails only at a name that isn't there.
+        ensures absent { IsErrOf result StoreFault.Failed
+            → tells_room self.old → file self.old name.now ≡ None };
 
     /// Puts the bytes under the name, in place of what stood there.
     fn write(&mut self, name: &str, bytes: &[u8]) -> Result<(), WriteFailed>
-        ensures ok { OnOk result (tells self.old → PutsFile (file self.old) name.now bytes.now (file self.new)) }
-        ensures err { OnErr result (tells self.old → LeavesPart (file self.old) name.now bytes.now (file self.new)) }
+        ensures ok { OnOk result
+            (tells self.old → PutsFile (file self.old) name.now bytes.now (file self.new)) }
+        ensures err { OnErr result
+            (tells self.old → LeavesPart (file self.old) name.now bytes.now (file self.new)) }
         ensures told { tells self.old → tells self.new }
 
         // A write fails only where the count of write faults rose.
@@ -87,10 +93,14 @@ pub trait Store {
 
         // A store that tells its room fails where that is too small, and else takes of it at most
         // a new name, and the bytes of the name and the file.
-        ensures full { OnErr result (tells_room self.old → LacksRoom (file self.old name.now) (names_left self.old) (bytes_left self.old) (length name.now + length bytes.now)) }
+        ensures full { OnErr result (tells_room self.old
+            → LacksRoom (file self.old name.now) (names_left self.old) (bytes_left self.old)
+            (length name.now + length bytes.now)) }
         ensures room_told { OnOk result (tells_room self.old → tells_room self.new) }
-        ensures names { OnOk result (tells_room self.old → names_left self.old ≤ names_left self.new + names_taken (file self.old name.now)) }
-        ensures room { OnOk result (tells_room self.old → bytes_left self.old ≤ bytes_left self.new + length name.now + length bytes.now) };
+        ensures names { OnOk result (tells_room self.old
+            → names_left self.old ≤ names_left self.new + names_taken (file self.old name.now)) }
+        ensures room { OnOk result (tells_room self.old
+            → bytes_left self.old ≤ bytes_left self.new + length name.now + length bytes.now) };
 
     /// A store that tells its room tells what it holds.
     ghost room_is_told: { (store : Self) → tells_room store → tells store };

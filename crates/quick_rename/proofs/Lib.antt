@@ -1,3 +1,5 @@
 pub mod Walk
 pub mod FormLemmas
 pub mod ScanLemmas
+pub mod Counting
+pub mod RenameLemmas

@@ -1,5 +1,6 @@
 -- One symbol more on a walk that looks for the names of a renaming.
-use Rattle.std.proofs.Common.{◌≡◌, ℕ, ◌+◌, ◌-◌, ◌^◌, ◌≤◌, min, Bool, true, false, ◌||◌, ◌&&◌, cond, if◌then◌else◌, List, [], ◌∷◌, ◌++◌, length, count_by, is_some, refl, sym, ◌∙◌, ap, arith}
+use Rattle.std.proofs.Common.{◌≡◌, ℕ, ◌+◌, ◌-◌, ◌^◌, ◌≤◌, min, Bool, true, false, ◌||◌, ◌&&◌, cond, if◌then◌else◌, List, [], ◌∷◌, ◌++◌, length, count_by, is_some, refl, sym, ◌∙◌, ap, arith, zero-add, add-zero}
+use Rattle.std.proofs.lemmas.List.Sums.{sum_by-append}
 use Rattle.std.proofs.lemmas.List.Folds.{list_any-append}
 use Rattle.std.specs.List.{list_any}
 use Rattle.std.specs.Str.{bytes_eq}
@@ -45,7 +46,7 @@ declares_more n (x ∷ []) k = declares_one n k
 declares_more n (x ∷ y ∷ ks) k = declares_more n (y ∷ ks) k
 
 count_more : (p : Symbol → Bool) (ks : List Symbol) (k : Symbol) → count_by p (ks ++ k ∷ []) ≡ count_by p ks + cond (p k) 1 0
-count_more p ks k = ?
+count_more p ks k = sum_by-append (λ x. cond (p x) 1 0) ks (k ∷ []) ∙ simp (zero-add, add-zero)
 
 any_more : (p : Symbol → Bool) (ks : List Symbol) (k : Symbol) → list_any p (ks ++ k ∷ []) ≡ (list_any p ks || p k)
 any_more p ks k = list_any-append p ks (k ∷ []) ∙ ap (λ b. list_any p ks || b) (or_no (p k))
@@ -53,3 +54,31 @@ any_more p ks k = list_any-append p ks (k ∷ []) ∙ ap (λ b. list_any p ks ||
 counted_more : (b : Bool) (n : ℕ) → (if b then min (min n (2 ^ 64 - 1) + 1) (2 ^ 64 - 1) else min n (2 ^ 64 - 1)) ≡ min (n + cond b 1 0) (2 ^ 64 - 1)
 counted_more true n = omega arith
 counted_more false n = omega arith
+
+-- all that was found, after one symbol more
+pub scanned_more : (s t : Scan) (ks : List Symbol) (k : Symbol) (used mention test : Bool) → Scanned s ks
+    → t.old.now ≡ s.old.now → t.new.now ≡ s.new.now → t.parser.now.tested_names ≡ s.parser.now.tested_names
+    → used ≡ uses s.old.now k → mention ≡ mentions s.new.now k → test ≡ uses_one_of s.parser.now.tested_names k
+    → t.declares_old ≡ (s.declares_old || (s.follows_int && used))
+    → t.tokens ≡ (if used then min (s.tokens + 1) (2 ^ 64 - 1) else s.tokens)
+    → is_some t.first_new ≡ (is_some s.first_new || mention)
+    → is_some t.first_tested ≡ (is_some s.first_tested || test)
+    → t.follows_int ≡ is_int k
+    → Scanned t (ks ++ k ∷ [])
+scanned_more s t ks k used mention test h o n p u m e d c f g i = record {
+  follows = i ∙ sym (ends_more ks k);
+  declares_it =
+      d ∙ (ap (λ b. b || (s.follows_int && used)) h.declares_it ∙ (ap (λ b. declares s.old.now ks || (b && used)) h.follows
+      ∙ (ap (λ b. declares s.old.now ks || (ends_with_int ks && b)) u ∙ (sym (declares_more s.old.now ks k) ∙ ap (λ w. declares w (ks ++ k ∷ [])) (sym o)))));
+  tokens_are =
+      c ∙ (ap (λ b. cond b (min (s.tokens + 1) (2 ^ 64 - 1)) s.tokens) u
+      ∙ (ap (λ m. cond (uses s.old.now k) (min (m + 1) (2 ^ 64 - 1)) m) h.tokens_are
+      ∙ (counted_more (uses s.old.now k) (count_by (uses s.old.now) ks)
+      ∙ (ap (λ m. min m (2 ^ 64 - 1)) (sym (count_more (uses s.old.now) ks k)) ∙ ap (λ w. min (count_by (uses w) (ks ++ k ∷ [])) (2 ^ 64 - 1)) (sym o)))));
+  mentions_new =
+      f ∙ (ap (λ b. b || mention) h.mentions_new ∙ (ap (λ b. list_any (mentions s.new.now) ks || b) m
+      ∙ (sym (any_more (mentions s.new.now) ks k) ∙ ap (λ w. list_any (mentions w) (ks ++ k ∷ [])) (sym n))));
+  uses_tested =
+      g ∙ (ap (λ b. b || test) h.uses_tested ∙ (ap (λ b. list_any (uses_one_of s.parser.now.tested_names) ks || b) e
+      ∙ (sym (any_more (uses_one_of s.parser.now.tested_names) ks k) ∙ ap (λ w. list_any (uses_one_of w) (ks ++ k ∷ [])) (sym p))));
+}

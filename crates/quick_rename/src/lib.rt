@@ -1,9 +1,11 @@
 //! The renaming of one name in a file of the quick form.
 #![tactic(auto)]
 
-ghost use Rattle.std.specs.Prelude.{◌≡◌, ℕ, true, IfOk};
+ghost use Rattle.std.specs.Prelude.{◌≡◌, ◌≤◌, ℕ, true, length, IfOk};
 ghost use Rattle.quick_form.specs.Words.{is_name};
+ghost use Rattle.quick_form.specs.Symbols.{symbols_of};
 ghost use Rattle.quick_rename.specs.Answer.{IsAnswer};
+ghost use Rattle.quick_rename.specs.Readings.{IsWhole};
 
 mod fault;
 mod form;
@@ -14,7 +16,7 @@ use crate::form::{Reading, read};
 use crate::scan::Scan;
 use crate::visit::visit;
 use quick_lexer::renamed;
-use quick_parser::Parser;
+use quick_parser::{declared_behind_int, tests_are_kept, Parser};
 use std::alloc::{AllocError, Global};
 
 /// What a renaming answers of a file.
@@ -38,7 +40,13 @@ fn rename_read(
     old: &[u8],
     new: &[u8],
     parser: &Parser,
-) -> Result<Answer, AllocError> {
+) -> Result<Answer, AllocError>
+    requires whole { IsWhole (symbols_of bytes.now) parser.now }
+    requires size { length bytes.now ≤ 16777216 }
+    ensures { IfOk result (IsAnswer old.now new.now bytes.now) }
+{
+    tests_are_kept();
+    declared_behind_int();
     let mut scan = Scan::new(old, new, parser);
     visit(&mut scan, bytes)?;
     match scan.fault(bytes.len()) {
