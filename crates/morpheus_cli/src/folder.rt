@@ -112,7 +112,10 @@ mod tests {
         let bytes = store.read(rt.alloc(), "folder-test/inner/a.c")?;
         assert_eq!(rt; bytes.as_slice(), b"int x;\n".as_slice());
         fs::remove_dir_all(&rt, "folder-test")?;
-        assert_eq!(rt; store.read(rt.alloc(), "folder-test/inner/a.c").err(), Some(StoreFault::Failed));
+        assert_eq!(rt;
+            store.read(rt.alloc(), "folder-test/inner/a.c").err(),
+            Some(StoreFault::Failed)
+        );
         assert_eq!(rt; store.read_faults, 1);
         assert_eq!(rt; store.write_faults, 0);
         Ok(())

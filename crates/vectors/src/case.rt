@@ -16,8 +16,10 @@ pub(crate) struct Case {
     pub(crate) words: Vec<String>,
     pub(crate) status: u8,
     pub(crate) printed: Vec<u8>,
-    /// The file that is written, if one is.
-    pub(crate) written: Option<SourceFile>,
+    /// The name under which the command may write.
+    pub(crate) target: Option<String>,
+    /// What is written there, if anything is.
+    pub(crate) written: Option<Vec<u8>>,
     pub(crate) label: String,
 }
 
@@ -29,8 +31,11 @@ impl Case {
         let words = read_words(alloc, &mut fields)?;
         let status = fields.number()?;
         let printed = fields.bytes(alloc)?;
+        let target = match output {
+            Output::Written => target_name(alloc, &words)?,
+        };
         let written = match output {
-            Output::Written => read_written(alloc, &mut fields, &words, status)?,
+            Output::Written => Some(fields.bytes(alloc)?).filter(|_| status == 0),
         };
         let label = fields.text(alloc)?;
         fields.end()?;
@@ -39,9 +44,31 @@ impl Case {
             words,
             status,
             printed,
+            target,
             written,
             label,
         })
+    }
+
+    /// Whether the command writes under the name.
+    fn writes(&self, name: &str) -> bool {
+        match &self.target {
+            Some(target) => target.as_str() == name && self.written.is_some(),
+            None => false,
+        }
+    }
+
+    /// What is wanted under the name after the command, if anything.
+    pub(crate) fn wanted_at(&self, name: &str) -> Option<&[u8]> {
+        if self.writes(name) {
+            return self.written.as_ref().map(|bytes| bytes.as_slice());
+        }
+        let file = self
+            .files
+            .list
+            .iter()
+            .find(|file| file.name.as_str() == name)?;
+        Some(file.bytes.as_slice())
     }
 }
 
@@ -67,29 +94,10 @@ fn read_words(alloc: Global, fields: &mut Fields<'_>) -> Result<Vec<String>, Lin
     Ok(words)
 }
 
-/// The bytes of `OUT/FILE`, which count where the status is 0.
-fn read_written(
-    alloc: Global,
-    fields: &mut Fields<'_>,
-    words: &[String],
-    status: u8,
-) -> Result<Option<SourceFile>, LineError> {
-    let bytes = fields.bytes(alloc)?;
-    if status != 0 {
-        return Ok(None);
+/// `OUT/FILE`, where the words are `quick FILE OLD NEW OUT`.
+fn target_name(alloc: Global, words: &[String]) -> Result<Option<String>, AllocError> {
+    match (words.get(1), words.get(4)) {
+        (Some(file), Some(out)) => Ok(Some(format!(in alloc; "{out}/{file}")?)),
+        _ => Ok(None),
     }
-    let name = target_name(alloc, words)?;
-    Ok(Some(SourceFile { name, bytes }))
-}
-
-/// `OUT/FILE` of the words `quick FILE OLD NEW OUT`.
-fn target_name(alloc: Global, words: &[String]) -> Result<String, LineError> {
-    let file = words.get(1).ok_or(LineError::MissingField)?;
-    let out = words.get(4).ok_or(LineError::MissingField)?;
-    Ok(joined(alloc, out.as_str(), file.as_str())?)
-}
-
-/// The name of a file in a folder.
-fn joined(alloc: Global, folder: &str, file: &str) -> Result<String, AllocError> {
-    format!(in alloc; "{folder}/{file}")
 }

@@ -2,93 +2,89 @@ use crate::answer::Answer;
 use crate::case::Case;
 use std::alloc::{AllocError, Global};
 use std::fmt;
-use text_edits::SourceFile;
 
 /// Where an answer differs from the one that is wanted.
 #[derive(Debug, Drop)]
 pub(crate) enum Difference {
-    Status { wanted: u8, got: u8 },
-    Printed { wanted: String, got: String },
-    Missing { name: String },
-    Content { name: String, wanted: String, got: String },
+    Status {
+        wanted: u8,
+        got: u8,
+    },
+    Printed {
+        wanted: String,
+        got: String,
+    },
+    /// What stands under a name.
+    File {
+        name: String,
+        wanted: Option<String>,
+        got: Option<String>,
+    },
 }
 
 impl fmt::Display for Difference {
     fn fmt<W: fmt::Write>(&self, f: &mut fmt::Formatter<W>) -> fmt::Result {
         match self {
-            Difference::Status { wanted, got } => {
-                write!(f, "wanted status {wanted}, got {got}")
-            }
+            Difference::Status { wanted, got } => write!(f, "wanted status {wanted}, got {got}"),
             Difference::Printed { wanted, got } => {
                 write!(f, "wanted the text {wanted:?}, got {got:?}")
             }
-            Difference::Missing { name } => write!(f, "{name} is missing"),
-            Difference::Content { name, wanted, got } => {
+            Difference::File { name, wanted, got } => {
                 write!(f, "wanted {wanted:?} in {name}, got {got:?}")
             }
         }
     }
 }
 
-/// Whether the file is the one that the case's command writes.
-fn is_written(case: &Case, file: &SourceFile) -> bool {
-    match &case.written {
-        Some(written) => written.name.as_str() == file.name.as_str(),
-        None => false,
+/// The bytes as text that can be shown.
+fn shown(alloc: Global, bytes: Option<&[u8]>) -> Result<Option<String>, AllocError> {
+    match bytes {
+        Some(bytes) => Ok(Some(String::from_utf8_lossy(alloc, bytes)?)),
+        None => Ok(None),
     }
 }
 
-/// How the store differs from holding the file.
+/// How the store differs under a name.
 fn file_difference(
-    alloc: Global,
-    answer: &Answer,
-    wanted: &SourceFile,
-) -> Result<Option<Difference>, AllocError> {
-    let name = wanted.name.clone()?;
-    match answer.store.get(wanted.name.as_str()) {
-        None => Ok(Some(Difference::Missing { name })),
-        Some(got) if got == wanted.bytes.as_slice() => Ok(None),
-        Some(got) => {
-            let wanted = String::from_utf8_lossy(alloc, wanted.bytes.as_slice())?;
-            let got = String::from_utf8_lossy(alloc, got)?;
-            Ok(Some(Difference::Content { name, wanted, got }))
-        }
-    }
-}
-
-/// How the store differs from what it held before, but for the file that is written.
-fn others_difference(
     alloc: Global,
     case: &Case,
     answer: &Answer,
+    name: &str,
 ) -> Result<Option<Difference>, AllocError> {
-    for file in &case.files.list {
-        if !is_written(case, file) {
-            if let Some(difference) = file_difference(alloc, answer, file)? {
-                return Ok(Some(difference));
-            }
-        }
+    let wanted = case.wanted_at(name);
+    let got = answer.store.get(name);
+    if wanted == got {
+        return Ok(None);
     }
-    Ok(None)
+    Ok(Some(Difference::File {
+        name: String::from_str(alloc, name)?,
+        wanted: shown(alloc, wanted)?,
+        got: shown(alloc, got)?,
+    }))
 }
 
-/// How the files differ from those that are wanted.
+/// How the store differs under the names that it had, and then under the one where the command
+/// may write.
 fn store_difference(
     alloc: Global,
     case: &Case,
     answer: &Answer,
 ) -> Result<Option<Difference>, AllocError> {
-    if let Some(written) = &case.written {
-        if let Some(difference) = file_difference(alloc, answer, written)? {
-            return Ok(Some(difference));
+    for file in &case.files.list {
+        let difference = file_difference(alloc, case, answer, file.name.as_str())?;
+        if difference.is_some() {
+            return Ok(difference);
         }
     }
-    others_difference(alloc, case, answer)
+    match &case.target {
+        Some(target) => file_difference(alloc, case, answer, target.as_str()),
+        None => Ok(None),
+    }
 }
 
 /// The first difference between the answer and the one that is wanted: in the status, in the
 /// printed text, and then in the files.
-pub(crate) fn difference(
+pub(crate) fn first_difference(
     alloc: Global,
     case: &Case,
     answer: &Answer,

@@ -1,6 +1,6 @@
 use crate::answer::Answer;
 use crate::case::{Case, Output};
-use crate::difference::difference;
+use crate::difference::first_difference;
 use anyhow::{Context, Result};
 use std::alloc::Global;
 use std::fs;
@@ -40,11 +40,16 @@ impl Tally {
 }
 
 /// Runs the case of a line, and prints where its answer differs. Whether it agrees.
-fn agrees<R: Print + AllocGlobal>(rt: &R, output: Output, line: &str, place: &Place) -> Result<bool> {
+fn agrees<R: Print + AllocGlobal>(
+    rt: &R,
+    output: Output,
+    line: &str,
+    place: &Place,
+) -> Result<bool> {
     let alloc: Global = rt.alloc();
     let case = Case::read(alloc, output, line)?;
     let answer = Answer::of(alloc, &case)?;
-    match difference(alloc, &case, &answer)? {
+    match first_difference(alloc, &case, &answer)? {
         None => Ok(true),
         Some(difference) => {
             let file = place.file;
@@ -75,8 +80,10 @@ pub(crate) fn run<R: Files + Print + AllocGlobal>(rt: &R, suite: &Suite) -> Resu
             file: suite.file,
             line: tally.cases.saturating_add(1),
         };
-        let agrees = agrees(rt, suite.output, line, &place)
-            .context(format_args!("line {} of {}", place.line, place.file))?;
+        let agrees = agrees(rt, suite.output, line, &place).context(format_args!(
+            "line {} of {}",
+            place.line, place.file
+        ))?;
         tally.count(agrees);
     }
     let command = suite.command;
