@@ -64,7 +64,8 @@ pub fn rename(alloc: Global, bytes: &[u8], old: &[u8], new: &[u8]) -> Result<Ans
     ensures { IfOk result (IsAnswer old.now new.now bytes.now) }
 {
     if bytes.len() > MOST_BYTES {
-        return too_long(alloc, &bytes[..MOST_BYTES]);
+        let (front, _) = bytes.split_at(MOST_BYTES);
+        return too_long(alloc, front);
     }
     match read(alloc, bytes)? {
         Reading::Fault { offset } => Ok(Answer::NotQuick { offset }),
