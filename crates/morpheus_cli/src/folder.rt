@@ -54,7 +54,7 @@ fn write_file<R: Files>(files: &R, name: &str, bytes: &[u8]) -> io::Result<()> {
 impl<'a, R: Files> Store for FolderStore<'a, R> {
     ghost use Rattle.std.specs.Prelude.{◌≡◌, None, ⊥, IsErr, IsErrOf, is_err};
     ghost use Rattle.project_store.specs.Faults.{HasCause, count_after};
-    ghost use Rattle.project_store.specs.MemoryStore.{is_failed};
+    ghost use Rattle.project_store.specs.Store.{is_failed};
 
     ghost tells = { λ _. ⊥ };
 
