@@ -163,10 +163,12 @@ third_of_three x y z n e = (2, lit< tt, sym e)
 pub usage_only_lem : (words : List (List ℕ)) (b a : StoreState) (s t : SinkState) (status : ℕ) → Answers words b a s t status → IsUsage words → IsOneOf (2 ∷ 6 ∷ 7 ∷ []) status
 usage_only_lem words b a s t status A u =
     elim A.told [
-      inl k ↦ elim (usage_reply words b a u A.reply A.holds) [
-        inl e ↦ first_of_three 2 6 7 status (k.0 ∙ e)
-      | inr e ↦ third_of_three 2 6 7 status (k.0 ∙ e) ]
-    | inr k ↦ second_of_three 2 6 7 status k.0 ]
+      | inl k ↦ elim (usage_reply words b a u A.reply A.holds) [
+        | inl e ↦ first_of_three 2 6 7 status (k.0 ∙ e)
+        | inr e ↦ third_of_three 2 6 7 status (k.0 ∙ e)
+      ]
+      | inr k ↦ second_of_three 2 6 7 status k.0
+    ]
 
 no_read_rise : (words : List (List ℕ)) (b a : StoreState) (s t : SinkState) → NoFault b.read_faults a.read_faults b.write_faults a.write_faults s.faults t.faults → SaysReadFault words b a → ⊥
 no_read_rise words b a s t f h = f.read h.rose
@@ -181,17 +183,20 @@ zero_or_seven status n reply e (inr k) = inr (e ∙ ap status_of k)
 pub complete_lem : (words : List (List ℕ)) (b a : StoreState) (s t : SinkState) (status : ℕ) → Answers words b a s t status → (r : Renaming) (bytes : List ℕ) → Asks words r → b.tells → TakesFile r b.file bytes → NoFault b.read_faults a.read_faults b.write_faults a.write_faults s.faults t.faults → (status ≡ 0) ⊎ (status ≡ 7)
 complete_lem words b a s t status A r bytes asked tells takes f =
     elim A.told [
-      inl k ↦ zero_or_seven status (token_count r.old bytes) A.reply k.0
-        (taken_reply words b a r bytes asked tells takes (no_read_rise words b a s t f) (no_write_rise words b a s t f) A.reply A.holds)
-    | inr k ↦ absurd (f.report k.1.rose) ]
+      | inl k ↦ zero_or_seven status (token_count r.old bytes) A.reply k.0
+          (taken_reply words b a r bytes asked tells takes (no_read_rise words b a s t f) (no_write_rise words b a s t f) A.reply A.holds)
+      | inr k ↦ absurd (f.report k.1.rose)
+    ]
 
 pub refuses_lem : (words : List (List ℕ)) (b a : StoreState) (s t : SinkState) (status : ℕ) → Answers words b a s t status → (r : Renaming) → Asks words r → b.tells → RefusesFile r b.file → NoFault b.read_faults a.read_faults b.write_faults a.write_faults s.faults t.faults → (status ≡ 12) ⊎ (status ≡ 7)
 refuses_lem words b a s t status A r asked tells refuses f =
     elim A.told [
-      inl k ↦ elim (refused_reply words b a r asked tells refuses (no_read_rise words b a s t f) (no_write_rise words b a s t f) A.reply A.holds) [
-        inl e ↦ inl (k.0 ∙ e)
-      | inr e ↦ inr (k.0 ∙ e) ]
-    | inr k ↦ absurd (f.report k.1.rose) ]
+      | inl k ↦ elim (refused_reply words b a r asked tells refuses (no_read_rise words b a s t f) (no_write_rise words b a s t f) A.reply A.holds) [
+        | inl e ↦ inl (k.0 ∙ e)
+        | inr e ↦ inr (k.0 ∙ e)
+      ]
+      | inr k ↦ absurd (f.report k.1.rose)
+    ]
 
 -- a told room that holds the file is no cause of a read fault, nor one that is enough of a write fault
 no_read_there : (words : List (List ℕ)) (b a : StoreState) (r : Renaming) (bytes : List ℕ) → Asks words r → b.tells_room → b.file r.file ≡ Some bytes → SaysReadFault words b a → ⊥
@@ -253,17 +258,19 @@ fits_reply n room reply h (inr e) k =
 pub sure_lem : (words : List (List ℕ)) (b a : StoreState) (s t : SinkState) (status : ℕ) → Answers words b a s t status → (b.tells_room → b.tells) → (r : Renaming) (bytes : List ℕ) → Asks words r → b.tells_room → s.tells_room → TakesFile r b.file bytes → IsRoomFor r b.file bytes b.names_left b.bytes_left s.room → (status ≡ 0) ⊎ (status ≡ 7)
 sure_lem words b a s t status A law r bytes asked room sink takes fits =
     let reply = taken_reply words b a r bytes asked (law room) takes
-          (no_read_there words b a r bytes asked room takes.held)
-          (no_write_there words b a r bytes asked room takes.held fits.store) A.reply A.holds in
+    (no_read_there words b a r bytes asked room takes.held)
+    (no_write_there words b a r bytes asked room takes.held fits.store) A.reply A.holds in
     elim A.told [
-      inl k ↦ zero_or_seven status (token_count r.old bytes) A.reply k.0 reply
-    | inr k ↦ absurd (fits_reply (token_count r.old bytes) s.room A.reply fits.sink reply (k.1.lacks sink)) ]
+      | inl k ↦ zero_or_seven status (token_count r.old bytes) A.reply k.0 reply
+      | inr k ↦ absurd (fits_reply (token_count r.old bytes) s.room A.reply fits.sink reply (k.1.lacks sink))
+    ]
 
 pub untouched_lem : (words : List (List ℕ)) (b a : StoreState) (s t : SinkState) (status : ℕ) → Answers words b a s t status → (status ≡ 0 → ⊥) → (status ≡ 4 → ⊥) → (status ≡ 6 → ⊥) → Kept b a
 untouched_lem words b a s t status A p q k =
     elim A.told [
-      inl e ↦ on_others words b a A.reply A.holds (λ z. p (e.0 ∙ z)) (λ z. q (e.0 ∙ z))
-    | inr e ↦ absurd (k e.0) ]
+      | inl e ↦ on_others words b a A.reply A.holds (λ z. p (e.0 ∙ z)) (λ z. q (e.0 ∙ z))
+      | inr e ↦ absurd (k e.0)
+    ]
 
 status_is : (r : Reply) → IsOneOf (0 ∷ 2 ∷ 3 ∷ 4 ∷ 6 ∷ 7 ∷ 12 ∷ []) (status_of r)
 status_is (Renamed n) = (0, lit< tt, refl)
@@ -276,8 +283,9 @@ status_is (NotQuick o) = (6, lit< tt, refl)
 pub statuses_lem : (words : List (List ℕ)) (b a : StoreState) (s t : SinkState) (status : ℕ) → Answers words b a s t status → IsOneOf (0 ∷ 2 ∷ 3 ∷ 4 ∷ 6 ∷ 7 ∷ 12 ∷ []) status
 statuses_lem words b a s t status A =
     elim A.told [
-      inl e ↦ subst (IsOneOf (0 ∷ 2 ∷ 3 ∷ 4 ∷ 6 ∷ 7 ∷ 12 ∷ [])) (sym e.0) (status_is A.reply)
-    | inr e ↦ subst (IsOneOf (0 ∷ 2 ∷ 3 ∷ 4 ∷ 6 ∷ 7 ∷ 12 ∷ [])) (sym e.0) (4, lit< tt, refl) ]
+      | inl e ↦ subst (IsOneOf (0 ∷ 2 ∷ 3 ∷ 4 ∷ 6 ∷ 7 ∷ 12 ∷ [])) (sym e.0) (status_is A.reply)
+      | inr e ↦ subst (IsOneOf (0 ∷ 2 ∷ 3 ∷ 4 ∷ 6 ∷ 7 ∷ 12 ∷ [])) (sym e.0) (4, lit< tt, refl)
+    ]
 
 pub behaviour_lem : RenamingKeepsBehaviour → ((w : List ℕ) → is_new_name w ≡ true → is_name w ≡ true) → (words : List (List ℕ)) (b a : StoreState) (s t : SinkState) (status : ℕ) → Answers words b a s t status → status ≡ 0 → b.tells → (r : Renaming) → Asks words r → BehaviourIsKept r b.file a.file
 behaviour_lem law names words b a s t status A e tells r asked bytes renamed held after =

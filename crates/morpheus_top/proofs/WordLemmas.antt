@@ -45,9 +45,10 @@ new_name_is_name w h =
 -- what stands behind the folder's name
 pub in_folder : (name folder : List ℕ) (rest : Bor (List ℕ)) (b : Bool) → (pointwise eqb (take (length folder) name) folder ≡ true) × (rest.now ≡ drop (length folder) name) × (length rest.now + length folder ≡ length name) → IsTrue b ↔ ((more : List ℕ) × (rest.now ≡ 47 ∷ more)) → IsTrue b ↔ IsInFolder name folder
 in_folder name folder rest b h e =
-    let is : name ≡ folder ++ rest.now = strip_prefix_is Decides-eqb name folder (Some rest) h in
-    (λ t. ((e.0 t).0, is ∙ ap (λ r. folder ++ r) (e.0 t).1),
-     λ i. e.1 (i.0, append_cancel_left folder rest.now (47 ∷ i.0) (sym is ∙ i.1)))
+    let is : name ≡ folder ++ rest.now = strip_prefix_is Decides-eqb name folder (Some rest) h in (
+      λ t. ((e.0 t).0, is ∙ ap (λ r. folder ++ r) (e.0 t).1),
+      λ i. e.1 (i.0, append_cancel_left folder rest.now (47 ∷ i.0) (sym is ∙ i.1)),
+    )
 
 pub not_in_folder : (name folder : List ℕ) → pointwise eqb (take (length folder) name) folder ≡ false → IsTrue false ↔ IsInFolder name folder
 not_in_folder name folder h =

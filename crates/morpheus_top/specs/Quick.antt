@@ -64,7 +64,7 @@ pub record RanInPart (r : Renaming) (bytes : List ℕ) (before after : StoreStat
   pub rose : Rose before.write_faults after.write_faults
   pub left : before.tells → LeavesPart before.file (target r) (renamed_file r bytes) after.file
   pub lacks : before.tells_room → LacksRoom (before.file (target r)) before.names_left before.bytes_left
-    (length (target r) + length (renamed_file r bytes))
+      (length (target r) + length (renamed_file r bytes))
 
 -- what became of the bytes of the file
 abbrev pub Ran : Renaming → List ℕ → StoreState → StoreState → Reply → Type 0

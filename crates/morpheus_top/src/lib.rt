@@ -7,6 +7,5 @@ mod replies;
 mod top;
 mod words;
 
-
 pub use replies::Reply;
 pub use top::morpheus;

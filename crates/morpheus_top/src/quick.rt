@@ -39,7 +39,12 @@ fn planned(alloc: Global, renaming: &Renaming, bytes: &[u8]) -> Result<Plan, All
     requires { is_name renaming.now.new.now ≡ true }
     ensures { IfOk result (IsPlan (asked renaming.now) bytes.now) }
 {
-    let answer = rename(alloc, bytes, renaming.old.as_bytes(), renaming.new.as_bytes())?;
+    let answer = rename(
+        alloc,
+        bytes,
+        renaming.old.as_bytes(),
+        renaming.new.as_bytes(),
+    )?;
     match answer {
         quick_rename::Answer::NotQuick { offset } => {
             let answer = Answer::new(alloc, Reply::NotQuick { offset })?;
@@ -78,12 +83,7 @@ fn carry_out<S: Store>(store: &mut S, plan: Plan) -> Answer
 }
 
 /// Renames in the file's bytes, and writes the result.
-fn rename_in<S: Store>(
-    alloc: Global,
-    renaming: &Renaming,
-    bytes: &[u8],
-    store: &mut S,
-) -> Answer
+fn rename_in<S: Store>(alloc: Global, renaming: &Renaming, bytes: &[u8], store: &mut S) -> Answer
     requires { is_name renaming.now.new.now ≡ true }
     ensures { Ran (asked renaming.now) bytes.now
         (store_state S.tells S.file S.read_faults S.write_faults S.tells_room S.names_left S.bytes_left store.old)

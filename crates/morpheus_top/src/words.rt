@@ -48,7 +48,8 @@ fn is_component(part: &[u8]) -> bool
 fn is_file_name(name: &[u8]) -> bool
     ensures { result ≡ spec.is_file_name name.now }
 {
-    name.split(|byte| *byte == b'/').all(|part| is_component(part))
+    name.split(|byte| *byte == b'/')
+        .all(|part| is_component(part))
 }
 
 fn is_folder_name(name: &[u8]) -> bool

@@ -127,8 +127,9 @@ one_of_names : (n : List ℕ) (ns : List (List ℕ)) → AreNames ns → list_an
 one_of_names n [] h e = cc
 one_of_names n (m ∷ ns) h e =
     elim (cases_Bool (bytes_eq n m)) [
-      inl g ↦ ap is_name ((bytes_eq-Decides n m).0 g) ∙ h.0
-    | inr g ↦ one_of_names n ns h.1 (rw g at e) ]
+      | inl g ↦ ap is_name ((bytes_eq-Decides n m).0 g) ∙ h.0
+      | inr g ↦ one_of_names n ns h.1 (rw g at e)
+    ]
 
 pub old_is_name : (bytes old : List ℕ) (t : Items) → Reads bytes t → list_any (bytes_eq old) (declared_names t) ≡ true → is_name old ≡ true
 old_is_name bytes old t r d =
@@ -149,17 +150,18 @@ keeps law old new bytes n t =
     let after : Reads (renamed_bytes old new bytes) (renamed_items old new items) = law old new bytes items (old_is_name bytes old items reads t.declared) n reads in
     record {
       acceptance = λ on.
-          let same = program_renamed on old new bytes items reads t.unused in
-          (λ a. record {
-            items = renamed_items old new items;
-            reads = after;
-            accepted = subst IsAccepted (sym same) ((accepted_either_way (swapped old new) u (program on items)).0 (subst (λ i. IsAccepted (program on i)) (one_reading_lem bytes a.items items a.reads reads) a.accepted));
-          },
-          λ a. record {
-            items = items;
-            reads = reads;
-            accepted = (accepted_either_way (swapped old new) u (program on items)).1 (subst IsAccepted (ap (program on) (one_reading_lem (renamed_bytes old new bytes) a.items (renamed_items old new items) a.reads after) ∙ same) a.accepted);
-          });
+          let same = program_renamed on old new bytes items reads t.unused in (
+            λ a. record {
+              items = renamed_items old new items;
+              reads = after;
+              accepted = subst IsAccepted (sym same) ((accepted_either_way (swapped old new) u (program on items)).0 (subst (λ i. IsAccepted (program on i)) (one_reading_lem bytes a.items items a.reads reads) a.accepted));
+            },
+            λ a. record {
+              items = items;
+              reads = reads;
+              accepted = (accepted_either_way (swapped old new) u (program on items)).1 (subst IsAccepted (ap (program on) (one_reading_lem (renamed_bytes old new bytes) a.items (renamed_items old new items) a.reads after) ∙ same) a.accepted);
+            },
+          );
       runs = λ on i i' r r' a input bound.
           let first = one_reading_lem bytes i items r reads in
           let second = one_reading_lem (renamed_bytes old new bytes) i' (renamed_items old new items) r' after in

@@ -8,3 +8,4 @@ pub mod Swap
 pub mod Changed
 pub mod ChangedRun
 pub mod Behaviour
+pub mod Growth

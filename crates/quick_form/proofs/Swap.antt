@@ -42,17 +42,20 @@ swapped_new : (old new x : List ℕ) → x ≡ new → swapped old new x ≡ old
 swapped_new old new x e =
     let h = (bytes_eq-Decides x new).1 e in
     elim (cases_Bool (bytes_eq x old)) [
-      inl g ↦ rw g (sym e ∙ (bytes_eq-Decides x old).0 g)
-    | inr g ↦ rw (g, h) refl ]
+      | inl g ↦ rw g (sym e ∙ (bytes_eq-Decides x old).0 g)
+      | inr g ↦ rw (g, h) refl
+    ]
 
 pub swapped-undoes : (old new : List ℕ) → Undoes (swapped old new)
 swapped-undoes old new = record {
   back = λ x.
       elim (cases_Bool (bytes_eq x old)) [
-        inl h ↦ let e = (bytes_eq-Decides x old).0 h in ap (swapped old new) (swapped_old old new x e) ∙ (swapped_new old new new refl ∙ sym e)
-      | inr h ↦ elim (cases_Bool (bytes_eq x new)) [
-          inl g ↦ let e = (bytes_eq-Decides x new).0 g in ap (swapped old new) (swapped_new old new x e) ∙ (swapped_old old new old refl ∙ sym e)
-        | inr g ↦ let s : swapped old new x ≡ x = rw (h, g) refl in ap (swapped old new) s ∙ s ] ];
+        | inl h ↦ let e = (bytes_eq-Decides x old).0 h in ap (swapped old new) (swapped_old old new x e) ∙ (swapped_new old new new refl ∙ sym e)
+        | inr h ↦ elim (cases_Bool (bytes_eq x new)) [
+          | inl g ↦ let e = (bytes_eq-Decides x new).0 g in ap (swapped old new) (swapped_new old new x e) ∙ (swapped_old old new old refl ∙ sym e)
+          | inr g ↦ let s : swapped old new x ≡ x = rw (h, g) refl in ap (swapped old new) s ∙ s
+        ]
+      ];
 }
 
 -- a name that isn't new is renamed as if the two were exchanged

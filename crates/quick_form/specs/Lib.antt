@@ -5,3 +5,4 @@ pub mod Renaming
 pub mod Program
 pub mod Run
 pub mod Quick
+pub mod Growth

@@ -2,26 +2,24 @@
 //! definitions (in `specs/`) and its laws, each the contract of a function without a body.
 #![tactic(auto)]
 
+ghost use Rattle.quick_form.specs.Growth.{RunsGrow};
 ghost use Rattle.quick_form.specs.Quick.{OneReading, RenamedSymbols, RenamedReads, RenamingKeepsBehaviour};
 
 /// A file reads as one list of items at most, so it has one program at most in a configuration.
 pub fn one_reading()
     ensures { OneReading }
-{
-}
+{}
 
 /// A file with one name made another spells the same symbols, but for that name outside directive
 /// lines.
 pub fn renamed_symbols()
     ensures { RenamedSymbols }
-{
-}
+{}
 
 /// A file with one name made another reads as the items with the same change.
 pub fn renamed_reads()
     ensures { RenamedReads }
-{
-}
+{}
 
 /// A file that `quick` takes and the renamed file are accepted in the same configurations, and run
 /// alike there.
@@ -30,3 +28,9 @@ pub fn renaming_keeps_behaviour()
 {
     renamed_reads();
 }
+
+/// A larger bound keeps the answer of a run that has ended or is undefined, and only lengthens the
+/// output of one that the bound cut off.
+pub fn runs_grow()
+    ensures { RunsGrow }
+{}

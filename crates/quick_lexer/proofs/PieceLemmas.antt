@@ -120,5 +120,5 @@ pub BeginsWith-blanks : (line visible rest : List ℕ) (p : Piece) → line ≡ 
 BeginsWith-blanks line visible rest p blanks first = record {
   blanks = take (prefix_len is_blank line) line;
   are_blank = take-blanks line;
-  joined = blanks ∙ ap (λ bs. take (prefix_len is_blank line) line ++ bs) first
+  joined = blanks ∙ ap (λ bs. take (prefix_len is_blank line) line ++ bs) first;
 }

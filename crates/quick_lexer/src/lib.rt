@@ -9,7 +9,10 @@ mod symbols;
 mod words;
 
 pub use lines::{directive, first_symbol};
-pub use pieces::{first_piece, first_solid_piece, Piece};
+pub use pieces::{Piece, first_piece, first_solid_piece};
 pub use renaming::{push_renamed_line, renamed};
-pub use symbols::{word_symbol, Symbol};
+pub use symbols::{Symbol, word_symbol};
 pub use words::{is_name, is_number};
+
+#[cfg(test)]
+mod tests;

@@ -4,8 +4,8 @@ ghost use Rattle.quick_form.specs.Symbols as spec;
 ghost use Rattle.quick_lexer.specs.Lines.{BeginsWithSymbol};
 ghost use Rattle.quick_lexer.specs.View.{piece_view, symbol_view, token_symbols};
 
-use crate::pieces::{first_solid_piece, Piece};
-use crate::symbols::{word_symbol, Symbol};
+use crate::pieces::{Piece, first_solid_piece};
+use crate::symbols::{Symbol, word_symbol};
 use crate::words::is_name;
 
 /// The symbol of a piece that is neither a blank nor a tab.
@@ -81,7 +81,7 @@ fn directive_symbol<'a>(text: &'a [u8]) -> Symbol<'a>
     }
 }
 
-/// The one symbol of a directive line; `None` for a line of tokens.
+/// The one symbol of a directive line, which has `#` first, blanks and tabs aside (6.10); `None` for a line of tokens.
 pub fn directive<'a>(line: &'a [u8]) -> Option<Symbol<'a>>
     ensures none { IsNone result ↔ (spec.is_directive_line (spec.solid_pieces line.now) ≡ false) }
     ensures some { IfSome result (λ s. spec.line_symbols line.now ≡ symbol_view s ∷ []) }

@@ -6,10 +6,9 @@ ghost use Rattle.quick_form.specs.Renaming as spec;
 ghost use Rattle.quick_lexer.specs.Output.{IsBegun};
 ghost use Rattle.quick_lexer.specs.View.{piece_view};
 
-use std::alloc::{AllocError, Global};
-
 use crate::lines::directive;
-use crate::pieces::{first_piece, Piece};
+use crate::pieces::{Piece, first_piece};
+use std::alloc::{AllocError, Global};
 
 fn renamed_word<'a>(word: &'a [u8], old: &[u8], new: &'a [u8]) -> &'a [u8]
     ensures { result.now ≡ spec.renamed_word old.now new.now word.now }
@@ -17,7 +16,12 @@ fn renamed_word<'a>(word: &'a [u8], old: &[u8], new: &'a [u8]) -> &'a [u8]
     if word == old { new } else { word }
 }
 
-fn push_renamed_piece(out: &mut Vec<u8>, piece: Piece, old: &[u8], new: &[u8]) -> Result<(), AllocError>
+fn push_renamed_piece(
+    out: &mut Vec<u8>,
+    piece: Piece,
+    old: &[u8],
+    new: &[u8],
+) -> Result<(), AllocError>
     ensures ok { OnOk result (out.new.items ≡ out.old.items ++ spec.renamed_piece old.now new.now (piece_view piece.entry)) }
     ensures err { OnErr result (out.new.items ≡ out.old.items) }
 {
@@ -28,7 +32,12 @@ fn push_renamed_piece(out: &mut Vec<u8>, piece: Piece, old: &[u8], new: &[u8]) -
     Ok(())
 }
 
-fn push_renamed_tokens(out: &mut Vec<u8>, line: &[u8], old: &[u8], new: &[u8]) -> Result<(), AllocError>
+fn push_renamed_tokens(
+    out: &mut Vec<u8>,
+    line: &[u8],
+    old: &[u8],
+    new: &[u8],
+) -> Result<(), AllocError>
     ensures ok { OnOk result
         (out.new.items ≡ out.old.items ++ flat_map (spec.renamed_piece old.now new.now) (pieces_of line.now)) }
     ensures err { OnErr result (IsBegun out.new.items
@@ -43,7 +52,12 @@ fn push_renamed_tokens(out: &mut Vec<u8>, line: &[u8], old: &[u8], new: &[u8]) -
 }
 
 /// Appends a line with new for each token old; after an `Err`, as much of it as memory held.
-pub fn push_renamed_line(out: &mut Vec<u8>, line: &[u8], old: &[u8], new: &[u8]) -> Result<(), AllocError>
+pub fn push_renamed_line(
+    out: &mut Vec<u8>,
+    line: &[u8],
+    old: &[u8],
+    new: &[u8],
+) -> Result<(), AllocError>
     ensures ok { OnOk result (out.new.items ≡ out.old.items ++ spec.renamed_line old.now new.now line.now) }
     ensures err { OnErr result (IsBegun out.new.items (out.old.items ++ spec.renamed_line old.now new.now line.now)) }
 {
@@ -55,7 +69,13 @@ pub fn push_renamed_line(out: &mut Vec<u8>, line: &[u8], old: &[u8], new: &[u8])
     Ok(())
 }
 
-fn push_next_line(out: &mut Vec<u8>, is_first: bool, line: &[u8], old: &[u8], new: &[u8]) -> Result<(), AllocError>
+fn push_next_line(
+    out: &mut Vec<u8>,
+    is_first: bool,
+    line: &[u8],
+    old: &[u8],
+    new: &[u8],
+) -> Result<(), AllocError>
     ensures { OnOk result (out.new.items
         ≡ (if is_first then out.old.items else out.old.items ++ 10 ∷ []) ++ spec.renamed_line old.now new.now line.now) }
 {

@@ -44,14 +44,15 @@ fn fits_int(digits: &[u8]) -> bool
     true
 }
 
-/// Whether a word is a decimal constant without leading zeros that an `int` of 32 bits holds.
+/// Whether a word is a decimal constant without leading zeros that an `int` of 32 bits holds (6.4.4.1). In time linear in
+/// the word, whatever its length.
 pub fn is_number(word: &[u8]) -> bool
     ensures { result ≡ spec.is_number word.now }
 {
     is_decimal(word) && fits_int(word)
 }
 
-/// Whether a word is an identifier that a program of the form may declare.
+/// Whether a word is an identifier (6.4.2) that a file of the form may declare: no keyword, nor `putchar`, nor `main`.
 pub fn is_name(word: &[u8]) -> bool
     ensures { result ≡ spec.is_name word.now }
 {

@@ -24,7 +24,7 @@ pub type NoMemory = AllocError;
 #[derive(Drop)]
 pub struct Parser {
     place: Place,
-    open: OpenFrames,
+    frames: OpenFrames,
     tested: TestedNames,
 }
 
@@ -33,7 +33,7 @@ impl Model for Parser {
 
     ghost Value = { State };
 
-    ghost view = { λ p. record { spot = record { place = p.place; open_frames = p.open }; tested_names = p.tested } };
+    ghost view = { λ p. record { spot = record { place = p.place; open_frames = p.frames }; tested_names = p.tested } };
 }
 
 impl Parser {
@@ -43,7 +43,7 @@ impl Parser {
     {
         Self {
             place: Place::Entry,
-            open: OpenFrames::new(alloc),
+            frames: OpenFrames::new(alloc),
             tested: TestedNames::new(alloc),
         }
     }
@@ -54,8 +54,8 @@ impl Parser {
     {
         next_move(
             self.place,
-            self.open.innermost(),
-            self.open.block_count(),
+            self.frames.innermost(),
+            self.frames.block_count(),
             symbol,
         )
     }
@@ -87,15 +87,15 @@ impl Parser {
                 self.place = place;
             }
             Move::Enter(frame) => {
-                self.open.push(frame)?;
+                self.frames.push(frame)?;
                 self.place = Place::Entry;
             }
             Move::Turn => {
-                self.open.turn();
+                self.frames.turn();
                 self.place = Place::Entry;
             }
             Move::Leave => {
-                self.open.pop();
+                self.frames.pop();
                 self.place = Place::Entry;
             }
         }
@@ -108,9 +108,9 @@ impl Parser {
         ensures names { OnOk result (self.new.tested_names ≡ with_test self.old.tested_names name.now) }
         ensures err { OnErr result (self.new ≡ self.old) }
     {
-        self.open.push(Frame::Group)?;
+        self.frames.push(Frame::Group)?;
         if let Err(error) = self.tested.note(name) {
-            self.open.pop();
+            self.frames.pop();
             return Err(error);
         }
         self.place = Place::Entry;
@@ -142,7 +142,7 @@ impl Parser {
     pub fn is_complete(&self) -> bool
         ensures { result ≡ is_complete self.now }
     {
-        self.place == Place::Entry && self.open.innermost().is_none()
+        self.place == Place::Entry && self.frames.innermost().is_none()
     }
 
     /// The tested names, each once, in the order of their first tests.

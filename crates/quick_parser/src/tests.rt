@@ -1,5 +1,6 @@
 //! Small files, symbol by symbol.
-use crate::{Parser, Symbol};
+use crate::Parser;
+use quick_lexer::Symbol;
 use quick_lexer::Symbol::*;
 use std::alloc::{AllocError, Global};
 use std::test::Fail;

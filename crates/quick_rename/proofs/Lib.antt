@@ -3,3 +3,4 @@ pub mod FormLemmas
 pub mod ScanLemmas
 pub mod Counting
 pub mod RenameLemmas
+pub mod Decided

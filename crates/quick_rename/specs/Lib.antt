@@ -2,3 +2,4 @@ pub mod Answer
 pub mod Visits
 pub mod Readings
 pub mod Scans
+pub mod Laws

@@ -5,6 +5,7 @@ ghost use Rattle.std.specs.Prelude.{◌≡◌, ◌≤◌, ℕ, true, length, IfO
 ghost use Rattle.quick_form.specs.Words.{is_name};
 ghost use Rattle.quick_form.specs.Symbols.{symbols_of};
 ghost use Rattle.quick_rename.specs.Answer.{IsAnswer};
+ghost use Rattle.quick_rename.specs.Laws.{TakingIsDecided};
 ghost use Rattle.quick_rename.specs.Readings.{IsWhole};
 
 mod fault;
@@ -15,8 +16,11 @@ mod visit;
 use crate::form::{Reading, read};
 use crate::scan::Scan;
 use crate::visit::visit;
+use quick_form::one_reading;
 use quick_lexer::renamed;
-use quick_parser::{declared_behind_int, tests_are_kept, Parser};
+use quick_parser::{
+    Parser, complete_is_written, declared_behind_int, refused_is_unwritten, tests_are_kept,
+};
 use std::alloc::{AllocError, Global};
 
 /// What a renaming answers of a file.
@@ -82,4 +86,13 @@ fn too_long(alloc: Global, front: &[u8]) -> Result<Answer, AllocError>
         Reading::Whole(_) => MOST_BYTES,
     };
     Ok(Answer::NotQuick { offset })
+}
+
+/// A file is taken for a renaming or it isn't: the definition leaves nothing open.
+pub fn taking_is_decided()
+    ensures { TakingIsDecided }
+{
+    refused_is_unwritten();
+    complete_is_written();
+    one_reading();
 }

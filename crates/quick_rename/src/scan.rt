@@ -59,13 +59,7 @@ fn first_of(earlier: Option<usize>, is_here: bool, here: usize) -> Option<usize>
 {
     match earlier {
         Some(place) => Some(place),
-        None => {
-            if is_here {
-                Some(here)
-            } else {
-                None
-            }
-        }
+        None => { if is_here { Some(here) } else { None } }
     }
 }
 

@@ -1,4 +1,4 @@
-use Rattle.std.proofs.Common.{◌==◌, sym, ap, ◌∙◌, map, arith, rules, tests}
+use Rattle.std.proofs.Common.{sym, ap, ◌∙◌, map, arith, rules, tests}
 use Rattle.std.specs.List.{join_with_byte}
 use Rattle.std.proofs.lemmas.Bool.{ne_eqb}
 use Rattle.std.proofs.lemmas.List.{length_push}
@@ -10,9 +10,10 @@ use Rattle.quick_lexer.proofs.renaming.renamed.Goals as goal
 
 pub loop-line-preserved : goal.loop-line-preserved
 loop-line-preserved c =
-    let more = length_push c.loop-line.yielded c.in-Some.line in
-    (sym (ne_eqb _ 0 (λ e. absurd (omega arith))),
-     joined_more (λ line. renamed_line c.args.old.now c.args.new.now line.now) c.loop-line.yielded c.in-Some.line c.loop-line.is_first _ _ c.loop-line.invariant.0 c.loop-line.invariant.1 c.in_ok-push_next_line.ensures)
+    let more = length_push c.loop-line.yielded c.in-Some.line in (
+      sym (ne_eqb _ 0 (λ e. absurd (omega arith))),
+      joined_more (λ line. renamed_line c.args.old.now c.args.new.now line.now) c.loop-line.yielded c.in-Some.line c.loop-line.is_first _ _ c.loop-line.invariant.0 c.loop-line.invariant.1 c.in_ok-push_next_line.ensures,
+    )
 
 pub returns : goal.returns
 returns c =
