@@ -52,9 +52,7 @@ fn write_file<R: Files>(files: &R, name: &str, bytes: &[u8]) -> io::Result<()> {
 }
 
 impl<'a, R: Files> Store for FolderStore<'a, R> {
-    ghost use Rattle.std.specs.Prelude.{◌≡◌, None, ⊥, IsErr, IsErrOf, is_err};
-    ghost use Rattle.project_store.specs.Faults.{HasCause, count_after};
-    ghost use Rattle.project_store.specs.Store.{is_failed};
+    ghost use Rattle.std.specs.Prelude.{None};
 
     ghost tells = { λ _. ⊥ };
 
@@ -70,11 +68,7 @@ impl<'a, R: Files> Store for FolderStore<'a, R> {
 
     ghost bytes_left = { λ _. 0 };
 
-    fn read(&mut self, alloc: Global, name: &str) -> Result<Vec<u8>, StoreFault>
-        ensures read_faults { self.new.read_faults ≡ count_after (is_failed result) self.old.read_faults }
-        ensures cause { HasCause self.old.read_faults self.new.read_faults (IsErrOf result StoreFault.Failed) }
-        ensures write_faults { self.new.write_faults ≡ self.old.write_faults }
-    {
+    fn read(&mut self, alloc: Global, name: &str) -> Result<Vec<u8>, StoreFault> {
         match read_file(self.files, alloc, name) {
             Ok(bytes) => Ok(bytes),
             Err(error) if error.kind() == ErrorKind::OutOfMemory => Err(StoreFault::Memory),
@@ -85,11 +79,7 @@ impl<'a, R: Files> Store for FolderStore<'a, R> {
         }
     }
 
-    fn write(&mut self, name: &str, bytes: &[u8]) -> Result<(), WriteFailed>
-        ensures write_faults { self.new.write_faults ≡ count_after (is_err result) self.old.write_faults }
-        ensures cause { HasCause self.old.write_faults self.new.write_faults (IsErr result) }
-        ensures read_faults { self.new.read_faults ≡ self.old.read_faults }
-    {
+    fn write(&mut self, name: &str, bytes: &[u8]) -> Result<(), WriteFailed> {
         if write_file(self.files, name, bytes).is_err() {
             self.write_faults = self.write_faults.saturating_add(1);
             return Err(WriteFailed);

