@@ -1,0 +1,164 @@
+use morpheus_top::morpheus;
+use project_store::{MemorySink, MemoryStore};
+use std::alloc::{AllocError, Global};
+use std::test::Fail;
+use text_edits::{Files, SourceFile};
+
+const EXAMPLE: &str = "int x = 65;
+#ifdef A
+int y;
+#endif
+int main(void) { putchar(x); return 0; }
+";
+
+const RENAMED: &str = "int z = 65;
+#ifdef A
+int y;
+#endif
+int main(void) { putchar(z); return 0; }
+";
+
+/// A command `quick q.c x NEW out`, and what it answers.
+#[derive(Clone, Copy, Debug)]
+struct Row {
+    new: &'static str,
+    /// What stands in `q.c`, if it is there.
+    content: Option<&'static str>,
+    /// The number of the call on the store that fails, or 0. The first reads, the second writes.
+    failing_store: u32,
+    /// The number of the call on the sink that fails, or 0.
+    failing_sink: u32,
+    status: u8,
+    printed: &'static str,
+    /// What stands in `out/q.c` afterwards, if it is there.
+    written: Option<&'static str>,
+}
+
+/// The first row: the example is renamed.
+const RENAMES: Row = Row {
+    new: "z",
+    content: Some(EXAMPLE),
+    failing_store: 0,
+    failing_sink: 0,
+    status: 0,
+    printed: "renamed 2 tokens in 1 files\n",
+    written: Some(RENAMED),
+};
+
+const EMPTY_FILE: Row = Row {
+    new: "z",
+    content: Some(""),
+    failing_store: 0,
+    failing_sink: 0,
+    status: 12,
+    printed: "not quick at 0\n",
+    written: None,
+};
+
+const SAME_NAME: Row = Row {
+    new: "x",
+    content: Some(EXAMPLE),
+    failing_store: 0,
+    failing_sink: 0,
+    status: 2,
+    printed: "usage\n",
+    written: None,
+};
+
+const NO_FILE: Row = Row {
+    new: "z",
+    content: None,
+    failing_store: 0,
+    failing_sink: 0,
+    status: 3,
+    printed: "read fault\n",
+    written: None,
+};
+
+const READ_FAILS: Row = Row {
+    new: "z",
+    content: Some(EXAMPLE),
+    failing_store: 1,
+    failing_sink: 0,
+    status: 3,
+    printed: "read fault\n",
+    written: None,
+};
+
+const WRITE_FAILS: Row = Row {
+    new: "z",
+    content: Some(EXAMPLE),
+    failing_store: 2,
+    failing_sink: 0,
+    status: 4,
+    printed: "write fault\n",
+    written: None,
+};
+
+const SINK_FAILS: Row = Row {
+    new: "z",
+    content: Some(EXAMPLE),
+    failing_store: 0,
+    failing_sink: 1,
+    status: 6,
+    printed: "",
+    written: Some(RENAMED),
+};
+
+const ROWS: [Row; 7] = [
+    RENAMES,
+    EMPTY_FILE,
+    SAME_NAME,
+    NO_FILE,
+    READ_FAILS,
+    WRITE_FAILS,
+    SINK_FAILS,
+];
+
+/// The words of a row's command.
+fn words_of(alloc: Global, row: &Row) -> Result<Vec<String>, AllocError> {
+    let mut words = Vec::new(alloc);
+    for word in ["quick", "q.c", "x", row.new, "out"] {
+        words.push(String::from_str(alloc, word)?)?;
+    }
+    Ok(words)
+}
+
+/// The files of a row.
+fn files_of(alloc: Global, row: &Row) -> Result<Files, AllocError> {
+    let mut list = Vec::new(alloc);
+    if let Some(content) = row.content {
+        let name = String::from_str(alloc, "q.c")?;
+        let bytes = Vec::from_slice(alloc, content.as_bytes())?;
+        list.push(SourceFile { name, bytes })?;
+    }
+    Ok(Files { list })
+}
+
+/// The numbers of the calls that fail.
+fn failing(alloc: Global, number: u32) -> Result<Vec<u32>, AllocError> {
+    let mut numbers = Vec::new(alloc);
+    if number > 0 {
+        numbers.push(number)?;
+    }
+    Ok(numbers)
+}
+
+#[test]
+fn each_row_has_its_answer(rt: HostRuntime) -> Result<(), Fail> {
+    let alloc = rt.alloc();
+    for row in &ROWS {
+        let words = words_of(alloc, row)?;
+        let files = files_of(alloc, row)?;
+        let mut store = MemoryStore::new(alloc, files, failing(alloc, row.failing_store)?);
+        let mut out = MemorySink::new(alloc, failing(alloc, row.failing_sink)?);
+        let status = morpheus(alloc, &words, &mut store, &mut out);
+        assert_eq!(rt; status, row.status, "of {row:?}");
+        assert_eq!(rt; out.bytes(), row.printed.as_bytes(), "of {row:?}");
+        let written = row.written.map(|text| text.as_bytes());
+        assert!(rt; store.get("out/q.c") == written, "of {row:?}");
+        let kept = row.content.map(|text| text.as_bytes());
+        assert!(rt; store.get("q.c") == kept, "of {row:?}");
+    }
+    Ok(())
+}

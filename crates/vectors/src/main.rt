@@ -1,0 +1,21 @@
+//! Runs the vectors: commands over stores in memory, each with the answer that is wanted.
+//!
+//! The answers were computed by a program of its own, so they test the definitions too. Each case
+//! that differs is printed, and at the end of a file how many of its cases agree.
+#![tactic(auto)]
+
+mod answer;
+mod case;
+mod difference;
+mod escapes;
+mod fields;
+mod suites;
+
+use crate::suites::{SUITES, run};
+
+fn main(rt: HostRuntime) -> anyhow::Result<()> {
+    for suite in &SUITES {
+        run(&rt, suite)?;
+    }
+    Ok(())
+}
