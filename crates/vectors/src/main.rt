@@ -9,6 +9,8 @@ mod case;
 mod difference;
 mod escapes;
 mod fields;
+#[cfg(test)]
+mod rows;
 mod suites;
 
 use crate::suites::{SUITES, run};
