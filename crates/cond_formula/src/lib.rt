@@ -1,0 +1,9 @@
+//! Presence conditions: which configurations there are, formulas over their features, and the calls that ask about them.
+#![tactic(auto)]
+
+mod configuration;
+
+pub use configuration::Config;
+
+/// Want of memory, the one error of a call that can fail in no other way.
+pub type NoMemory = std::alloc::AllocError;
