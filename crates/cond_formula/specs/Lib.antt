@@ -1,2 +1,4 @@
 pub mod Features
 pub mod FeatureBits
+pub mod Conditions
+pub mod ConditionLaws

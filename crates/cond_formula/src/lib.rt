@@ -2,8 +2,11 @@
 #![tactic(auto)]
 
 mod configuration;
+mod connectives;
+mod formulas;
 
 pub use configuration::Config;
+pub use formulas::Formula;
 
 /// Want of memory, the one error of a call that can fail in no other way.
 pub type NoMemory = std::alloc::AllocError;
