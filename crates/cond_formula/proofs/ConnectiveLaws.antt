@@ -1,10 +1,10 @@
 -- The connectives of formulas, by the forms that they are built in.
-use Rattle.std.proofs.Common.{◌≡◌, ℕ, Bool, true, false, ◌&&◌, ◌||◌, List, [], ◌∷◌, ◌++◌, refl, sym, ap, ◌∙◌}
+use Rattle.std.proofs.Common.{◌≡◌, ℕ, Bool, ◌&&◌, ◌||◌, List, [], ◌∷◌, ◌++◌, refl, sym, ap, ◌∙◌}
 use Rattle.std.proofs.Math.Bool.{and_assoc, or_assoc, and_comm, or_comm, and-true, or-false, not-not}
 use Rattle.std.specs.declared.alloc.Global.{Global}
 use Rattle.std.specs.Prelude.{Vec, Box}
 use Rattle.cond_formula.specs.declared.formulas.Formula.{Formula, True, False, Not, And, Or}
-use Rattle.cond_formula.specs.Conditions.{Condition, condition_of, conditions_of, VarsBelow, AllVarsBelow, value, all_true, any_true, IsNegation, IsConjunction, IsDisjunction}
+use Rattle.cond_formula.specs.Conditions.{Condition, condition_of, conditions_of, AllVarsBelow, value, all_true, any_true, IsNegation, IsConjunction, IsDisjunction}
 use Rattle.cond_formula.specs.ConditionLaws.{condition_of-True, condition_of-False, condition_of-Not, condition_of-And, condition_of-Or}
 
 pub negation-True : IsNegation (condition_of True) (condition_of False)

@@ -1,1 +1,2 @@
 pub mod ConnectiveLaws
+pub mod PrintLaws

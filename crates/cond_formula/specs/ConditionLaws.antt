@@ -1,12 +1,12 @@
 -- What each kind of formula says.
-use Rattle.std.proofs.Common.{◌≡◌, ℕ, suc, zero, ◌+◌, ◌<◌, Bool, true, false, ◌&&◌, ◌||◌, List, [], ◌∷◌, ◌++◌, map, length, take, drop, get_or, refl, sym, ap, ◌∙◌, arith, rules}
+use Rattle.std.proofs.Common.{◌≡◌, ℕ, sym, ap, ◌∙◌}
 use Rattle.std.specs.declared.alloc.Global.{Global}
 use Rattle.std.specs.Prelude.{Vec, Box}
 use Rattle.cond_formula.specs.declared.formulas.Formula.{Formula, True, False, Var, Not, And, Or}
 use Rattle.cond_formula.specs.declared.formulas.Formula.TheVariants.{rolls-True, rolls-False, rolls-Var, rolls-Not, rolls-And, rolls-Or}
 use Rattle.cond_formula.specs.declared.formulas.Formula.TheFolds.{fold-roll-Formula}
 use Rattle.cond_formula.specs.declared.formulas.Formula.TheOpen as level
-use Rattle.cond_formula.specs.Conditions.{Condition, Conditions, Always, Never, Feature, Inverse, All_of, Any_of, none, more, condition_of, conditions, conditions_of, VarsBelow, AllVarsBelow, one_level, value, all_true, any_true}
+use Rattle.cond_formula.specs.Conditions.{Condition, Always, Never, Feature, Inverse, All_of, Any_of, condition_of, conditions_of, one_level}
 
 pub condition_of-True : condition_of True ≡ Always
 unfolding condition_of

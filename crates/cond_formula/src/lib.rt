@@ -4,6 +4,7 @@
 mod configuration;
 mod connectives;
 mod formulas;
+mod print;
 
 pub use configuration::Config;
 pub use formulas::Formula;

@@ -1,8 +1,6 @@
-use Rattle.std.proofs.Common.{rules, ◌≡◌, map, sym, ap, ◌∙◌, arith}
+use Rattle.std.proofs.Common.{arith}
 use Rattle.std.proofs.lemmas.Bool.Decides.{nat_tests}
-use Rattle.std.proofs.lemmas.Grind.{common_steps}
 use Rattle.cond_formula.specs.Features.{has}
-use Rattle.cond_formula.specs.Conditions.{condition_of, conditions, value, all_true, any_true}
 use Rattle.cond_formula.specs.ConditionLaws.{formula_kinds}
 use Rattle.cond_formula.proofs.formulas.+value.Goals as goal
 
