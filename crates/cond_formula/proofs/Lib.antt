@@ -1,2 +1,3 @@
 pub mod ConnectiveLaws
 pub mod PrintLaws
+pub mod CubeLaws

@@ -5,3 +5,4 @@ pub mod Conditions
 pub mod ConditionLaws
 pub mod Expressions
 pub mod Printed
+pub mod Cubes

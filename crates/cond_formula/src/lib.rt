@@ -3,11 +3,16 @@
 
 mod configuration;
 mod connectives;
+mod copies;
+mod cubes;
 mod formulas;
+mod oracles;
 mod print;
 
 pub use configuration::Config;
+pub use cubes::Cube;
 pub use formulas::Formula;
+pub use oracles::{May, Oracle, PlainOracle};
 
 /// Want of memory, the one error of a call that can fail in no other way.
 pub type NoMemory = std::alloc::AllocError;

@@ -11,8 +11,8 @@ use crate::formulas::Formula;
 use std::alloc::Global;
 
 impl Formula {
-    /// A controlling expression for `#if` that is true where the formula is: feature number i is written as whether
-    /// the i-th name is defined.
+    /// A controlling expression for `#if` that is true where the formula is (ISO/IEC 9899:2011 6.10.1), without the
+    /// directive's name and the newline. Feature number i is written as `defined(NAME)` with the i-th name.
     pub fn print_if(&self, alloc: Global, names: &[String]) -> Result<Vec<u8>, NoMemory>
         requires numbered { VarsBelow (length names.now) (condition_of self.now) }
         requires lawful { All (λ name. IsFeatureName (string_bytes name)) names.now }
@@ -162,4 +162,28 @@ fn write_separator(operator: Operator, index: usize, text: &mut Vec<u8>) -> Resu
         text.extend_from_slice(operator.text())?;
     }
     Ok(())
+}
+
+#[cfg(test)]
+mod tests {
+    use super::*;
+    use std::test::Fail;
+
+    #[test]
+    fn prints_parentheses_where_operators_nest(rt: HostRuntime) -> Result<(), Fail> {
+        let alloc = rt.alloc();
+        let names = vec![in alloc;
+            String::from_str(alloc, "A")?,
+            String::from_str(alloc, "B")?,
+        ]?;
+        let without_a = Formula::not(alloc, Formula::Var(0))?;
+        let b_alone = Formula::and(alloc, without_a, Formula::Var(1))?;
+        let either = Formula::or(alloc, b_alone, Formula::Var(0))?;
+        let text = either.print_if(alloc, &names)?;
+        assert_eq!(rt;
+            text.as_slice(),
+            b"(!defined(A) && defined(B)) || defined(A)".as_slice()
+        );
+        Ok(())
+    }
 }
