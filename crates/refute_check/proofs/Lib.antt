@@ -1,1 +1,3 @@
+pub mod HintLaws
 pub mod Soundness
+pub mod StoreLaws

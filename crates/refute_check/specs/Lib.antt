@@ -1,3 +1,6 @@
 pub mod Clauses
 pub mod Steps
 pub mod Refutations
+pub mod Marks
+pub mod Entries
+pub mod Effects
