@@ -12,11 +12,11 @@ use Rattle.refute_check.specs.Clauses.{variable_of, is_positive, literal_holds, 
 use Rattle.refute_check.specs.Steps.{no_values, literal_of, value_of, is_false, taken_true, taken_false, all_taken_false, Judgement, false_clause, unit, neither, judged, judgement, all_false, clause_at, hint_judgement, end_fault, hint_fault, hints_fault, step_fault}
 use Rattle.refute_check.specs.Refutations.{Step, IsRefutation, RefutationLaw, well_checked, has_no_literals}
 
-left_true : (a b : Bool) → (a && b) ≡ true → a ≡ true
+pub left_true : (a b : Bool) → (a && b) ≡ true → a ≡ true
 left_true true b is = refl
 left_true false b is = is
 
-right_true : (a b : Bool) → (a && b) ≡ true → b ≡ true
+pub right_true : (a b : Bool) → (a && b) ≡ true → b ≡ true
 right_true true b is = is
 right_true false b is = absurd (false≢true is)
 
@@ -51,7 +51,7 @@ variable_value false (Some known) value is =
     let same : not known ≡ value = cc in
     ap Some (sym (not-not known) ∙ ap not same)
 
-get_or-replicate_None : (n i : ℕ) → get_or {A = Option Bool} (replicate n None) i None ≡ None
+pub get_or-replicate_None : (n i : ℕ) → get_or {A = Option Bool} (replicate n None) i None ≡ None
 get_or-replicate_None zero i = refl
 get_or-replicate_None (suc n) zero = refl
 get_or-replicate_None (suc n) (suc i) = get_or-replicate_None n i
@@ -155,7 +155,7 @@ module _ (values : ℕ → Bool) where
   hints_refute clauses hold known agrees (hint ∷ rest) fine =
       hint_refutes clauses known agrees rest (λ more agree is. hints_refute clauses hold more agree rest is) (clause_at clauses hint) (λ clause is. clause_at-holds clauses hint clause hold is) fine
 
-  empty_or_later : (clause : List ℤ) (later : Bool) → clause_holds values clause ≡ true → (later ≡ true → ⊥) → (has_no_literals clause || later) ≡ true → ⊥
+  pub empty_or_later : (clause : List ℤ) (later : Bool) → clause_holds values clause ≡ true → (later ≡ true → ⊥) → (has_no_literals clause || later) ≡ true → ⊥
   empty_or_later [] later holds none ended = false≢true holds
   empty_or_later (first ∷ rest) later holds none ended = none ended
 

@@ -1,10 +1,12 @@
 -- The stored clauses.
 use Rattle.std.proofs.Common.{◌≡◌, ℕ, zero, suc, ◌+◌, ◌-◌, ◌<◌, ◌≤◌, ℤ, Bool, List, [], ◌∷◌, ◌++◌, map, length, get_or, take, drop, slice_get, slice_range, Option, Some, None, All, refl, sym, ap, ◌∙◌, arith}
 use Rattle.std.specs.Option.{option_map}
-use Rattle.std.proofs.lemmas.List.Elements.{All-take, All-drop}
+use Rattle.std.proofs.Math.Seq.{drop-append_seam}
+use Rattle.std.proofs.lemmas.List.{map-append, drop-append-le, take-append-le, take_all, length-drop}
+use Rattle.std.proofs.lemmas.List.Elements.{All-take, All-drop, All-head, All-tail}
 use Rattle.refute_check.specs.declared.store.Stored.{Stored}
 use Rattle.refute_check.specs.Clauses.{variable_of}
-use Rattle.refute_check.specs.Entries.{Entry, clauses_of, entry_at, entries_in, AreWithin, AreOver}
+use Rattle.refute_check.specs.Entries.{Entry, entry, clauses_of, entry_at, entries_in, AreWithin, AreOver}
 use Rattle.refute_check.specs.Steps.{clause_at}
 
 got_clause : (literals : List ℤ) (clauses : List Stored) (index : ℕ) (stored : Stored) → index < length clauses → stored ≡ get_or clauses index stored → slice_get (clauses_of (entries_in literals clauses)) index ≡ Some (slice_range literals stored.start stored.end)
@@ -35,3 +37,25 @@ got_over vars literals (first ∷ rest) (suc index) clause over is = got_over va
 pub clause_over : (vars : ℕ) (literals : List ℤ) (clauses : List Stored) (number : ℕ) (clause : List ℤ) → AreOver vars literals → Some clause ≡ clause_at (clauses_of (entries_in literals clauses)) number → AreOver vars clause
 clause_over vars literals clauses zero clause over is = cc
 clause_over vars literals clauses (suc index) clause over is = got_over vars literals clauses index clause over is
+
+kept_range : (literals more : List ℤ) (i j : ℕ) → i ≤ j → j ≤ length literals → slice_range (literals ++ more) i j ≡ slice_range literals i j
+kept_range literals more i j ordered within =
+    ap (take (j - i)) (drop-append-le i literals more (omega arith)) ∙ take-append-le (j - i) (drop i literals) more (omega (arith, length-drop i literals))
+
+kept_entries : (literals more : List ℤ) (clauses : List Stored) → All (λ (s : Stored). s.start ≤ s.end) clauses → All (λ (s : Stored). s.end ≤ length literals) clauses → entries_in (literals ++ more) clauses ≡ entries_in literals clauses
+kept_entries literals more [] ordered within = refl
+kept_entries literals more (first ∷ rest) ordered within =
+    rw (
+      kept_range literals more first.start first.end (All-head (λ (s : Stored). s.start ≤ s.end) first rest ordered) (All-head (λ (s : Stored). s.end ≤ length literals) first rest within),
+      kept_entries literals more rest (All-tail (λ (s : Stored). s.start ≤ s.end) first rest ordered) (All-tail (λ (s : Stored). s.end ≤ length literals) first rest within),
+    )
+
+new_range : (literals more : List ℤ) → slice_range (literals ++ more) (length literals) (length literals + length more) ≡ more
+new_range literals more =
+    ap (take (length literals + length more - length literals)) (drop-append_seam literals more) ∙ take_all (length literals + length more - length literals) more (omega arith)
+
+-- one more clause at the end
+pub entries-stored : (literals more : List ℤ) (clauses : List Stored) (derived : Bool) → AreWithin literals clauses → entries_in (literals ++ more) (clauses ++ record { start = length literals; end = length literals + length more; derived = derived } ∷ []) ≡ entries_in literals clauses ++ entry more derived ∷ []
+entries-stored literals more clauses derived are =
+    map-append (entry_at (literals ++ more)) clauses (record { start = length literals; end = length literals + length more; derived = derived } ∷ [])
+    ∙ rw (kept_entries literals more clauses are.ordered are.within, new_range literals more)

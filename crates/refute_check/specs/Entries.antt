@@ -10,6 +10,9 @@ pub record Entry : Type 0 where
   pub clause : List ℤ
   pub derived : Bool
 
+abbrev pub entry : List ℤ → Bool → Entry
+entry clause derived = record { clause = clause; derived = derived }
+
 abbrev pub clauses_of : List Entry → List (List ℤ)
 clauses_of entries = map (λ entry. entry.clause) entries
 
@@ -22,7 +25,7 @@ has_empty_step entries = list_any (λ entry. entry.derived && has_no_literals en
 
 -- How they are stored: the literals of all of them in one list, and the place of each in it.
 abbrev pub entry_at : List ℤ → Stored → Entry
-entry_at literals stored = record { clause = slice_range literals stored.start stored.end; derived = stored.derived }
+entry_at literals stored = entry (slice_range literals stored.start stored.end) stored.derived
 
 abbrev pub entries_in : List ℤ → List Stored → List Entry
 entries_in literals clauses = map (entry_at literals) clauses

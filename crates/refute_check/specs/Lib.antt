@@ -4,3 +4,5 @@ pub mod Refutations
 pub mod Marks
 pub mod Entries
 pub mod Effects
+pub mod Progress
+pub mod CheckerInside
