@@ -1,7 +1,7 @@
 -- One more literal of a hint's clause.
-use Rattle.std.proofs.Common.{◌≡◌, ℕ, suc, ◌+◌, ◌-◌, ◌<◌, ◌≤◌, ℤ, pos, Bool, true, false, not, List, [], ◌∷◌, length, get_or, take, drop, Option, Some, None, refl, sym, ap, ◌∙◌, subst, arith}
+use Rattle.std.proofs.Common.{◌≡◌, ℕ, ◌+◌, ◌-◌, ◌<◌, ℤ, Bool, List, length, get_or, take, drop, Option, sym, ap, ◌∙◌, subst, arith}
 use Rattle.std.proofs.lemmas.List.{drop_more, take_all, length-drop}
-use Rattle.refute_check.specs.Steps.{Judgement, false_clause, value_of, is_false, all_false, judged, judgement}
+use Rattle.refute_check.specs.Steps.{Judgement, value_of, all_false, judged, judgement}
 use Rattle.refute_check.specs.declared.marks.Mark.{Mark}
 use Rattle.refute_check.specs.Marks.{values_at}
 use Rattle.refute_check.specs.Effects.{HasEffect}

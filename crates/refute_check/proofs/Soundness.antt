@@ -1,5 +1,5 @@
 -- Well-checked steps follow from the clauses before them.
-use Rattle.std.proofs.Common.{◌≡◌, ◌≢◌, ℕ, zero, suc, ◌+◌, ◌<◌, ◌≤◌, ℤ, pos, negsuc, Bool, true, false, not, ◌&&◌, ◌||◌, cond, List, [], ◌∷◌, ◌++◌, length, get_or, set, replicate, slice_get, Option, None, Some, IsTrue, is_none, refl, sym, ap, ◌∙◌, subst, arith, rules, inl, inr, ◌⊎◌}
+use Rattle.std.proofs.Common.{◌≡◌, ℕ, zero, suc, ◌+◌, ℤ, pos, negsuc, Bool, true, false, not, ◌&&◌, ◌||◌, cond, List, [], ◌∷◌, ◌++◌, length, get_or, set, replicate, slice_get, Option, None, Some, is_none, refl, sym, ap, ◌∙◌, subst, inl, inr}
 use Rattle.std.proofs.Math.Bool.{not-not, or-false}
 use Rattle.std.proofs.lemmas.Bool.{false≢true, false_from_ne_true, cases_eq, cases_lt}
 use Rattle.std.proofs.lemmas.List.{get_or-set_same, get_or-set_other, get_or_past, length-set}
@@ -8,9 +8,9 @@ use Rattle.std.specs.Cmp.Derive.{both_true}
 use Rattle.std.specs.List.{list_all, list_any}
 use Rattle.refute_check.specs.declared.refusals.CheckKind.{CheckKind}
 use Rattle.refute_check.specs.declared.refusals.CheckKind.TheVariants.{Syntax}
-use Rattle.refute_check.specs.Clauses.{variable_of, is_positive, literal_holds, clause_holds, all_hold, is_clause}
-use Rattle.refute_check.specs.Steps.{no_values, literal_of, value_of, is_false, taken_true, taken_false, all_taken_false, Judgement, false_clause, unit, neither, judged, judgement, all_false, clause_at, hint_judgement, end_fault, hint_fault, hints_fault, step_fault}
-use Rattle.refute_check.specs.Refutations.{Step, IsRefutation, RefutationLaw, well_checked, has_no_literals}
+use Rattle.refute_check.specs.Clauses.{literal_holds, clause_holds, all_hold, is_clause}
+use Rattle.refute_check.specs.Steps.{no_values, literal_of, value_of, is_false, taken_true, taken_false, all_taken_false, Judgement, false_clause, unit, neither, judged, judgement, all_false, clause_at, hint_judgement, hint_fault, hints_fault, step_fault}
+use Rattle.refute_check.specs.Refutations.{Step, RefutationLaw, well_checked, has_no_literals}
 
 pub left_true : (a b : Bool) → (a && b) ≡ true → a ≡ true
 left_true true b is = refl

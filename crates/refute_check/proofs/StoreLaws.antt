@@ -1,12 +1,11 @@
 -- The stored clauses.
-use Rattle.std.proofs.Common.{◌≡◌, ℕ, zero, suc, ◌+◌, ◌-◌, ◌<◌, ◌≤◌, ℤ, Bool, List, [], ◌∷◌, ◌++◌, map, length, get_or, take, drop, slice_get, slice_range, Option, Some, None, All, refl, sym, ap, ◌∙◌, arith}
-use Rattle.std.specs.Option.{option_map}
+use Rattle.std.proofs.Common.{◌≡◌, ℕ, zero, suc, ◌+◌, ◌-◌, ◌<◌, ◌≤◌, ℤ, Bool, List, [], ◌∷◌, ◌++◌, length, get_or, take, drop, slice_get, slice_range, Some, All, refl, sym, ap, ◌∙◌, arith}
 use Rattle.std.proofs.Math.Seq.{drop-append_seam}
 use Rattle.std.proofs.lemmas.List.{map-append, drop-append-le, take-append-le, take_all, length-drop}
 use Rattle.std.proofs.lemmas.List.Elements.{All-take, All-drop, All-head, All-tail}
 use Rattle.refute_check.specs.declared.store.Stored.{Stored}
 use Rattle.refute_check.specs.Clauses.{variable_of}
-use Rattle.refute_check.specs.Entries.{Entry, entry, clauses_of, entry_at, entries_in, AreWithin, AreOver}
+use Rattle.refute_check.specs.Entries.{entry, clauses_of, entry_at, entries_in, AreWithin, AreOver}
 use Rattle.refute_check.specs.Steps.{clause_at}
 
 got_clause : (literals : List ℤ) (clauses : List Stored) (index : ℕ) (stored : Stored) → index < length clauses → stored ≡ get_or clauses index stored → slice_get (clauses_of (entries_in literals clauses)) index ≡ Some (slice_range literals stored.start stored.end)

@@ -1,5 +1,5 @@
 -- The values of the variables, as they are marked for the clause with one number.
-use Rattle.std.specs.Prelude.{ℕ, ◌+◌, ℤ, ◌≤◌, ◌==◌, Bool, ◌&&◌, if◌then◌else◌, List, [], ◌∷◌, map, Option, None, Some, is_none, All}
+use Rattle.std.specs.Prelude.{ℕ, ℤ, ◌≤◌, ◌==◌, Bool, ◌&&◌, if◌then◌else◌, List, [], ◌∷◌, map, Option, None, Some, is_none, All}
 use Rattle.refute_check.specs.declared.marks.Mark.{Mark}
 use Rattle.refute_check.specs.Clauses.{is_literal}
 use Rattle.refute_check.specs.Steps.{value_of, taken_false}

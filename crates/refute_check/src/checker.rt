@@ -1,6 +1,6 @@
 //! The checker.
 
-ghost use Rattle.std.specs.Prelude.{◌≡◌, ◌||◌, ◌&&◌, ℕ, ◌+◌, ◌-◌, ◌<◌, ◌≤◌, Bool, true, false, length, is_some, IfOk, IfErr, OnOk};
+ghost use Rattle.std.specs.Prelude.{◌≡◌, ◌||◌, ◌&&◌, ℕ, ◌+◌, ◌-◌, ◌^◌, min, ◌<◌, ◌≤◌, Bool, true, false, length, is_some, IfOk, IfErr, OnOk};
 ghost use Rattle.std.specs.Result.{result_err};
 ghost use Rattle.std.specs.Option.{option_copied};
 ghost use Rattle.refute_check.specs.Clauses.{all_hold};
@@ -120,14 +120,9 @@ impl Checker {
         if let Some(refusal) = self.refusal {
             return Err(refusal);
         }
-        let line = self.calls.saturating_add(1);
+        let line = next_call(self.calls);
         if !self.refuted {
-            let refusal = CheckError {
-                kind: CheckKind::NoEmptyClause,
-                line,
-            };
-            self.refusal = Some(refusal);
-            return Err(refusal);
+            return Err(refuse(&mut self.refusal, CheckKind::NoEmptyClause, line));
         }
         self.calls = line;
         Ok(())
@@ -146,7 +141,7 @@ impl Checker {
         if let Some(refusal) = self.refusal {
             return Err(refusal);
         }
-        let line = self.calls.saturating_add(1);
+        let line = next_call(self.calls);
         let number = self.clauses.len() as u32 + 1;
         let fault = find_fault(
             &mut self.marks,
@@ -158,9 +153,7 @@ impl Checker {
             hints,
         );
         if let Some(kind) = fault {
-            let refusal = CheckError { kind, line };
-            self.refusal = Some(refusal);
-            return Err(refusal);
+            return Err(refuse(&mut self.refusal, kind, line));
         }
         let derived = hints.is_some();
         store(&mut self.literals, &mut self.clauses, clause, derived);
@@ -170,6 +163,23 @@ impl Checker {
         self.spare_literals -= clause.len() as u32;
         Ok(())
     }
+}
+
+// The number of the next call; the count stops at its largest value.
+fn next_call(calls: u64) -> u64
+    ensures { result ≡ min (calls + 1) (2 ^ 64 - 1) }
+{
+    calls.saturating_add(1)
+}
+
+// Keeps a refusal as the answer for good.
+fn refuse(answer: &mut Option<CheckError>, kind: CheckKind, line: u64) -> CheckError
+    ensures refusal { result ≡ record { kind = kind; line = line } }
+    ensures kept { answer.new ≡ Some result }
+{
+    let refusal = CheckError { kind, line };
+    *answer = Some(refusal);
+    refusal
 }
 
 fn is_refuted_by(refuted: bool, derived: bool, clause: &[i32]) -> bool

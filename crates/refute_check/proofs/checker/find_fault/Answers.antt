@@ -1,4 +1,4 @@
-use Rattle.std.proofs.Common.{ℕ, Bor, List, Option, sym, ap, ◌∙◌, None, Some}
+use Rattle.std.proofs.Common.{ℕ, Bor, List, Option, sym, ap, ◌∙◌}
 use Rattle.std.specs.Option.{option_copied}
 use Rattle.refute_check.specs.Entries.{clauses_of, entries_in}
 use Rattle.refute_check.specs.Steps.{hints_fault}

@@ -1,4 +1,4 @@
-use Rattle.std.proofs.Common.{length, ◌-◌, sym}
+use Rattle.std.proofs.Common.{length, ◌-◌}
 use Rattle.refute_check.proofs.StoreLaws.{clause_over}
 use Rattle.refute_check.proofs.hints.follow_hint.Goals as goal
 

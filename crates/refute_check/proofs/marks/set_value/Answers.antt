@@ -1,4 +1,4 @@
-use Rattle.std.proofs.Common.{arith, set, Some, ap, ◌∙◌}
+use Rattle.std.proofs.Common.{arith, set, ap, ◌∙◌}
 use Rattle.std.proofs.lemmas.List.{map-set}
 use Rattle.std.proofs.lemmas.Bool.Decides.{nat_tests}
 use Rattle.refute_check.specs.Marks.{values_at, marked}

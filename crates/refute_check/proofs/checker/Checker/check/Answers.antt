@@ -1,13 +1,12 @@
-use Rattle.std.proofs.Common.{◌≡◌, ℕ, ◌+◌, ℤ, ◌≤◌, Bool, true, ◌&&◌, ◌||◌, List, [], ◌∷◌, ◌++◌, length, take, drop, Bor, Option, None, Some, is_some, All, refl, sym, ap, ◌∙◌, subst, arith, rules, vec_len}
+use Rattle.std.proofs.Common.{◌≡◌, ℕ, ◌+◌, ℤ, ◌≤◌, Bool, true, ◌&&◌, ◌||◌, List, [], ◌∷◌, ◌++◌, length, take, drop, Bor, Option, None, Some, is_some, refl, sym, ap, ◌∙◌, subst, arith, rules, vec_len}
 use Rattle.std.specs.Option.{option_copied}
-use Rattle.std.proofs.lemmas.Grind.{common_steps}
 use Rattle.std.proofs.lemmas.List.Elements.{All-append}
 use Rattle.std.proofs.lemmas.List.{drop_all, append-nil, take_all}
 use Rattle.refute_check.specs.declared.marks.Mark.{Mark}
 use Rattle.refute_check.specs.declared.store.Stored.{Stored}
 use Rattle.refute_check.specs.Refutations.{has_no_literals}
 use Rattle.refute_check.specs.Clauses.{variable_of, is_clause}
-use Rattle.refute_check.specs.Entries.{Entry, entry, clauses_of, has_empty_step, entries_in, AreOver}
+use Rattle.refute_check.specs.Entries.{entry, clauses_of, has_empty_step, entries_in, AreOver}
 use Rattle.refute_check.specs.Marks.{UpTo}
 use Rattle.refute_check.specs.Progress.{Progress, fault_in}
 use Rattle.refute_check.proofs.FormLaws.{clause_over}
