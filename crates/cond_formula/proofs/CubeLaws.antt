@@ -9,16 +9,8 @@ use Rattle.std.specs.Prelude.{bit_xor}
 use Rattle.std.specs.Int.{bit_at, trailing_zeros, w128}
 use lib.Bits.{bit_and}
 use Rattle.cond_formula.specs.Features.{has, bits_of}
-use Rattle.cond_formula.specs.FeatureBits.{get_or-bits_of}
+use Rattle.cond_formula.specs.FeatureBits.{has_bit-below, has-past}
 use Rattle.cond_formula.specs.Cubes.{has_bit, Agrees, Clash}
-
-has_bit-below : (n feature : ℕ) → feature < 128 → has_bit n feature ≡ eqb (bit_at n feature) 1
-unfolding has
-has_bit-below n feature within = rw (get_or-bits_of 128 n feature within) (grind (arith, nat_tests))
-
-has-past : (on : List Bool) (feature : ℕ) → 128 ≤ feature → has on feature ≡ false
-unfolding has
-has-past on feature past = grind (arith, nat_tests)
 
 bits_same : (a b : ℕ) → a < 2 → b < 2 → eqb a 1 ≡ eqb b 1 → a ≡ b
 bits_same a b left right same = grind (arith, nat_tests)

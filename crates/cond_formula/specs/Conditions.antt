@@ -1,5 +1,5 @@
 -- Conditions on sets of features: what a formula says.
-use Rattle.std.specs.Prelude.{◌≡◌, ℕ, ◌<◌, Bool, true, false, not, ◌&&◌, ◌||◌, List, [], ◌∷◌, map, ⊤}
+use Rattle.std.specs.Prelude.{◌≡◌, ℕ, ◌<◌, Bool, true, false, not, ◌&&◌, ◌||◌, List, [], ◌∷◌, map, IsTrue, ⊤}
 use Rattle.cond_formula.specs.declared.formulas.Formula.{Formula}
 use Rattle.cond_formula.specs.declared.formulas.Formula.TheOpen.{Formula-F, True, False, Var, Not, And, Or}
 use Rattle.cond_formula.specs.declared.formulas.Formula.TheFolds.{fold-Formula}
@@ -36,34 +36,48 @@ abbrev mutual
   any_true on none = false
   any_true on (more part rest) = value on part || any_true on rest
 
--- Each feature that the condition names has a number below this one.
+-- Each feature that the condition names is so.
 abbrev mutual
-  pub VarsBelow : ℕ → Condition → Type 0
-  VarsBelow count Always = ⊤
-  VarsBelow count Never = ⊤
-  VarsBelow count (Feature feature) = feature < count
-  VarsBelow count (Inverse inner) = VarsBelow count inner
-  VarsBelow count (All_of parts) = AllVarsBelow count parts
-  VarsBelow count (Any_of parts) = AllVarsBelow count parts
+  pub EachFeature : (ℕ → Type 0) → Condition → Type 0
+  EachFeature Is Always = ⊤
+  EachFeature Is Never = ⊤
+  EachFeature Is (Feature feature) = Is feature
+  EachFeature Is (Inverse inner) = EachFeature Is inner
+  EachFeature Is (All_of parts) = EachFeatureOf Is parts
+  EachFeature Is (Any_of parts) = EachFeatureOf Is parts
 
-  pub AllVarsBelow : ℕ → Conditions → Type 0
-  AllVarsBelow count none = ⊤
-  AllVarsBelow count (more part rest) = VarsBelow count part × AllVarsBelow count rest
+  pub EachFeatureOf : (ℕ → Type 0) → Conditions → Type 0
+  EachFeatureOf Is none = ⊤
+  EachFeatureOf Is (more part rest) = EachFeature Is part × EachFeatureOf Is rest
 
--- true exactly where a isn't, and names no other feature
+-- Each feature that the condition names has a number below this one.
+abbrev pub VarsBelow : ℕ → Condition → Type 0
+VarsBelow count condition = EachFeature (λ feature. feature < count) condition
+
+abbrev pub AllVarsBelow : ℕ → Conditions → Type 0
+AllVarsBelow count parts = EachFeatureOf (λ feature. feature < count) parts
+
+-- each feature that the condition names passes a test
+abbrev pub VarsPass : (ℕ → Bool) → Condition → Type 0
+VarsPass test condition = EachFeature (λ feature. IsTrue (test feature)) condition
+
+-- true exactly where a isn't, and names no feature that a doesn't name
 pub record IsNegation (a result : Condition) : Type 0 where
   pub holds : (on : ℕ → Bool) → value on result ≡ not (value on a)
-  pub names : (count : ℕ) → VarsBelow count a → VarsBelow count result
+  pub names : (test : ℕ → Bool) → VarsPass test a → VarsPass test result
+  pub below : (count : ℕ) → VarsBelow count a → VarsBelow count result
 
 -- true exactly where both are, and names no feature that neither names
 pub record IsConjunction (a b result : Condition) : Type 0 where
   pub holds : (on : ℕ → Bool) → value on result ≡ (value on a && value on b)
-  pub names : (count : ℕ) → VarsBelow count a → VarsBelow count b → VarsBelow count result
+  pub names : (test : ℕ → Bool) → VarsPass test a → VarsPass test b → VarsPass test result
+  pub below : (count : ℕ) → VarsBelow count a → VarsBelow count b → VarsBelow count result
 
 -- true exactly where one of them is, and names no feature that neither names
 pub record IsDisjunction (a b result : Condition) : Type 0 where
   pub holds : (on : ℕ → Bool) → value on result ≡ (value on a || value on b)
-  pub names : (count : ℕ) → VarsBelow count a → VarsBelow count b → VarsBelow count result
+  pub names : (test : ℕ → Bool) → VarsPass test a → VarsPass test b → VarsPass test result
+  pub below : (count : ℕ) → VarsBelow count a → VarsBelow count b → VarsBelow count result
 
 -- a list of conditions as one tree
 abbrev pub conditions : List Condition → Conditions

@@ -1,5 +1,5 @@
 -- What is true of a number and the truth values of its bits.
-use Rattle.std.proofs.Common.{◌≡◌, ℕ, suc, zero, ◌+◌, ◌*◌, ◌/◌, ◌%◌, ◌^◌, ◌<◌, false, cond, eqb, get_or, length, refl, sym, ap, ◌∙◌, arith}
+use Rattle.std.proofs.Common.{◌≡◌, ℕ, suc, zero, ◌+◌, ◌*◌, ◌/◌, ◌%◌, ◌^◌, ◌<◌, ◌≤◌, Bool, false, List, cond, eqb, get_or, length, refl, sym, ap, ◌∙◌, arith}
 use Rattle.std.proofs.lemmas.Bool.Decides.{nat_tests}
 use Rattle.std.proofs.lemmas.Nat.Bits.{shr_and_one, bit_at-suc, bit_at_lowest}
 use Rattle.std.proofs.Math.Nat.{pow-succ'}
@@ -36,3 +36,13 @@ pub has-bits_of : (n i : ℕ) → i < 128 → has (bits_of 128 n) i ≡ eqb (bit
 unfolding has
 has-bits_of n i h =
     rw (shr_and_one n i) (rw (get_or-bits_of 128 n i h) (grind (arith, nat_tests)))
+
+-- bit by bit
+pub has_bit-below : (n feature : ℕ) → feature < 128 → has (bits_of 128 n) feature ≡ eqb (bit_at n feature) 1
+unfolding has
+has_bit-below n feature within = rw (get_or-bits_of 128 n feature within) (grind (arith, nat_tests))
+
+-- a configuration has no feature with a larger number
+pub has-past : (on : List Bool) (feature : ℕ) → 128 ≤ feature → has on feature ≡ false
+unfolding has
+has-past on feature past = grind (arith, nat_tests)

@@ -5,7 +5,8 @@ use Rattle.std.proofs.lemmas.List.{map-append, drop-append-le, take-append-le, t
 use Rattle.std.proofs.lemmas.List.Elements.{All-take, All-drop, All-head, All-tail}
 use Rattle.refute_check.specs.declared.store.Stored.{Stored}
 use Rattle.refute_check.specs.Clauses.{variable_of}
-use Rattle.refute_check.specs.Entries.{entry, clauses_of, entry_at, entries_in, AreWithin, AreOver}
+use Rattle.refute_check.specs.Entries.{entry, clauses_of}
+use Rattle.refute_check.specs.Storage.{entry_at, entries_in, AreWithin, AreOver}
 use Rattle.refute_check.specs.Steps.{clause_at}
 
 got_clause : (literals : List ℤ) (clauses : List Stored) (index : ℕ) (stored : Stored) → index < length clauses → stored ≡ get_or clauses index stored → slice_get (clauses_of (entries_in literals clauses)) index ≡ Some (slice_range literals stored.start stored.end)

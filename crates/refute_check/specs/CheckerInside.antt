@@ -2,7 +2,8 @@
 use Rattle.std.specs.Prelude.{◌≡◌, ℕ, ◌+◌, ◌<◌, ◌≤◌, ◌^◌, Bool, true, vec_len, vec_capacity, IsNone}
 use Rattle.refute_check.specs.declared.checker.Checker.TheInside.{Inside}
 use Rattle.refute_check.specs.Clauses.{all_hold}
-use Rattle.refute_check.specs.Entries.{clauses_of, given_of, has_empty_step, entries_in, AreWithin, AreOver}
+use Rattle.refute_check.specs.Entries.{clauses_of, given_of, has_empty_step}
+use Rattle.refute_check.specs.Storage.{entries_in, AreWithin, AreOver}
 use Rattle.refute_check.specs.Marks.{UpTo}
 use Rattle.refute_check.specs.Progress.{Progress}
 

@@ -3,6 +3,7 @@ pub mod Steps
 pub mod Refutations
 pub mod Marks
 pub mod Entries
+pub mod Storage
 pub mod Effects
 pub mod Progress
 pub mod CheckerInside

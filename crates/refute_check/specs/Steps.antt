@@ -65,13 +65,13 @@ hint_judgement values None = neither
 hint_judgement values (Some clause) = judgement values clause
 
 -- a false clause ends the step, so that no hint may follow
-abbrev pub end_fault : List ℕ → Option CheckKind
-end_fault [] = None
-end_fault (hint ∷ rest) = Some BadHint
+abbrev pub more_hints_fault : List ℕ → Option CheckKind
+more_hints_fault [] = None
+more_hints_fault (hint ∷ rest) = Some BadHint
 
 -- by what a hint's clause is, and what is wrong with the other hints once a literal is true
 abbrev pub hint_fault : Judgement → (ℤ → Option CheckKind) → List ℕ → Option CheckKind
-hint_fault false_clause others rest = end_fault rest
+hint_fault false_clause others rest = more_hints_fault rest
 hint_fault (unit literal) others rest = others literal
 hint_fault neither others rest = Some BadHint
 

@@ -4,7 +4,8 @@ ghost use Rattle.std.specs.Prelude.{◌≡◌, ◌||◌, ◌&&◌, ℕ, ◌+◌,
 ghost use Rattle.std.specs.Result.{result_err};
 ghost use Rattle.std.specs.Option.{option_copied};
 ghost use Rattle.refute_check.specs.Clauses.{all_hold};
-ghost use Rattle.refute_check.specs.Entries.{entry, clauses_of, given_of, entries_in, AreWithin, AreOver};
+ghost use Rattle.refute_check.specs.Entries.{entry, clauses_of, given_of};
+ghost use Rattle.refute_check.specs.Storage.{entries_in, AreWithin, AreOver};
 ghost use Rattle.refute_check.specs.Refutations.{has_no_literals};
 ghost use Rattle.refute_check.specs.Marks.{UpTo};
 ghost use Rattle.refute_check.specs.Progress.{begun, with_entry, with_call, refused, refusal_by, fault_in, given_fault, derived_fault, end_fault};

@@ -4,7 +4,8 @@ ghost use Rattle.std.specs.Prelude.{◌≡◌, ◌-◌, ◌<◌, false, length, 
 ghost use Rattle.std.specs.Result.{result_err};
 ghost use Rattle.refute_check.specs.Clauses.{variable_of};
 ghost use Rattle.refute_check.specs.Steps.{Judgement, value_of, is_false, all_false, judged, judgement, clause_at, hint_judgement, hints_fault};
-ghost use Rattle.refute_check.specs.Entries.{clauses_of, entries_in, AreWithin, AreOver};
+ghost use Rattle.refute_check.specs.Entries.{clauses_of};
+ghost use Rattle.refute_check.specs.Storage.{entries_in, AreWithin, AreOver};
 ghost use Rattle.refute_check.specs.Marks.{values_at, UpTo};
 ghost use Rattle.refute_check.specs.Effects.{HasEffect};
 

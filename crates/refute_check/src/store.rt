@@ -3,7 +3,8 @@
 ghost use Rattle.std.specs.Prelude.{◌≡◌, ◌+◌, ◌<◌, ◌≤◌, [], ◌∷◌, ◌++◌, length, vec_len, vec_capacity};
 ghost use Rattle.std.specs.Option.{option_copied};
 ghost use Rattle.refute_check.specs.Steps.{clause_at};
-ghost use Rattle.refute_check.specs.Entries.{clauses_of, entry, entries_in, AreWithin};
+ghost use Rattle.refute_check.specs.Entries.{clauses_of, entry};
+ghost use Rattle.refute_check.specs.Storage.{entries_in, AreWithin};
 
 /// Where the literals of an accepted clause lie, and whether it was derived by a step.
 #[derive(Clone, Copy)]

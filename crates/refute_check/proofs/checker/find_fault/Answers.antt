@@ -1,6 +1,7 @@
 use Rattle.std.proofs.Common.{ℕ, Bor, List, Option, sym, ap, ◌∙◌}
 use Rattle.std.specs.Option.{option_copied}
-use Rattle.refute_check.specs.Entries.{clauses_of, entries_in}
+use Rattle.refute_check.specs.Entries.{clauses_of}
+use Rattle.refute_check.specs.Storage.{entries_in}
 use Rattle.refute_check.specs.Steps.{hints_fault}
 use Rattle.refute_check.specs.Progress.{fault_in}
 use Rattle.refute_check.proofs.FormLaws.{clause_formed}

@@ -1,6 +1,7 @@
 use Rattle.std.proofs.Common.{◌≡◌, drop}
 use Rattle.refute_check.specs.Marks.{values_at, UpTo}
-use Rattle.refute_check.specs.Entries.{clauses_of, entries_in}
+use Rattle.refute_check.specs.Entries.{clauses_of}
+use Rattle.refute_check.specs.Storage.{entries_in}
 use Rattle.refute_check.specs.Steps.{hints_fault}
 use Rattle.refute_check.proofs.hints.check_hints.Given as goal
 

@@ -13,7 +13,7 @@ below feature h = rw (condition_of-Var feature) h
 pub print_if-requires-clause-numbered : goal.print_if-requires-clause-numbered
 print_if-requires-clause-numbered g c =
     let two : length c.deref.result.now ≡ 2 = ap length (c.deref.ensures.value ∙ c.in_ok-names.ensures.items) in
-    rw two (c.in_ok-either.ensures.names 2 (c.in_ok-b_alone.ensures.names 2 (c.in_ok-without_a.ensures.names 2 (below 0 (omega arith))) (below 1 (omega arith))) (below 0 (omega arith)))
+    rw two (c.in_ok-either.ensures.below 2 (c.in_ok-b_alone.ensures.below 2 (c.in_ok-without_a.ensures.below 2 (below 0 (omega arith))) (below 1 (omega arith))) (below 0 (omega arith)))
 
 abbrev IsNamed : String Global → Type 0
 IsNamed name = IsFeatureName (string_bytes name)

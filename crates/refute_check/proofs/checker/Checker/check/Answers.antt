@@ -6,7 +6,8 @@ use Rattle.refute_check.specs.declared.marks.Mark.{Mark}
 use Rattle.refute_check.specs.declared.store.Stored.{Stored}
 use Rattle.refute_check.specs.Refutations.{has_no_literals}
 use Rattle.refute_check.specs.Clauses.{variable_of, is_clause}
-use Rattle.refute_check.specs.Entries.{entry, clauses_of, has_empty_step, entries_in, AreOver}
+use Rattle.refute_check.specs.Entries.{entry, clauses_of, has_empty_step}
+use Rattle.refute_check.specs.Storage.{entries_in, AreOver}
 use Rattle.refute_check.specs.Marks.{UpTo}
 use Rattle.refute_check.specs.Progress.{Progress, fault_in}
 use Rattle.refute_check.proofs.FormLaws.{clause_over}

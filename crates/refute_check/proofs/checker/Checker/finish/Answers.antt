@@ -1,6 +1,7 @@
 use Rattle.std.proofs.Common.{◌≡◌, ℕ, Bool, false, ◌∙◌, sym, subst}
 use Rattle.refute_check.specs.Clauses.{all_hold}
-use Rattle.refute_check.specs.Entries.{given_of, entries_in}
+use Rattle.refute_check.specs.Entries.{given_of}
+use Rattle.refute_check.specs.Storage.{entries_in}
 use Rattle.refute_check.specs.Progress.{Progress}
 use Rattle.refute_check.proofs.CheckerLaws.{unsatisfied}
 use Rattle.refute_check.proofs.checker.Checker.finish.Goals as goal
