@@ -180,11 +180,11 @@ joined_line xs ys x y = rw (list_all-append (λ byte. not (eqb byte 10)) xs ys, 
 between_line : (xs between ys : List ℕ) → one_line xs ≡ true → one_line between ≡ true → one_line ys ≡ true → one_line (xs ++ between ++ ys) ≡ true
 between_line xs between ys x b y = joined_line (xs ++ between) ys (joined_line xs between x b) y
 
-left_true : (a b : Bool) → (a && b) ≡ true → a ≡ true
+pub left_true : (a b : Bool) → (a && b) ≡ true → a ≡ true
 left_true true b is = refl
 left_true false b is = is
 
-right_true : (a b : Bool) → (a && b) ≡ true → b ≡ true
+pub right_true : (a b : Bool) → (a && b) ≡ true → b ≡ true
 right_true true b is = is
 right_true false b is = absurd (false≢true is)
 
@@ -196,17 +196,20 @@ parts_line [] is = refl
 parts_line (byte ∷ rest) is =
     both_true (part_line byte (left_true (is_identifier_part byte) (list_all is_identifier_part rest) is)) (parts_line rest (right_true (is_identifier_part byte) (list_all is_identifier_part rest) is))
 
-identifier_line : (name : List ℕ) → is_identifier name ≡ true → one_line name ≡ true
-identifier_line [] is = refl
-identifier_line (first ∷ rest) is =
+identifier_parts : (name : List ℕ) → is_identifier name ≡ true → list_all is_identifier_part name ≡ true
+identifier_parts [] is = refl
+identifier_parts (first ∷ rest) is =
     let start = left_true (is_identifier_start first) (list_all is_identifier_part rest) is in
     let part : is_identifier_part first ≡ true = rw start refl in
-    both_true (part_line first part) (parts_line rest (right_true (is_identifier_start first) (list_all is_identifier_part rest) is))
+    both_true part (right_true (is_identifier_start first) (list_all is_identifier_part rest) is)
+
+pub feature_name_parts : (name : List ℕ) → IsFeatureName name → list_all is_identifier_part name ≡ true
+unfolding IsFeatureName is_feature_name
+feature_name_parts name is =
+    identifier_parts name (left_true _ _ (left_true _ _ (left_true (is_identifier name && not (is_among keywords name) && not (is_among taken_names name)) (not (starts_with nat_eq name (codes "__"))) is)))
 
 pub feature_name_line : (name : List ℕ) → IsFeatureName name → one_line name ≡ true
-unfolding IsFeatureName is_feature_name
-feature_name_line name is =
-    identifier_line name (left_true _ _ (left_true _ _ (left_true (is_identifier name && not (is_among keywords name) && not (is_among taken_names name)) (not (starts_with nat_eq name (codes "__"))) is)))
+feature_name_line name is = parts_line name (feature_name_parts name is)
 
 module _ (names : List (List ℕ)) (lawful : (name : List ℕ) → Contains names name → one_line name ≡ true) where
   mutual

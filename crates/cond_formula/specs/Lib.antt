@@ -6,3 +6,4 @@ pub mod ConditionLaws
 pub mod Expressions
 pub mod Printed
 pub mod Cubes
+pub mod Readings
