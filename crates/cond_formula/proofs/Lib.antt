@@ -1,0 +1,4 @@
+pub mod ConnectiveLaws
+pub mod PrintLaws
+pub mod CubeLaws
+pub mod ReadingLaws

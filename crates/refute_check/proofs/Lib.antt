@@ -1,0 +1,5 @@
+pub mod CheckerLaws
+pub mod FormLaws
+pub mod HintLaws
+pub mod Soundness
+pub mod StoreLaws

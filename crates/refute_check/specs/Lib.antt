@@ -1,0 +1,9 @@
+pub mod Clauses
+pub mod Steps
+pub mod Refutations
+pub mod Marks
+pub mod Entries
+pub mod Storage
+pub mod Effects
+pub mod Progress
+pub mod CheckerInside
