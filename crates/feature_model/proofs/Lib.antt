@@ -1,0 +1,9 @@
+pub mod Complete
+pub mod Sound
+pub mod Truth
+pub mod Readings
+pub mod Lexing
+pub mod Uniqueness
+pub mod ModelLemmas
+pub mod ReaderLemmas
+pub mod Refusals

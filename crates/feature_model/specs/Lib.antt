@@ -1,0 +1,9 @@
+pub mod Tokens
+pub mod Bytes
+pub mod Trees
+pub mod Reading
+pub mod View
+pub mod ReaderView
+pub mod Constraints
+pub mod Laws
+pub mod ModelView

@@ -1,0 +1,112 @@
+//! The connectives of constraints, as formulas.
+ghost use Rattle.std.specs.Prelude.{◌≡◌, ℕ, Bool, not, ◌&&◌, ◌||◌, if◌then◌else◌, IfOk, option_map, map, length, ◌≤◌};
+ghost use Rattle.feature_model.specs.Reading.{joined, implied};
+ghost use Rattle.feature_model.specs.Trees.{feature_number, on_feature};
+ghost use Rattle.feature_model.specs.ReaderView.{value_in};
+
+use crate::tokens::feature_number;
+use cond_formula::{Formula, NoMemory};
+use std::alloc::Global;
+
+/// The formula of a name; false for one that no feature has.
+pub fn named(features: &[String], name: &[u8]) -> Formula
+    requires { length features.now ≤ 128 }
+    ensures { (on : ℕ → Bool) → value_in on result ≡ on_feature on (feature_number features.now name.now) }
+{
+    match feature_number(features, name) {
+        Some(number) => Formula::Var(number as u8),
+        None => Formula::False,
+    }
+}
+
+pub fn inverted(alloc: Global, inverted: bool, a: Formula) -> Result<Formula, NoMemory>
+    ensures { (on : ℕ → Bool) → IfOk result (λ f. value_in on f ≡ (if inverted then not (value_in on a) else value_in on a)) }
+{
+    if inverted {
+        let inverse = Formula::not(alloc, a)?;
+        return Ok(inverse);
+    }
+    Ok(a)
+}
+
+fn leads_to(alloc: Global, a: Formula, b: Formula) -> Result<Formula, NoMemory>
+    ensures { (on : ℕ → Bool) → IfOk result (λ f. value_in on f ≡ (not (value_in on a) || value_in on b)) }
+{
+    let inverse = Formula::not(alloc, a)?;
+    let formula = Formula::or(alloc, inverse, b)?;
+    Ok(formula)
+}
+
+fn same_as(alloc: Global, a: Formula, b: Formula) -> Result<Formula, NoMemory>
+    ensures { (on : ℕ → Bool) → IfOk result (λ f. value_in on f ≡ (if value_in on a then value_in on b else not (value_in on b))) }
+{
+    let a_copy = a.try_clone(alloc)?;
+    let b_copy = b.try_clone(alloc)?;
+    let forth = leads_to(alloc, a, b)?;
+    let back = leads_to(alloc, b_copy, a_copy)?;
+    let formula = Formula::and(alloc, forth, back)?;
+    Ok(formula)
+}
+
+pub fn joined_by_and(
+    alloc: Global,
+    left: Option<Formula>,
+    right: Formula,
+) -> Result<Formula, NoMemory>
+    ensures { (on : ℕ → Bool) → IfOk result (λ f. value_in on f ≡ joined (λ a b. a && b) (option_map (value_in on) left) (value_in on right)) }
+{
+    match left {
+        None => Ok(right),
+        Some(left) => {
+            let formula = Formula::and(alloc, left, right)?;
+            Ok(formula)
+        }
+    }
+}
+
+pub fn joined_by_or(
+    alloc: Global,
+    left: Option<Formula>,
+    right: Formula,
+) -> Result<Formula, NoMemory>
+    ensures { (on : ℕ → Bool) → IfOk result (λ f. value_in on f ≡ joined (λ a b. a || b) (option_map (value_in on) left) (value_in on right)) }
+{
+    match left {
+        None => Ok(right),
+        Some(left) => {
+            let formula = Formula::or(alloc, left, right)?;
+            Ok(formula)
+        }
+    }
+}
+
+pub fn joined_by_equals(
+    alloc: Global,
+    left: Option<Formula>,
+    right: Formula,
+) -> Result<Formula, NoMemory>
+    ensures { (on : ℕ → Bool) → IfOk result (λ f. value_in on f ≡ joined (λ a b. if a then b else not b) (option_map (value_in on) left) (value_in on right)) }
+{
+    match left {
+        None => Ok(right),
+        Some(left) => {
+            let formula = same_as(alloc, left, right)?;
+            Ok(formula)
+        }
+    }
+}
+
+/// Each premise implies what follows it.
+pub fn implied(
+    alloc: Global,
+    mut premises: Vec<Formula>,
+    conclusion: Formula,
+) -> Result<Formula, NoMemory>
+    ensures { (on : ℕ → Bool) → IfOk result (λ f. value_in on f ≡ implied (λ a b. not a || b) (map (value_in on) premises.items) (value_in on conclusion)) }
+{
+    let mut formula = conclusion;
+    while let Some(premise) = premises.pop() {
+        formula = leads_to(alloc, premise, formula)?;
+    }
+    Ok(formula)
+}
