@@ -7,6 +7,8 @@ use text_edits::{Files, SourceFile};
 pub(crate) enum Output {
     /// The bytes of `OUT/FILE`, where the status is 0.
     Written,
+    /// Nothing: the command writes no file.
+    Nothing,
 }
 
 /// A command over a store, with the answer that is wanted.
@@ -33,9 +35,11 @@ impl Case {
         let printed = fields.bytes(alloc)?;
         let target = match output {
             Output::Written => target_name(alloc, &words)?,
+            Output::Nothing => None,
         };
         let written = match output {
             Output::Written => Some(fields.bytes(alloc)?).filter(|_| status == 0),
+            Output::Nothing => None,
         };
         let label = fields.text(alloc)?;
         fields.end()?;

@@ -16,11 +16,18 @@ pub(crate) struct Suite {
 }
 
 /// All vectors.
-pub(crate) const SUITES: [Suite; 1] = [Suite {
-    command: "quick",
-    file: "quick.tsv",
-    output: Output::Written,
-}];
+pub(crate) const SUITES: [Suite; 2] = [
+    Suite {
+        command: "quick",
+        file: "quick.tsv",
+        output: Output::Written,
+    },
+    Suite {
+        command: "admit",
+        file: "admit.tsv",
+        output: Output::Nothing,
+    },
+];
 
 /// How many cases were run, and how many of them agree.
 #[derive(Clone, Copy, Debug)]
