@@ -4,7 +4,7 @@ ghost use Rattle.std.specs.String.{string_bytes};
 ghost use Rattle.morpheus_top.specs.Words as spec;
 ghost use Rattle.morpheus_top.specs.Quick.{asked};
 
-use c_names::{is_new_name, is_word_byte};
+use c_names::{is_file_name, is_new_name, is_word_byte};
 
 /// A renaming of one name in one file of the quick form, as the words ask for it.
 #[derive(Clone, Copy, Debug)]
@@ -15,41 +15,16 @@ pub(crate) struct Renaming<'a> {
     pub(crate) out: &'a str,
 }
 
-fn is_file_byte(byte: u8) -> bool
-    ensures { result ≡ spec.is_file_byte byte }
-{
-    is_word_byte(byte) || byte == b'-' || byte == b'.' || byte == b'+'
-}
-
 fn is_folder_byte(byte: u8) -> bool
     ensures { result ≡ spec.is_folder_byte byte }
 {
     is_word_byte(byte) || byte == b'-'
 }
 
-fn are_file_bytes(bytes: &[u8]) -> bool
-    ensures { result ≡ list_all spec.is_file_byte bytes.now }
-{
-    bytes.iter().all(|byte| is_file_byte(*byte))
-}
-
 fn are_folder_bytes(bytes: &[u8]) -> bool
     ensures { result ≡ list_all spec.is_folder_byte bytes.now }
 {
     bytes.iter().all(|byte| is_folder_byte(*byte))
-}
-
-fn is_component(part: &[u8]) -> bool
-    ensures { result ≡ spec.is_component part.now }
-{
-    !part.is_empty() && are_file_bytes(part) && !matches!(part, b"." | b"..")
-}
-
-fn is_file_name(name: &[u8]) -> bool
-    ensures { result ≡ spec.is_file_name name.now }
-{
-    name.split(|byte| *byte == b'/')
-        .all(|part| is_component(part))
 }
 
 fn is_folder_name(name: &[u8]) -> bool

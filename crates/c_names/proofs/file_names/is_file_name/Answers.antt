@@ -1,8 +1,8 @@
 use Rattle.std.proofs.Common.{rules, tests}
 use Rattle.std.proofs.lemmas.Iterator.Search.{all_from_yields_List}
 use Rattle.std.proofs.lemmas.Iterator.Splits.{YieldsList-from_slice_split}
-use Rattle.morpheus_top.specs.Words.{is_component}
-use Rattle.morpheus_top.proofs.words.is_file_name.Goals as goal
+use Rattle.c_names.specs.FileNames.{is_component}
+use Rattle.c_names.proofs.file_names.is_file_name.Goals as goal
 
 pub returns : goal.returns
 returns c =
