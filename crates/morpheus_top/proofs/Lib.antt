@@ -2,3 +2,4 @@ pub mod Giving
 pub mod QuickLemmas
 pub mod WordLemmas
 pub mod Promises
+mod AdmitPromises

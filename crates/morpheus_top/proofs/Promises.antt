@@ -4,17 +4,17 @@ use Rattle.quick_form.specs.Renaming.{token_count}
 use Rattle.quick_form.specs.Quick.{Takes, KeepsBehaviour, RenamingKeepsBehaviour}
 use Rattle.project_store.specs.Room.{LacksRoom}
 use Rattle.morpheus_top.specs.declared.replies.Reply.{Reply}
-use Rattle.morpheus_top.specs.declared.replies.Reply.TheVariants.{Renamed, Usage, ReadFault, WriteFault, WantOfMemory, NotQuick}
+use Rattle.morpheus_top.specs.declared.replies.Reply.TheVariants.{Renamed, Usage, ReadFault, WriteFault, WantOfMemory, NotQuick, BadProject, Admits, AdmitsNothing}
 use Rattle.quick_form.specs.Words.{is_name}
 use Rattle.c_names.specs.Names.{is_new_name}
-use Rattle.morpheus_top.specs.Words.{Renaming, target, Asks, IsUsage}
+use Rattle.morpheus_top.specs.Words.{Renaming, target, AsksQuick, AsksAdmit, IsUsage, Reads}
 use Rattle.morpheus_top.specs.Replies.{status_of, report_of}
 use Rattle.morpheus_top.specs.States.{StoreState, SinkState, Kept}
 use Rattle.morpheus_top.specs.Calls.{TakesFile, RefusesFile, renamed_file, WritesFile, WritesPart, LacksRoomFor, SaysReadFault, SaysWriteFault, SaysNotQuick, SaysRenamed, Holds, BreaksOff, Answers}
 use Rattle.morpheus_top.specs.Promises.{IsOneOf, NoFault, SinkLacksRoom, IsRoomFor, BehaviourIsKept}
 
 -- words that ask for a renaming ask for that one alone
-pub one_renaming : (words : List (List ℕ)) (r s : Renaming) → Asks words r → Asks words s → r ≡ s
+pub one_renaming : (words : List (List ℕ)) (r s : Renaming) → AsksQuick words r → AsksQuick words s → r ≡ s
 one_renaming words r s a b =
     let e : codes "quick" ∷ r.file ∷ r.old ∷ r.new ∷ r.out ∷ [] ≡ codes "quick" ∷ s.file ∷ s.old ∷ s.new ∷ s.out ∷ [] = sym a.words_are ∙ b.words_are in
     let file : r.file ≡ s.file = cc in
@@ -27,8 +27,25 @@ one_renaming words r s a b =
     let k : List ℕ → Renaming = λ x. record { file = s.file; old = s.old; new = s.new; out = x } in
     ap f file ∙ (ap g old ∙ (ap h new ∙ ap k out))
 
+-- words that ask for a renaming ask for no project
+pub one_command : (words : List (List ℕ)) (r : Renaming) (name : List ℕ) → AsksQuick words r → AsksAdmit words name → ⊥
+one_command words r name a b =
+    let e : codes "quick" ∷ r.file ∷ r.old ∷ r.new ∷ r.out ∷ [] ≡ codes "admit" ∷ name ∷ [] = sym a.words_are ∙ b.words_are in cc
+
+-- words that ask for a project ask for that one alone
+pub one_project : (words : List (List ℕ)) (name other : List ℕ) → AsksAdmit words name → AsksAdmit words other → name ≡ other
+one_project words name other a b =
+    let e : codes "admit" ∷ name ∷ [] ≡ codes "admit" ∷ other ∷ [] = sym a.words_are ∙ b.words_are in cc
+
+-- words that ask for a command that first reads a file ask for no other
+pub one_file : (words : List (List ℕ)) (file other : List ℕ) → Reads words file → Reads words other → file ≡ other
+one_file words file other (inl x) (inl y) = x.2 ∙ (ap (λ (r : Renaming). r.file) (one_renaming words x.0 y.0 x.1 y.1) ∙ sym y.2)
+one_file words file other (inl x) (inr b) = absurd (one_command words x.0 other x.1 b)
+one_file words file other (inr a) (inl y) = absurd (one_command words y.0 file y.1 a)
+one_file words file other (inr a) (inr b) = one_project words file other a b
+
 -- no status but 6 is that of a failing sink
-settled : (words : List (List ℕ)) (b a : StoreState) (s t : SinkState) (status n : ℕ) (A : Answers words b a s t status) → status ≡ n → (n ≡ 6 → ⊥) → status_of A.reply ≡ n
+pub settled : (words : List (List ℕ)) (b a : StoreState) (s t : SinkState) (status n : ℕ) (A : Answers words b a s t status) → status ≡ n → (n ≡ 6 → ⊥) → status_of A.reply ≡ n
 settled words b a s t status n A e d = elim A.told [ inl k ↦ sym k.0 ∙ e | inr k ↦ absurd (d (sym e ∙ k.0)) ]
 
 on_usage : (words : List (List ℕ)) (b a : StoreState) (r : Reply) → Holds words b a r → status_of r ≡ 2 → IsUsage words
@@ -38,6 +55,9 @@ on_usage words b a ReadFault h e = absurd (omega arith)
 on_usage words b a WriteFault h e = absurd (omega arith)
 on_usage words b a WantOfMemory h e = absurd (omega arith)
 on_usage words b a (NotQuick o) h e = absurd (omega arith)
+on_usage words b a (BadProject f) h e = absurd (omega arith)
+on_usage words b a (Admits n) h e = absurd (omega arith)
+on_usage words b a AdmitsNothing h e = absurd (omega arith)
 
 on_read_fault : (words : List (List ℕ)) (b a : StoreState) (r : Reply) → Holds words b a r → status_of r ≡ 3 → SaysReadFault words b a
 on_read_fault words b a (Renamed n) h e = absurd (omega arith)
@@ -46,6 +66,9 @@ on_read_fault words b a ReadFault h e = h
 on_read_fault words b a WriteFault h e = absurd (omega arith)
 on_read_fault words b a WantOfMemory h e = absurd (omega arith)
 on_read_fault words b a (NotQuick o) h e = absurd (omega arith)
+on_read_fault words b a (BadProject f) h e = absurd (omega arith)
+on_read_fault words b a (Admits n) h e = absurd (omega arith)
+on_read_fault words b a AdmitsNothing h e = absurd (omega arith)
 
 on_write_fault : (words : List (List ℕ)) (b a : StoreState) (r : Reply) → Holds words b a r → status_of r ≡ 4 → SaysWriteFault words b a
 on_write_fault words b a (Renamed n) h e = absurd (omega arith)
@@ -54,6 +77,9 @@ on_write_fault words b a ReadFault h e = absurd (omega arith)
 on_write_fault words b a WriteFault h e = h
 on_write_fault words b a WantOfMemory h e = absurd (omega arith)
 on_write_fault words b a (NotQuick o) h e = absurd (omega arith)
+on_write_fault words b a (BadProject f) h e = absurd (omega arith)
+on_write_fault words b a (Admits n) h e = absurd (omega arith)
+on_write_fault words b a AdmitsNothing h e = absurd (omega arith)
 
 on_not_quick : (words : List (List ℕ)) (b a : StoreState) (r : Reply) → Holds words b a r → status_of r ≡ 12 → SaysNotQuick words b a
 on_not_quick words b a (Renamed n) h e = absurd (omega arith)
@@ -62,14 +88,20 @@ on_not_quick words b a ReadFault h e = absurd (omega arith)
 on_not_quick words b a WriteFault h e = absurd (omega arith)
 on_not_quick words b a WantOfMemory h e = absurd (omega arith)
 on_not_quick words b a (NotQuick o) h e = h
+on_not_quick words b a (BadProject f) h e = absurd (omega arith)
+on_not_quick words b a (Admits n) h e = absurd (omega arith)
+on_not_quick words b a AdmitsNothing h e = absurd (omega arith)
 
-on_renamed : (words : List (List ℕ)) (b a : StoreState) (r : Reply) → Holds words b a r → status_of r ≡ 0 → (n : ℕ) × SaysRenamed words b a n
-on_renamed words b a (Renamed n) h e = (n, h)
-on_renamed words b a Usage h e = absurd (omega arith)
-on_renamed words b a ReadFault h e = absurd (omega arith)
-on_renamed words b a WriteFault h e = absurd (omega arith)
-on_renamed words b a WantOfMemory h e = absurd (omega arith)
-on_renamed words b a (NotQuick o) h e = absurd (omega arith)
+on_renamed : (words : List (List ℕ)) (b a : StoreState) (s : Renaming) → AsksQuick words s → (r : Reply) → Holds words b a r → status_of r ≡ 0 → (n : ℕ) × SaysRenamed words b a n
+on_renamed words b a s asked (Renamed n) h e = (n, h)
+on_renamed words b a s asked Usage h e = absurd (omega arith)
+on_renamed words b a s asked ReadFault h e = absurd (omega arith)
+on_renamed words b a s asked WriteFault h e = absurd (omega arith)
+on_renamed words b a s asked WantOfMemory h e = absurd (omega arith)
+on_renamed words b a s asked (NotQuick o) h e = absurd (omega arith)
+on_renamed words b a s asked (BadProject f) h e = absurd (one_command words s h.project asked h.asked)
+on_renamed words b a s asked (Admits n) h e = absurd (one_command words s h.project asked h.asked)
+on_renamed words b a s asked AdmitsNothing h e = absurd (one_command words s h.project asked h.asked)
 
 on_others : (words : List (List ℕ)) (b a : StoreState) (r : Reply) → Holds words b a r → (status_of r ≡ 0 → ⊥) → (status_of r ≡ 4 → ⊥) → Kept b a
 on_others words b a (Renamed n) h p q = absurd (p refl)
@@ -78,6 +110,9 @@ on_others words b a ReadFault h p q = h.kept
 on_others words b a WriteFault h p q = absurd (q refl)
 on_others words b a WantOfMemory h p q = h
 on_others words b a (NotQuick o) h p q = h.kept
+on_others words b a (BadProject f) h p q = h.kept
+on_others words b a (Admits n) h p q = absurd (p refl)
+on_others words b a AdmitsNothing h p q = absurd (p refl)
 
 pub usage_lem : (words : List (List ℕ)) (b a : StoreState) (s t : SinkState) (status : ℕ) → Answers words b a s t status → status ≡ 2 → IsUsage words
 usage_lem words b a s t status A e = on_usage words b a A.reply A.holds (settled words b a s t status 2 A e (λ k. omega arith))
@@ -91,8 +126,8 @@ write_fault_lem words b a s t status A e = on_write_fault words b a A.reply A.ho
 pub not_quick_lem : (words : List (List ℕ)) (b a : StoreState) (s t : SinkState) (status : ℕ) → Answers words b a s t status → status ≡ 12 → SaysNotQuick words b a
 not_quick_lem words b a s t status A e = on_not_quick words b a A.reply A.holds (settled words b a s t status 12 A e (λ k. omega arith))
 
-pub renamed_lem : (words : List (List ℕ)) (b a : StoreState) (s t : SinkState) (status : ℕ) → Answers words b a s t status → status ≡ 0 → (n : ℕ) × SaysRenamed words b a n
-renamed_lem words b a s t status A e = on_renamed words b a A.reply A.holds (settled words b a s t status 0 A e (λ k. omega arith))
+pub renamed_lem : (words : List (List ℕ)) (b a : StoreState) (s t : SinkState) (status : ℕ) → Answers words b a s t status → status ≡ 0 → (r : Renaming) → AsksQuick words r → (n : ℕ) × SaysRenamed words b a n
+renamed_lem words b a s t status A e r asked = on_renamed words b a r asked A.reply A.holds (settled words b a s t status 0 A e (λ k. omega arith))
 
 pub sink_fault_lem : (words : List (List ℕ)) (b a : StoreState) (s t : SinkState) (status : ℕ) → (A : Answers words b a s t status) → status ≡ 6 → BreaksOff s t A.reply
 sink_fault_lem words b a s t status A e =
@@ -105,6 +140,9 @@ sink_fault_lem words b a s t status A e =
     no_six WriteFault e = omega arith
     no_six WantOfMemory e = omega arith
     no_six (NotQuick o) e = omega arith
+    no_six (BadProject f) e = omega arith
+    no_six (Admits n) e = omega arith
+    no_six AdmitsNothing e = omega arith
 
 same_bytes : (b : StoreState) (r r' : Renaming) (bytes bytes' : List ℕ) → r' ≡ r → b.file r.file ≡ Some bytes → b.file r'.file ≡ Some bytes' → bytes' ≡ bytes
 same_bytes b r r' bytes bytes' e p q =
@@ -112,13 +150,13 @@ same_bytes b r r' bytes bytes' e p q =
     let g : ◌≡◌ {A = Option (List ℕ)} (Some bytes') (Some bytes) = sym q ∙ (f ∙ p) in cc
 
 -- a file that is taken is renamed, unless memory ends or the store fails
-taken_reply : (words : List (List ℕ)) (b a : StoreState) (r : Renaming) (bytes : List ℕ) → Asks words r → b.tells → TakesFile r b.file bytes → (SaysReadFault words b a → ⊥) → (SaysWriteFault words b a → ⊥) → (reply : Reply) → Holds words b a reply → (reply ≡ Renamed (token_count r.old bytes)) ⊎ (reply ≡ WantOfMemory)
+taken_reply : (words : List (List ℕ)) (b a : StoreState) (r : Renaming) (bytes : List ℕ) → AsksQuick words r → b.tells → TakesFile r b.file bytes → (SaysReadFault words b a → ⊥) → (SaysWriteFault words b a → ⊥) → (reply : Reply) → Holds words b a reply → (reply ≡ Renamed (token_count r.old bytes)) ⊎ (reply ≡ WantOfMemory)
 taken_reply words b a r bytes asked tells takes no_read no_write (Renamed n) h =
     let w = h.wrote tells in
     let e = one_renaming words h.renaming r h.asked asked in
     let f = same_bytes b r h.renaming bytes w.bytes e takes.held w.taken.held in
     inl (ap Renamed (h.counts tells ∙ (ap (λ (x : Renaming). token_count x.old w.bytes) e ∙ ap (token_count r.old) f)))
-taken_reply words b a r bytes asked tells takes no_read no_write Usage h = absurd (h.0 r asked)
+taken_reply words b a r bytes asked tells takes no_read no_write Usage h = absurd (h.0.no_quick r asked)
 taken_reply words b a r bytes asked tells takes no_read no_write ReadFault h = absurd (no_read h)
 taken_reply words b a r bytes asked tells takes no_read no_write WriteFault h = absurd (no_write h)
 taken_reply words b a r bytes asked tells takes no_read no_write WantOfMemory h = inr refl
@@ -127,35 +165,48 @@ taken_reply words b a r bytes asked tells takes no_read no_write (NotQuick o) h 
     let e = one_renaming words h.renaming r h.asked asked in
     let f = same_bytes b r h.renaming bytes w.bytes e takes.held w.held in
     absurd (w.refused (subst (Takes h.renaming.old h.renaming.new) (sym f) (subst (λ (x : Renaming). Takes x.old x.new bytes) (sym e) takes.takes)))
+taken_reply words b a r bytes asked tells takes no_read no_write (BadProject f) h = absurd (one_command words r h.project asked h.asked)
+taken_reply words b a r bytes asked tells takes no_read no_write (Admits n) h = absurd (one_command words r h.project asked h.asked)
+taken_reply words b a r bytes asked tells takes no_read no_write AdmitsNothing h = absurd (one_command words r h.project asked h.asked)
 
 -- a file that isn't taken is refused, unless memory ends or the store fails
-refused_reply : (words : List (List ℕ)) (b a : StoreState) (r : Renaming) → Asks words r → b.tells → RefusesFile r b.file → (SaysReadFault words b a → ⊥) → (SaysWriteFault words b a → ⊥) → (reply : Reply) → Holds words b a reply → (status_of reply ≡ 12) ⊎ (status_of reply ≡ 7)
+refused_reply : (words : List (List ℕ)) (b a : StoreState) (r : Renaming) → AsksQuick words r → b.tells → RefusesFile r b.file → (SaysReadFault words b a → ⊥) → (SaysWriteFault words b a → ⊥) → (reply : Reply) → Holds words b a reply → (status_of reply ≡ 12) ⊎ (status_of reply ≡ 7)
 refused_reply words b a r asked tells refuses no_read no_write (Renamed n) h =
     let w = h.wrote tells in
     let e = one_renaming words h.renaming r h.asked asked in
     let f = same_bytes b r h.renaming refuses.bytes w.bytes e refuses.held w.taken.held in
     absurd (refuses.refused (subst (λ (x : Renaming). Takes x.old x.new refuses.bytes) e (subst (Takes h.renaming.old h.renaming.new) f w.taken.takes)))
-refused_reply words b a r asked tells refuses no_read no_write Usage h = absurd (h.0 r asked)
+refused_reply words b a r asked tells refuses no_read no_write Usage h = absurd (h.0.no_quick r asked)
 refused_reply words b a r asked tells refuses no_read no_write ReadFault h = absurd (no_read h)
 refused_reply words b a r asked tells refuses no_read no_write WriteFault h = absurd (no_write h)
 refused_reply words b a r asked tells refuses no_read no_write WantOfMemory h = inr refl
 refused_reply words b a r asked tells refuses no_read no_write (NotQuick o) h = inl refl
+refused_reply words b a r asked tells refuses no_read no_write (BadProject f) h = absurd (one_command words r h.project asked h.asked)
+refused_reply words b a r asked tells refuses no_read no_write (Admits n) h = absurd (one_command words r h.project asked h.asked)
+refused_reply words b a r asked tells refuses no_read no_write AdmitsNothing h = absurd (one_command words r h.project asked h.asked)
+
+no_reading : (words : List (List ℕ)) (file : List ℕ) → IsUsage words → Reads words file → ⊥
+no_reading words file u (inl x) = u.no_quick x.0 x.1
+no_reading words file u (inr a) = u.no_admit file a
 
 usage_reply : (words : List (List ℕ)) (b a : StoreState) → IsUsage words → (reply : Reply) → Holds words b a reply → (status_of reply ≡ 2) ⊎ (status_of reply ≡ 7)
-usage_reply words b a u (Renamed n) h = absurd (u h.renaming h.asked)
+usage_reply words b a u (Renamed n) h = absurd (u.no_quick h.renaming h.asked)
 usage_reply words b a u Usage h = inl refl
-usage_reply words b a u ReadFault h = absurd (u h.renaming h.asked)
-usage_reply words b a u WriteFault h = absurd (u h.renaming h.asked)
+usage_reply words b a u ReadFault h = absurd (no_reading words h.file u h.reads)
+usage_reply words b a u WriteFault h = absurd (u.no_quick h.renaming h.asked)
 usage_reply words b a u WantOfMemory h = inr refl
-usage_reply words b a u (NotQuick o) h = absurd (u h.renaming h.asked)
+usage_reply words b a u (NotQuick o) h = absurd (u.no_quick h.renaming h.asked)
+usage_reply words b a u (BadProject f) h = absurd (u.no_admit h.project h.asked)
+usage_reply words b a u (Admits n) h = absurd (u.no_admit h.project h.asked)
+usage_reply words b a u AdmitsNothing h = absurd (u.no_admit h.project h.asked)
 
-first_of_three : (x y z n : ℕ) → n ≡ x → IsOneOf (x ∷ y ∷ z ∷ []) n
+pub first_of_three : (x y z n : ℕ) → n ≡ x → IsOneOf (x ∷ y ∷ z ∷ []) n
 first_of_three x y z n e = (0, lit< tt, sym e)
 
-second_of_three : (x y z n : ℕ) → n ≡ y → IsOneOf (x ∷ y ∷ z ∷ []) n
+pub second_of_three : (x y z n : ℕ) → n ≡ y → IsOneOf (x ∷ y ∷ z ∷ []) n
 second_of_three x y z n e = (1, lit< tt, sym e)
 
-third_of_three : (x y z n : ℕ) → n ≡ z → IsOneOf (x ∷ y ∷ z ∷ []) n
+pub third_of_three : (x y z n : ℕ) → n ≡ z → IsOneOf (x ∷ y ∷ z ∷ []) n
 third_of_three x y z n e = (2, lit< tt, sym e)
 
 pub usage_only_lem : (words : List (List ℕ)) (b a : StoreState) (s t : SinkState) (status : ℕ) → Answers words b a s t status → IsUsage words → IsOneOf (2 ∷ 6 ∷ 7 ∷ []) status
@@ -168,17 +219,17 @@ usage_only_lem words b a s t status A u =
       | inr k ↦ second_of_three 2 6 7 status k.0
     ]
 
-no_read_rise : (words : List (List ℕ)) (b a : StoreState) (s t : SinkState) → NoFault b.read_faults a.read_faults b.write_faults a.write_faults s.faults t.faults → SaysReadFault words b a → ⊥
+pub no_read_rise : (words : List (List ℕ)) (b a : StoreState) (s t : SinkState) → NoFault b.read_faults a.read_faults b.write_faults a.write_faults s.faults t.faults → SaysReadFault words b a → ⊥
 no_read_rise words b a s t f h = f.read h.rose
 
-no_write_rise : (words : List (List ℕ)) (b a : StoreState) (s t : SinkState) → NoFault b.read_faults a.read_faults b.write_faults a.write_faults s.faults t.faults → SaysWriteFault words b a → ⊥
+pub no_write_rise : (words : List (List ℕ)) (b a : StoreState) (s t : SinkState) → NoFault b.read_faults a.read_faults b.write_faults a.write_faults s.faults t.faults → SaysWriteFault words b a → ⊥
 no_write_rise words b a s t f h = f.write h.rose
 
 zero_or_seven : (status n : ℕ) (reply : Reply) → status ≡ status_of reply → (reply ≡ Renamed n) ⊎ (reply ≡ WantOfMemory) → (status ≡ 0) ⊎ (status ≡ 7)
 zero_or_seven status n reply e (inl k) = inl (e ∙ ap status_of k)
 zero_or_seven status n reply e (inr k) = inr (e ∙ ap status_of k)
 
-pub complete_lem : (words : List (List ℕ)) (b a : StoreState) (s t : SinkState) (status : ℕ) → Answers words b a s t status → (r : Renaming) (bytes : List ℕ) → Asks words r → b.tells → TakesFile r b.file bytes → NoFault b.read_faults a.read_faults b.write_faults a.write_faults s.faults t.faults → (status ≡ 0) ⊎ (status ≡ 7)
+pub complete_lem : (words : List (List ℕ)) (b a : StoreState) (s t : SinkState) (status : ℕ) → Answers words b a s t status → (r : Renaming) (bytes : List ℕ) → AsksQuick words r → b.tells → TakesFile r b.file bytes → NoFault b.read_faults a.read_faults b.write_faults a.write_faults s.faults t.faults → (status ≡ 0) ⊎ (status ≡ 7)
 complete_lem words b a s t status A r bytes asked tells takes f =
     elim A.told [
       | inl k ↦ zero_or_seven status (token_count r.old bytes) A.reply k.0
@@ -186,7 +237,7 @@ complete_lem words b a s t status A r bytes asked tells takes f =
       | inr k ↦ absurd (f.report k.1.rose)
     ]
 
-pub refuses_lem : (words : List (List ℕ)) (b a : StoreState) (s t : SinkState) (status : ℕ) → Answers words b a s t status → (r : Renaming) → Asks words r → b.tells → RefusesFile r b.file → NoFault b.read_faults a.read_faults b.write_faults a.write_faults s.faults t.faults → (status ≡ 12) ⊎ (status ≡ 7)
+pub refuses_lem : (words : List (List ℕ)) (b a : StoreState) (s t : SinkState) (status : ℕ) → Answers words b a s t status → (r : Renaming) → AsksQuick words r → b.tells → RefusesFile r b.file → NoFault b.read_faults a.read_faults b.write_faults a.write_faults s.faults t.faults → (status ≡ 12) ⊎ (status ≡ 7)
 refuses_lem words b a s t status A r asked tells refuses f =
     elim A.told [
       | inl k ↦ elim (refused_reply words b a r asked tells refuses (no_read_rise words b a s t f) (no_write_rise words b a s t f) A.reply A.holds) [
@@ -197,12 +248,12 @@ refuses_lem words b a s t status A r asked tells refuses f =
     ]
 
 -- a told room that holds the file is no cause of a read fault, nor one that is enough of a write fault
-no_read_there : (words : List (List ℕ)) (b a : StoreState) (r : Renaming) (bytes : List ℕ) → Asks words r → b.tells_room → b.file r.file ≡ Some bytes → SaysReadFault words b a → ⊥
-no_read_there words b a r bytes asked room there h =
-    let e = one_renaming words h.renaming r h.asked asked in
-    let absent : ◌≡◌ {A = Option (List ℕ)} (Some bytes) None = sym there ∙ (sym (ap (λ (x : Renaming). b.file x.file) e) ∙ h.absent room) in cc
+pub no_read_there : (words : List (List ℕ)) (b a : StoreState) (file bytes : List ℕ) → Reads words file → b.tells_room → b.file file ≡ Some bytes → SaysReadFault words b a → ⊥
+no_read_there words b a file bytes reads room there h =
+    let e = one_file words h.file file h.reads reads in
+    let absent : ◌≡◌ {A = Option (List ℕ)} (Some bytes) None = sym there ∙ (sym (ap b.file e) ∙ h.absent room) in cc
 
-no_write_there : (words : List (List ℕ)) (b a : StoreState) (r : Renaming) (bytes : List ℕ) → Asks words r → b.tells_room → b.file r.file ≡ Some bytes → (LacksRoom (b.file (target r)) b.names_left b.bytes_left (length (target r) + length (renamed_file r bytes)) → ⊥) → SaysWriteFault words b a → ⊥
+no_write_there : (words : List (List ℕ)) (b a : StoreState) (r : Renaming) (bytes : List ℕ) → AsksQuick words r → b.tells_room → b.file r.file ≡ Some bytes → (LacksRoom (b.file (target r)) b.names_left b.bytes_left (length (target r) + length (renamed_file r bytes)) → ⊥) → SaysWriteFault words b a → ⊥
 no_write_there words b a r bytes asked room held fits h =
     let w = h.lacks room in
     let e = one_renaming words h.renaming r h.asked asked in
@@ -210,27 +261,27 @@ no_write_there words b a r bytes asked room held fits h =
     fits (subst (λ c. LacksRoom (b.file (target r)) b.names_left b.bytes_left (length (target r) + length (renamed_file r c))) f
     (subst (λ (x : Renaming). LacksRoom (b.file (target x)) b.names_left b.bytes_left (length (target x) + length (renamed_file x w.bytes))) e w.lacks))
 
-pub absent_lem : (words : List (List ℕ)) (b a : StoreState) (s t : SinkState) (status : ℕ) → Answers words b a s t status → status ≡ 3 → b.tells_room → (r : Renaming) → Asks words r → b.file r.file ≡ None
-absent_lem words b a s t status A e room r asked =
+pub absent_lem : (words : List (List ℕ)) (b a : StoreState) (s t : SinkState) (status : ℕ) → Answers words b a s t status → status ≡ 3 → b.tells_room → (file : List ℕ) → Reads words file → b.file file ≡ None
+absent_lem words b a s t status A e room file reads =
     let h = read_fault_lem words b a s t status A e in
-    sym (ap (λ (x : Renaming). b.file x.file) (one_renaming words h.renaming r h.asked asked)) ∙ h.absent room
+    sym (ap b.file (one_file words h.file file h.reads reads)) ∙ h.absent room
 
-pub lacks_lem : (words : List (List ℕ)) (b a : StoreState) (s t : SinkState) (status : ℕ) → Answers words b a s t status → status ≡ 4 → b.tells_room → (r : Renaming) → Asks words r → LacksRoomFor r b.file b.names_left b.bytes_left
+pub lacks_lem : (words : List (List ℕ)) (b a : StoreState) (s t : SinkState) (status : ℕ) → Answers words b a s t status → status ≡ 4 → b.tells_room → (r : Renaming) → AsksQuick words r → LacksRoomFor r b.file b.names_left b.bytes_left
 lacks_lem words b a s t status A e room r asked =
     let h = write_fault_lem words b a s t status A e in
     subst (λ (x : Renaming). LacksRoomFor x b.file b.names_left b.bytes_left) (one_renaming words h.renaming r h.asked asked) (h.lacks room)
 
-pub part_lem : (words : List (List ℕ)) (b a : StoreState) (s t : SinkState) (status : ℕ) → Answers words b a s t status → status ≡ 4 → b.tells → (r : Renaming) → Asks words r → WritesPart r b.file a.file
+pub part_lem : (words : List (List ℕ)) (b a : StoreState) (s t : SinkState) (status : ℕ) → Answers words b a s t status → status ≡ 4 → b.tells → (r : Renaming) → AsksQuick words r → WritesPart r b.file a.file
 part_lem words b a s t status A e tells r asked =
     let h = write_fault_lem words b a s t status A e in
     subst (λ (x : Renaming). WritesPart x b.file a.file) (one_renaming words h.renaming r h.asked asked) (h.part tells)
 
-pub written_lem : (words : List (List ℕ)) (b a : StoreState) (s t : SinkState) (status : ℕ) → Answers words b a s t status → status ≡ 0 → b.tells → (r : Renaming) → Asks words r → WritesFile r b.file a.file
+pub written_lem : (words : List (List ℕ)) (b a : StoreState) (s t : SinkState) (status : ℕ) → Answers words b a s t status → status ≡ 0 → b.tells → (r : Renaming) → AsksQuick words r → WritesFile r b.file a.file
 written_lem words b a s t status A e tells r asked =
-    let h = (renamed_lem words b a s t status A e).1 in
+    let h = (renamed_lem words b a s t status A e r asked).1 in
     subst (λ (x : Renaming). WritesFile x b.file a.file) (one_renaming words h.renaming r h.asked asked) (h.wrote tells)
 
-pub not_taken_lem : (words : List (List ℕ)) (b a : StoreState) (s t : SinkState) (status : ℕ) → Answers words b a s t status → status ≡ 12 → b.tells → (r : Renaming) → Asks words r → RefusesFile r b.file
+pub not_taken_lem : (words : List (List ℕ)) (b a : StoreState) (s t : SinkState) (status : ℕ) → Answers words b a s t status → status ≡ 12 → b.tells → (r : Renaming) → AsksQuick words r → RefusesFile r b.file
 not_taken_lem words b a s t status A e tells r asked =
     let h = not_quick_lem words b a s t status A e in
     subst (λ (x : Renaming). RefusesFile x b.file) (one_renaming words h.renaming r h.asked asked) (h.refused tells)
@@ -253,10 +304,10 @@ fits_reply n room reply h (inr e) k =
     let g = subst (λ (x : Reply). room < length (report_of x)) e k in
     let p = report_length n in omega (arith, g, p, h)
 
-pub sure_lem : (words : List (List ℕ)) (b a : StoreState) (s t : SinkState) (status : ℕ) → Answers words b a s t status → (b.tells_room → b.tells) → (r : Renaming) (bytes : List ℕ) → Asks words r → b.tells_room → s.tells_room → TakesFile r b.file bytes → IsRoomFor r b.file bytes b.names_left b.bytes_left s.room → (status ≡ 0) ⊎ (status ≡ 7)
+pub sure_lem : (words : List (List ℕ)) (b a : StoreState) (s t : SinkState) (status : ℕ) → Answers words b a s t status → (b.tells_room → b.tells) → (r : Renaming) (bytes : List ℕ) → AsksQuick words r → b.tells_room → s.tells_room → TakesFile r b.file bytes → IsRoomFor r b.file bytes b.names_left b.bytes_left s.room → (status ≡ 0) ⊎ (status ≡ 7)
 sure_lem words b a s t status A law r bytes asked room sink takes fits =
     let reply = taken_reply words b a r bytes asked (law room) takes
-    (no_read_there words b a r bytes asked room takes.held)
+    (no_read_there words b a r.file bytes (inl (r, asked, refl)) room takes.held)
     (no_write_there words b a r bytes asked room takes.held fits.store) A.reply A.holds in
     elim A.told [
       | inl k ↦ zero_or_seven status (token_count r.old bytes) A.reply k.0 reply
@@ -270,22 +321,25 @@ untouched_lem words b a s t status A p q k =
       | inr e ↦ absurd (k e.0)
     ]
 
-status_is : (r : Reply) → IsOneOf (0 ∷ 2 ∷ 3 ∷ 4 ∷ 6 ∷ 7 ∷ 12 ∷ []) (status_of r)
+status_is : (r : Reply) → IsOneOf (0 ∷ 2 ∷ 3 ∷ 4 ∷ 5 ∷ 6 ∷ 7 ∷ 12 ∷ []) (status_of r)
 status_is (Renamed n) = (0, lit< tt, refl)
 status_is Usage = (1, lit< tt, refl)
 status_is ReadFault = (2, lit< tt, refl)
 status_is WriteFault = (3, lit< tt, refl)
-status_is WantOfMemory = (5, lit< tt, refl)
-status_is (NotQuick o) = (6, lit< tt, refl)
+status_is WantOfMemory = (6, lit< tt, refl)
+status_is (NotQuick o) = (7, lit< tt, refl)
+status_is (BadProject f) = (4, lit< tt, refl)
+status_is (Admits n) = (0, lit< tt, refl)
+status_is AdmitsNothing = (0, lit< tt, refl)
 
-pub statuses_lem : (words : List (List ℕ)) (b a : StoreState) (s t : SinkState) (status : ℕ) → Answers words b a s t status → IsOneOf (0 ∷ 2 ∷ 3 ∷ 4 ∷ 6 ∷ 7 ∷ 12 ∷ []) status
+pub statuses_lem : (words : List (List ℕ)) (b a : StoreState) (s t : SinkState) (status : ℕ) → Answers words b a s t status → IsOneOf (0 ∷ 2 ∷ 3 ∷ 4 ∷ 5 ∷ 6 ∷ 7 ∷ 12 ∷ []) status
 statuses_lem words b a s t status A =
     elim A.told [
-      | inl e ↦ subst (IsOneOf (0 ∷ 2 ∷ 3 ∷ 4 ∷ 6 ∷ 7 ∷ 12 ∷ [])) (sym e.0) (status_is A.reply)
-      | inr e ↦ subst (IsOneOf (0 ∷ 2 ∷ 3 ∷ 4 ∷ 6 ∷ 7 ∷ 12 ∷ [])) (sym e.0) (4, lit< tt, refl)
+      | inl e ↦ subst (IsOneOf (0 ∷ 2 ∷ 3 ∷ 4 ∷ 5 ∷ 6 ∷ 7 ∷ 12 ∷ [])) (sym e.0) (status_is A.reply)
+      | inr e ↦ subst (IsOneOf (0 ∷ 2 ∷ 3 ∷ 4 ∷ 5 ∷ 6 ∷ 7 ∷ 12 ∷ [])) (sym e.0) (5, lit< tt, refl)
     ]
 
-pub behaviour_lem : RenamingKeepsBehaviour → ((w : List ℕ) → is_new_name w ≡ true → is_name w ≡ true) → (words : List (List ℕ)) (b a : StoreState) (s t : SinkState) (status : ℕ) → Answers words b a s t status → status ≡ 0 → b.tells → (r : Renaming) → Asks words r → BehaviourIsKept r b.file a.file
+pub behaviour_lem : RenamingKeepsBehaviour → ((w : List ℕ) → is_new_name w ≡ true → is_name w ≡ true) → (words : List (List ℕ)) (b a : StoreState) (s t : SinkState) (status : ℕ) → Answers words b a s t status → status ≡ 0 → b.tells → (r : Renaming) → AsksQuick words r → BehaviourIsKept r b.file a.file
 behaviour_lem law names words b a s t status A e tells r asked bytes renamed held after =
     let w = written_lem words b a s t status A e tells r asked in
     let f = same_bytes b r r bytes w.bytes refl held w.taken.held in

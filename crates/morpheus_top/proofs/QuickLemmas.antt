@@ -10,10 +10,10 @@ use Rattle.quick_rename.specs.declared.Answer.{Answer as File}
 use Rattle.quick_rename.specs.declared.Answer.TheVariants as file
 use Rattle.quick_rename.specs.Answer.{IsRenamed, IsAnswer}
 use Rattle.morpheus_top.specs.declared.replies.Reply.{Reply}
-use Rattle.morpheus_top.specs.declared.replies.Reply.TheVariants.{Renamed, Usage, ReadFault, WriteFault, WantOfMemory, NotQuick}
+use Rattle.morpheus_top.specs.declared.replies.Reply.TheVariants.{Renamed, Usage, ReadFault, WriteFault, WantOfMemory, NotQuick, BadProject, Admits, AdmitsNothing}
 use Rattle.morpheus_top.specs.declared.quick.Plan.{Plan}
 use Rattle.morpheus_top.specs.declared.quick.Plan.TheVariants.{Say, Write}
-use Rattle.morpheus_top.specs.Words.{Renaming, target, Asks}
+use Rattle.morpheus_top.specs.Words.{Renaming, target, AsksQuick}
 use Rattle.morpheus_top.specs.States.{StoreState, Kept}
 use Rattle.morpheus_top.specs.Calls.{renamed_file, Holds}
 use Rattle.morpheus_top.specs.Quick.{RefusesBytes, RenamesBytes, IsPlan, IsWritten, IsBroken, IsCarriedOut, Ran}
@@ -97,7 +97,7 @@ lacks_after_read before middle name n p t h =
     (subst (λ b. LacksRoom (middle.file name) middle.names_left b n) (p.room t) h))
 
 -- the file was read, and this became of its bytes
-pub read_and_ran : (words : List (List ℕ)) (r : Renaming) (bytes : List ℕ) (before middle after : StoreState) (reply : Reply) → Asks words r → Passed before middle → (before.tells → before.file r.file ≡ Some bytes) → Ran r bytes middle after reply → Holds words before after reply
+pub read_and_ran : (words : List (List ℕ)) (r : Renaming) (bytes : List ℕ) (before middle after : StoreState) (reply : Reply) → AsksQuick words r → Passed before middle → (before.tells → before.file r.file ≡ Some bytes) → Ran r bytes middle after reply → Holds words before after reply
 read_and_ran words r bytes before middle after (Renamed tokens) a p f h = record {
   renaming = r;
   asked = a;
@@ -132,3 +132,6 @@ read_and_ran words r bytes before middle after (NotQuick offset) a p f h = recor
 }
 read_and_ran words r bytes before middle after Usage a p f h = absurd h
 read_and_ran words r bytes before middle after ReadFault a p f h = absurd h
+read_and_ran words r bytes before middle after (BadProject fault) a p f h = absurd h
+read_and_ran words r bytes before middle after (Admits names) a p f h = absurd h
+read_and_ran words r bytes before middle after AdmitsNothing a p f h = absurd h

@@ -1,15 +1,19 @@
 -- What is true of the words, the store and the sink when a call has replied.
-use Rattle.std.specs.Prelude.{◌≡◌, ℕ, ◌<◌, ◌+◌, List, ◌++◌, length, Some, None, ◌⊎◌}
+use Rattle.std.specs.Prelude.{◌≡◌, ℕ, ◌<◌, ◌+◌, List, ◌++◌, length, map, Some, None, ◌⊎◌}
+use Rattle.std.specs.String.{string_bytes}
 use Rattle.quick_form.specs.Renaming.{renamed_bytes, token_count}
 use Rattle.quick_form.specs.Quick.{Takes}
 use Rattle.text_edits.specs.Files.{Lookup}
 use Rattle.project_store.specs.Lookup.{PutsFile, LeavesPart}
 use Rattle.project_store.specs.Faults.{Rose}
 use Rattle.project_store.specs.Room.{LacksRoom}
-use Rattle.morpheus_top.specs.Words.{Renaming, target, Asks, IsUsage}
+use Rattle.morpheus_top.specs.Words.{Renaming, target, AsksQuick, AsksAdmit, IsUsage, Reads}
 use Rattle.morpheus_top.specs.declared.replies.Reply.{Reply}
-use Rattle.morpheus_top.specs.declared.replies.Reply.TheVariants.{Renamed, Usage, ReadFault, WriteFault, WantOfMemory, NotQuick}
-use Rattle.morpheus_top.specs.Replies.{status_of, report_of}
+use Rattle.morpheus_top.specs.declared.replies.Reply.TheVariants.{Renamed, Usage, ReadFault, WriteFault, WantOfMemory, NotQuick, BadProject, Admits, AdmitsNothing}
+use Rattle.project_file.specs.Faults.{Fault}
+use Rattle.project_store.specs.Projects.{HasFault}
+use Rattle.morpheus_top.specs.Admit.{AdmitsLeast, AdmitsNone}
+use Rattle.morpheus_top.specs.Replies.{status_of, report_of, fault_view}
 use Rattle.morpheus_top.specs.Sinks.{TookFront}
 use Rattle.morpheus_top.specs.States.{StoreState, SinkState, Kept}
 
@@ -46,30 +50,48 @@ pub record LacksRoomFor (r : Renaming) (files : Lookup) (names_left bytes_left :
   pub lacks : LacksRoom (files (target r)) names_left bytes_left (length (target r) + length (renamed_file r bytes))
 
 pub record SaysReadFault (words : List (List ℕ)) (before after : StoreState) : Type 0 where
-  pub renaming : Renaming
-  pub asked : Asks words renaming
+  pub file : List ℕ
+  pub reads : Reads words file
   pub rose : Rose before.read_faults after.read_faults
   pub kept : Kept before after
-  pub absent : before.tells_room → before.file renaming.file ≡ None
+  pub absent : before.tells_room → before.file file ≡ None
 
 pub record SaysWriteFault (words : List (List ℕ)) (before after : StoreState) : Type 0 where
   pub renaming : Renaming
-  pub asked : Asks words renaming
+  pub asked : AsksQuick words renaming
   pub rose : Rose before.write_faults after.write_faults
   pub part : before.tells → WritesPart renaming before.file after.file
   pub lacks : before.tells_room → LacksRoomFor renaming before.file before.names_left before.bytes_left
 
 pub record SaysNotQuick (words : List (List ℕ)) (before after : StoreState) : Type 0 where
   pub renaming : Renaming
-  pub asked : Asks words renaming
+  pub asked : AsksQuick words renaming
   pub kept : Kept before after
   pub refused : before.tells → RefusesFile renaming before.file
 
 pub record SaysRenamed (words : List (List ℕ)) (before after : StoreState) (tokens : ℕ) : Type 0 where
   pub renaming : Renaming
-  pub asked : Asks words renaming
+  pub asked : AsksQuick words renaming
   pub wrote : before.tells → WritesFile renaming before.file after.file
   pub counts : (told : before.tells) → tokens ≡ token_count renaming.old (wrote told).bytes
+
+pub record SaysBadProject (words : List (List ℕ)) (before after : StoreState) (fault : Fault) : Type 0 where
+  pub project : List ℕ
+  pub asked : AsksAdmit words project
+  pub kept : Kept before after
+  pub first : HasFault before.tells before.file project fault
+
+pub record SaysAdmits (words : List (List ℕ)) (before after : StoreState) (names : List (List ℕ)) : Type 0 where
+  pub project : List ℕ
+  pub asked : AsksAdmit words project
+  pub kept : Kept before after
+  pub least : AdmitsLeast before.tells before.file project names
+
+pub record SaysAdmitsNothing (words : List (List ℕ)) (before after : StoreState) : Type 0 where
+  pub project : List ℕ
+  pub asked : AsksAdmit words project
+  pub kept : Kept before after
+  pub none : AdmitsNone before.tells before.file project
 
 -- the cause of a reply, and what it says of the store
 abbrev pub Holds : List (List ℕ) → StoreState → StoreState → Reply → Type 0
@@ -79,6 +101,9 @@ Holds words before after ReadFault = SaysReadFault words before after
 Holds words before after WriteFault = SaysWriteFault words before after
 Holds words before after WantOfMemory = Kept before after
 Holds words before after (NotQuick offset) = SaysNotQuick words before after
+Holds words before after (BadProject fault) = SaysBadProject words before after (fault_view fault)
+Holds words before after (Admits names) = SaysAdmits words before after (map string_bytes names.items)
+Holds words before after AdmitsNothing = SaysAdmitsNothing words before after
 
 -- the sink took the whole report
 abbrev pub Reports : SinkState → SinkState → Reply → Type 0

@@ -1,5 +1,5 @@
 -- What a caller may rely on, status by status; all of it follows from `Answers`.
-use Rattle.std.specs.Prelude.{◌≡◌, ℕ, ◌<◌, ◌≤◌, ◌+◌, List, length, Some, Contains}
+use Rattle.std.specs.Prelude.{◌≡◌, ◌⊎◌, ℕ, ◌<◌, ◌≤◌, ◌+◌, List, ◌++◌, length, codes, Some, Contains}
 use Rattle.quick_form.specs.Quick.{KeepsBehaviour}
 use Rattle.quick_form.specs.Renaming.{token_count}
 use Rattle.text_edits.specs.Files.{Lookup}
@@ -8,7 +8,10 @@ use Rattle.project_store.specs.Room.{LacksRoom}
 use Rattle.morpheus_top.specs.declared.replies.Reply.{Reply}
 use Rattle.morpheus_top.specs.declared.replies.Reply.TheVariants.{Renamed}
 use Rattle.morpheus_top.specs.Words.{Renaming, target}
-use Rattle.morpheus_top.specs.Replies.{report_of}
+use Rattle.morpheus_top.specs.Replies.{line, listed, fault_text, report_of}
+use Rattle.project_file.specs.Faults.{Fault}
+use Rattle.project_store.specs.Projects.{HasFault}
+use Rattle.morpheus_top.specs.Admit.{AdmitsLeast, AdmitsNone}
 use Rattle.morpheus_top.specs.States.{StoreState}
 use Rattle.morpheus_top.specs.Calls.{renamed_file, Holds}
 
@@ -33,7 +36,22 @@ pub record SinkLacksRoom (words : List (List ℕ)) (before after : StoreState) (
   pub holds : Holds words before after reply
   pub lacks : room < length (report_of reply)
 
+-- The sink took the report of the least configuration, or that there is none.
+abbrev pub PrintsLeast : List ℕ → Lookup → List ℕ → List ℕ → Type 0
+PrintsLeast name files before after =
+    ((names : List (List ℕ)) × AdmitsLeast (Unit {0}) files name names × (after ≡ before ++ line (codes "admits " ++ listed names)))
+    ⊎ (AdmitsNone (Unit {0}) files name × (after ≡ before ++ line (codes "admits nothing")))
+
+-- The sink took the report of the project file's first fault.
+abbrev pub PrintsFault : List ℕ → Lookup → List ℕ → List ℕ → Type 0
+PrintsFault name files before after =
+    (fault : Fault) × HasFault (Unit {0}) files name fault × (after ≡ before ++ line (codes "bad project: " ++ fault_text fault))
+
 -- the room is enough for the renamed file, and for the report of it
 pub record IsRoomFor (r : Renaming) (files : Lookup) (bytes : List ℕ) (names_left bytes_left room : ℕ) : Type 0 where
   pub store : LacksRoom (files (target r)) names_left bytes_left (length (target r) + length (renamed_file r bytes)) → ⊥
   pub sink : length (report_of (Renamed (token_count r.old bytes))) ≤ room
+
+-- whatever there is to reply, the sink has room for the report
+abbrev pub FitsReports : List (List ℕ) → StoreState → StoreState → ℕ → Type 0
+FitsReports words before after room = (reply : Reply) → Holds words before after reply → length (report_of reply) ≤ room

@@ -7,17 +7,24 @@ use Rattle.project_store.specs.Lookup.{PutsFile, LeavesPart}
 use Rattle.project_store.specs.Faults.{Rose}
 use Rattle.project_store.specs.Room.{LacksRoom}
 use Rattle.morpheus_top.specs.declared.replies.Reply.{Reply}
-use Rattle.morpheus_top.specs.declared.replies.Reply.TheVariants.{Renamed, Usage, ReadFault, WriteFault, WantOfMemory, NotQuick}
+use Rattle.morpheus_top.specs.declared.replies.Reply.TheVariants.{Renamed, Usage, ReadFault, WriteFault, WantOfMemory, NotQuick, BadProject, Admits, AdmitsNothing}
 use Rattle.morpheus_top.specs.declared.words.Renaming.{Renaming as Words}
 use Rattle.morpheus_top.specs.declared.quick.Plan.{Plan}
 use Rattle.morpheus_top.specs.declared.quick.Plan.TheVariants.{Say, Write}
-use Rattle.morpheus_top.specs.Words.{Renaming, target}
+use Rattle.morpheus_top.specs.declared.words.Command.{Command}
+use Rattle.morpheus_top.specs.declared.words.Command.TheVariants.{Quick, Admit}
+use Rattle.morpheus_top.specs.Words.{Renaming, target, AsksQuick, AsksAdmit}
 use Rattle.morpheus_top.specs.States.{StoreState, Kept}
 use Rattle.morpheus_top.specs.Calls.{renamed_file}
 
 -- the renaming that the words ask for
 abbrev pub asked : Words → Renaming
 asked r = record { file = r.file.now; old = r.old.now; new = r.new.now; out = r.out.now }
+
+-- the words ask for this command
+abbrev pub AsksFor : List (List ℕ) → Command → Type 0
+AsksFor words (Quick renaming) = AsksQuick words (asked renaming)
+AsksFor words (Admit project) = AsksAdmit words project.now
 
 pub record RefusesBytes (r : Renaming) (bytes : List ℕ) (reply : Reply) : Type 0 where
   pub offset : ℕ
@@ -74,3 +81,6 @@ Ran r bytes before after WantOfMemory = Kept before after
 Ran r bytes before after (NotQuick offset) = (Takes r.old r.new bytes → ⊥) × Kept before after
 Ran r bytes before after Usage = ⊥
 Ran r bytes before after ReadFault = ⊥
+Ran r bytes before after (BadProject fault) = ⊥
+Ran r bytes before after (Admits names) = ⊥
+Ran r bytes before after AdmitsNothing = ⊥

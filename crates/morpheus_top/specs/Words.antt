@@ -1,6 +1,6 @@
 -- The words of a command.
-use Rattle.std.specs.Prelude.{◌≡◌, ℕ, Bool, true, false, not, ◌&&◌, ◌||◌, ◌==◌, List, [], ◌∷◌, ◌++◌, codes}
-use Rattle.std.specs.List.{list_all}
+use Rattle.std.specs.Prelude.{◌≡◌, ℕ, Bool, true, false, not, ◌&&◌, ◌||◌, ◌==◌, List, [], ◌∷◌, ◌++◌, codes, ◌⊎◌}
+use Rattle.std.specs.List.{list_all, list_any}
 use Rattle.std.specs.Str.{bytes_eq}
 use Rattle.c_names.specs.Names.{is_word_byte, is_new_name}
 use Rattle.c_names.specs.FileNames.{is_empty, is_file_name}
@@ -43,10 +43,25 @@ abbrev pub words_of : Renaming → List (List ℕ)
 words_of r = codes "quick" ∷ r.file ∷ r.old ∷ r.new ∷ r.out ∷ []
 
 -- the words ask for this renaming
-pub record Asks (words : List (List ℕ)) (r : Renaming) : Type 0 where
+pub record AsksQuick (words : List (List ℕ)) (r : Renaming) : Type 0 where
   pub words_are : words ≡ words_of r
   pub good : IsGood r
 
+-- the name of a project file: a file name of one component, and not that of the proof file
+abbrev pub is_project_name : List ℕ → Bool
+is_project_name w =
+    is_file_name w && not (list_any (λ b. b == 47) w) && not (bytes_eq w (codes "morpheus.proof"))
+
+-- the words, `admit PROJECT`, ask for the least configuration of this project
+pub record AsksAdmit (words : List (List ℕ)) (project : List ℕ) : Type 0 where
+  pub words_are : words ≡ codes "admit" ∷ project ∷ []
+  pub good : is_project_name project ≡ true
+
 -- the words ask for nothing
-abbrev pub IsUsage : List (List ℕ) → Type 0
-IsUsage words = (r : Renaming) → Asks words r → ⊥
+pub record IsUsage (words : List (List ℕ)) : Type 0 where
+  pub no_quick : (r : Renaming) → AsksQuick words r → ⊥
+  pub no_admit : (project : List ℕ) → AsksAdmit words project → ⊥
+
+-- the words ask for a command that first reads this file
+abbrev pub Reads : List (List ℕ) → List ℕ → Type 0
+Reads words file = ((r : Renaming) × AsksQuick words r × (file ≡ r.file)) ⊎ AsksAdmit words file

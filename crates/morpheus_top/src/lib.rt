@@ -1,11 +1,14 @@
 //! All that the program does: a command is carried out over a store, and its report given to a sink.
 #![tactic(auto)]
 
+mod admit;
+mod faults;
 mod give;
 mod quick;
 mod replies;
 mod top;
 mod words;
 
+pub use faults::ProjectFault;
 pub use replies::Reply;
 pub use top::morpheus;

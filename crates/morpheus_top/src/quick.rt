@@ -1,7 +1,7 @@
 ghost use Rattle.std.specs.Prelude.{◌≡◌, ℕ, List, true, IfOk};
 ghost use Rattle.std.specs.String.{string_bytes};
 ghost use Rattle.quick_form.specs.Words.{is_name};
-ghost use Rattle.morpheus_top.specs.Words.{target, Asks};
+ghost use Rattle.morpheus_top.specs.Words.{target, AsksQuick};
 ghost use Rattle.morpheus_top.specs.States.{store_state};
 ghost use Rattle.morpheus_top.specs.Calls.{Holds};
 ghost use Rattle.morpheus_top.specs.Quick.{asked, IsPlan, IsCarriedOut, Ran};
@@ -99,7 +99,7 @@ fn rename_in<S: Store>(alloc: Global, renaming: &Renaming, bytes: &[u8], store: 
 /// Reads the file, renames in it, and writes the result.
 pub(crate) fn quick<S: Store>(alloc: Global, renaming: &Renaming, store: &mut S) -> Answer
     requires { is_name renaming.now.new.now ≡ true }
-    ensures { (words : List (List ℕ)) → Asks words (asked renaming.now) → Holds words
+    ensures { (words : List (List ℕ)) → AsksQuick words (asked renaming.now) → Holds words
         (store_state S.tells S.file S.read_faults S.write_faults S.tells_room S.names_left S.bytes_left store.old)
         (store_state S.tells S.file S.read_faults S.write_faults S.tells_room S.names_left S.bytes_left store.new)
         result.reply }

@@ -1,10 +1,12 @@
-ghost use Rattle.std.specs.Prelude.{◌≡◌, IfOk};
-ghost use Rattle.morpheus_top.specs.Replies.{status_of, report_of, text_of};
+ghost use Rattle.std.specs.Prelude.{◌≡◌, ◌⊎◌, ◌∷◌, ◌++◌, codes, decimal, map, IfOk};
+ghost use Rattle.std.specs.String.{string_bytes};
+ghost use Rattle.morpheus_top.specs.Replies.{status_of, line, fault_view, fault_text, listed, report_of, text_of};
 
+use crate::faults::ProjectFault;
 use std::alloc::{AllocError, Global};
 
 /// What a call replies. A failing sink alone isn't among these: it can come instead of each.
-#[derive(Clone, Copy, Debug, PartialEq, Eq)]
+#[derive(Debug, Drop)]
 pub enum Reply {
     /// The renamed file is written; so many tokens are renamed.
     Renamed { tokens: usize },
@@ -18,6 +20,13 @@ pub enum Reply {
     WantOfMemory,
     /// The file isn't taken by `quick`, for what stands at this offset.
     NotQuick { offset: usize },
+    /// The project file has a fault.
+    BadProject { fault: ProjectFault },
+    /// These features, in the project's order, are on in the least configuration that the project
+    /// admits.
+    Admits { names: Vec<String> },
+    /// The project admits no configuration.
+    AdmitsNothing,
 }
 
 impl Reply {
@@ -32,6 +41,9 @@ impl Reply {
             Reply::WriteFault => 4,
             Reply::WantOfMemory => 7,
             Reply::NotQuick { .. } => 12,
+            Reply::BadProject { .. } => 5,
+            Reply::Admits { .. } => 0,
+            Reply::AdmitsNothing => 0,
         }
     }
 
@@ -42,6 +54,9 @@ impl Reply {
         match self {
             Reply::Renamed { tokens } => renamed(alloc, *tokens),
             Reply::NotQuick { offset } => not_quick(alloc, *offset),
+            Reply::BadProject { fault } => bad_project(alloc, fault),
+            Reply::Admits { names } => admits(alloc, names),
+            Reply::AdmitsNothing => Ok(Report::Fixed("admits nothing\n")),
             Reply::Usage => Ok(Report::Fixed("usage\n")),
             Reply::ReadFault => Ok(Report::Fixed("read fault\n")),
             Reply::WriteFault => Ok(Report::Fixed("write fault\n")),
@@ -61,6 +76,52 @@ fn not_quick(alloc: Global, offset: usize) -> Result<Report, AllocError>
     ensures { IfOk result (λ report. text_of report ≡ report_of (Reply.NotQuick offset)) }
 {
     let text = format!(in alloc; "not quick at {offset}\n")?;
+    Ok(Report::Made(text))
+}
+
+/// The line that names the fault.
+fn bad_project(alloc: Global, fault: &ProjectFault) -> Result<Report, AllocError>
+    ensures { IfOk result (λ report. text_of report ≡ line (codes "bad project: " ++ fault_text (fault_view fault.now))) }
+{
+    match fault {
+        ProjectFault::NotToml => Ok(Report::Fixed("bad project: not toml\n")),
+        ProjectFault::Shape(key) => named(alloc, "shape", key),
+        ProjectFault::Feature(name) => named(alloc, "feature", name),
+        ProjectFault::Duplicate(name) => named(alloc, "duplicate", name),
+        ProjectFault::Constraint(place) => placed(alloc, *place),
+        ProjectFault::Size(name) => named(alloc, "size", name),
+    }
+}
+
+fn named(alloc: Global, kind: &str, name: &str) -> Result<Report, AllocError>
+    ensures { IfOk result (λ report. text_of report ≡ line (codes "bad project: " ++ kind.now ++ 32 ∷ name.now)) }
+{
+    let text = format!(in alloc; "bad project: {kind} {name}\n")?;
+    Ok(Report::Made(text))
+}
+
+fn placed(alloc: Global, place: u32) -> Result<Report, AllocError>
+    ensures { IfOk result (λ report. text_of report ≡ line (codes "bad project: " ++ codes "constraint " ++ decimal place)) }
+{
+    let text = format!(in alloc; "bad project: constraint {place}\n")?;
+    Ok(Report::Made(text))
+}
+
+/// The names with commas between them.
+fn listed(alloc: Global, names: &[String]) -> Result<String, AllocError>
+    ensures { IfOk result (λ text. string_bytes text ≡ listed (map string_bytes names.now)) }
+{
+    if names.is_empty() {
+        return String::from_str(alloc, "-");
+    }
+    names.join(alloc, ",")
+}
+
+fn admits(alloc: Global, names: &[String]) -> Result<Report, AllocError>
+    ensures { IfOk result (λ report. text_of report ≡ line (codes "admits " ++ listed (map string_bytes names.now))) }
+{
+    let names = listed(alloc, names)?;
+    let text = format!(in alloc; "admits {names}\n")?;
     Ok(Report::Made(text))
 }
 
@@ -125,12 +186,31 @@ impl Answer {
         }
     }
 
+    pub(crate) fn admits_nothing() -> Answer
+        ensures { result.reply ≡ Reply.AdmitsNothing }
+    {
+        Answer {
+            reply: Reply::AdmitsNothing,
+            report: Report::Fixed("admits nothing\n"),
+        }
+    }
+
     pub(crate) fn want_of_memory() -> Answer
         ensures { result.reply ≡ Reply.WantOfMemory }
     {
         Answer {
             reply: Reply::WantOfMemory,
             report: Report::Fixed("want of memory\n"),
+        }
+    }
+
+    /// The answer with this reply, if there is memory for its report.
+    pub(crate) fn or_want_of_memory(alloc: Global, reply: Reply) -> Answer
+        ensures { (result.reply ≡ reply) ⊎ (result.reply ≡ Reply.WantOfMemory) }
+    {
+        match Answer::new(alloc, reply) {
+            Ok(answer) => answer,
+            Err(_) => Answer::want_of_memory(),
         }
     }
 }

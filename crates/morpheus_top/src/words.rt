@@ -1,8 +1,8 @@
-ghost use Rattle.std.specs.Prelude.{◌≡◌, ◌≢◌, ◌↔◌, IsTrue, MatchOption, map, ℕ, List, ◌∷◌};
-ghost use Rattle.std.specs.List.{list_all};
+ghost use Rattle.std.specs.Prelude.{◌≡◌, ◌≢◌, ◌↔◌, ◌==◌, IsTrue, MatchOption, codes, map, ℕ, List, [], ◌∷◌};
+ghost use Rattle.std.specs.List.{list_all, list_any};
 ghost use Rattle.std.specs.String.{string_bytes};
 ghost use Rattle.morpheus_top.specs.Words as spec;
-ghost use Rattle.morpheus_top.specs.Quick.{asked};
+ghost use Rattle.morpheus_top.specs.Quick.{asked, AsksFor};
 
 use c_names::{is_file_name, is_new_name, is_word_byte};
 
@@ -80,9 +80,11 @@ fn renaming_words(words: &[String]) -> Option<Renaming<'_>>
     }
 }
 
-/// The renaming that the words of a command ask for, if they ask for one.
-pub(crate) fn asked_renaming(words: &[String]) -> Option<Renaming<'_>>
-    ensures { MatchOption result (spec.IsUsage (map string_bytes words.now)) (λ r. spec.Asks (map string_bytes words.now) (asked r)) }
+/// The renaming that the words ask for, if they ask for one.
+fn asked_renaming(words: &[String]) -> Option<Renaming<'_>>
+    ensures { MatchOption result
+        ((r : spec.Renaming) → spec.AsksQuick (map string_bytes words.now) r → ⊥)
+        (λ r. spec.AsksQuick (map string_bytes words.now) (asked r)) }
 {
     let renaming = renaming_words(words)?;
     if renaming.is_good() {
@@ -90,4 +92,62 @@ pub(crate) fn asked_renaming(words: &[String]) -> Option<Renaming<'_>>
     } else {
         None
     }
+}
+
+/// Whether the name can be that of a project file.
+fn is_project_name(name: &[u8]) -> bool
+    ensures { result ≡ spec.is_project_name name.now }
+{
+    is_file_name(name) && !has_slash(name) && name != b"morpheus.proof".as_slice()
+}
+
+fn has_slash(name: &[u8]) -> bool
+    ensures { result ≡ list_any (λ b. b == 47) name.now }
+{
+    name.iter().any(|byte| *byte == b'/')
+}
+
+/// The word of `admit`, whatever it is.
+fn admit_word(words: &[String]) -> Option<&str>
+    ensures { MatchOption result
+        ((project : List ℕ) → map string_bytes words.now ≢ codes "admit" ∷ project ∷ [])
+        (λ project. map string_bytes words.now ≡ codes "admit" ∷ project.now ∷ []) }
+{
+    match words {
+        [command, project] if command.as_str() == "admit" => Some(project.as_str()),
+        _ => None,
+    }
+}
+
+/// The project file whose least configuration the words ask for, if they ask for one.
+fn asked_project(words: &[String]) -> Option<&str>
+    ensures { MatchOption result
+        ((project : List ℕ) → spec.AsksAdmit (map string_bytes words.now) project → ⊥)
+        (λ project. spec.AsksAdmit (map string_bytes words.now) project.now) }
+{
+    let project = admit_word(words)?;
+    if is_project_name(project.as_bytes()) {
+        Some(project)
+    } else {
+        None
+    }
+}
+
+/// A command, as words ask for it.
+#[derive(Clone, Copy, Debug)]
+pub(crate) enum Command<'a> {
+    Quick(Renaming<'a>),
+    /// The least configuration of the project with this file.
+    Admit(&'a str),
+}
+
+/// The command that the words ask for, if they ask for one.
+pub(crate) fn asked_command(words: &[String]) -> Option<Command<'_>>
+    ensures { MatchOption result (spec.IsUsage (map string_bytes words.now)) (AsksFor (map string_bytes words.now)) }
+{
+    if let Some(renaming) = asked_renaming(words) {
+        return Some(Command::Quick(renaming));
+    }
+    let project = asked_project(words)?;
+    Some(Command::Admit(project))
 }

@@ -1,5 +1,6 @@
 use Rattle.morpheus_top.proofs.WordLemmas.{new_name_is_name}
 use Rattle.morpheus_top.proofs.Promises.{statuses_lem, usage_lem, usage_only_lem, read_fault_lem, write_fault_lem, sink_fault_lem, not_taken_lem, complete_lem, refuses_lem, written_lem, part_lem, untouched_lem, absent_lem, lacks_lem, sink_lacks_lem, sure_lem, behaviour_lem}
+use Rattle.morpheus_top.proofs.AdmitPromises.{admits_lem, refuses_project_lem, sure_admit_lem, bad_project_lem, prints_fault_lem, prints_least_lem, reads_only_lem}
 use Rattle.morpheus_top.proofs.top.morpheus.Goals as goal
 
 pub returns-clause-statuses : goal.returns-clause-statuses
@@ -52,3 +53,24 @@ returns-clause-sure g c = λ t k r bytes a f h. sure_lem _ _ _ _ _ _ c.serve.ens
 
 pub returns-clause-behaviour : goal.returns-clause-behaviour
 returns-clause-behaviour g c = behaviour_lem c.renaming_keeps_behaviour.ensures new_name_is_name _ _ _ _ _ _ c.serve.ensures
+
+pub returns-clause-bad_project : goal.returns-clause-bad_project
+returns-clause-bad_project g c = λ e t. bad_project_lem _ _ _ _ _ _ c.serve.ensures e
+
+pub returns-clause-admits : goal.returns-clause-admits
+returns-clause-admits g c = admits_lem c.faulty_files_say_no_project.ensures _ _ _ _ _ _ c.serve.ensures
+
+pub returns-clause-refuses_project : goal.returns-clause-refuses_project
+returns-clause-refuses_project g c = refuses_project_lem c.faulty_files_say_no_project.ensures _ _ _ _ _ _ c.serve.ensures
+
+pub returns-clause-prints_least : goal.returns-clause-prints_least
+returns-clause-prints_least g c = prints_least_lem _ _ _ _ _ _ c.serve.ensures
+
+pub returns-clause-prints_fault : goal.returns-clause-prints_fault
+returns-clause-prints_fault g c = prints_fault_lem _ _ _ _ _ _ c.serve.ensures
+
+pub returns-clause-reads_only : goal.returns-clause-reads_only
+returns-clause-reads_only g c = λ t name a. reads_only_lem _ _ _ _ _ _ c.serve.ensures name a t
+
+pub returns-clause-sure_admit : goal.returns-clause-sure_admit
+returns-clause-sure_admit g c = sure_admit_lem _ _ _ _ _ _ c.serve.ensures
