@@ -1,8 +1,9 @@
 //! The connectives of constraints, as formulas.
-ghost use Rattle.std.specs.Prelude.{◌≡◌, ℕ, Bool, not, ◌&&◌, ◌||◌, if◌then◌else◌, IfOk, option_map, map, length, ◌≤◌};
+ghost use Rattle.std.specs.Prelude.{◌≡◌, ℕ, Bool, not, ◌&&◌, ◌||◌, if◌then◌else◌, All, IfOk, IfSome, option_map, map, length, ◌≤◌};
 ghost use Rattle.feature_model.specs.Reading.{joined, implied};
 ghost use Rattle.feature_model.specs.Trees.{feature_number, on_feature};
 ghost use Rattle.feature_model.specs.ReaderView.{value_in};
+ghost use Rattle.feature_model.specs.Bounds.{IsBelow};
 
 use crate::tokens::feature_number;
 use cond_formula::{Formula, NoMemory};
@@ -11,7 +12,8 @@ use std::alloc::Global;
 /// The formula of a name; false for one that no feature has.
 pub fn named(features: &[String], name: &[u8]) -> Formula
     requires { length features.now ≤ 128 }
-    ensures { (on : ℕ → Bool) → value_in on result ≡ on_feature on (feature_number features.now name.now) }
+    ensures value { (on : ℕ → Bool) → value_in on result ≡ on_feature on (feature_number features.now name.now) }
+    ensures below { IsBelow (length features.now) result }
 {
     match feature_number(features, name) {
         Some(number) => Formula::Var(number as u8),
@@ -20,7 +22,8 @@ pub fn named(features: &[String], name: &[u8]) -> Formula
 }
 
 pub fn inverted(alloc: Global, inverted: bool, a: Formula) -> Result<Formula, NoMemory>
-    ensures { (on : ℕ → Bool) → IfOk result (λ f. value_in on f ≡ (if inverted then not (value_in on a) else value_in on a)) }
+    ensures value { (on : ℕ → Bool) → IfOk result (λ f. value_in on f ≡ (if inverted then not (value_in on a) else value_in on a)) }
+    ensures below { (count : ℕ) → IsBelow count a → IfOk result (IsBelow count) }
 {
     if inverted {
         let inverse = Formula::not(alloc, a)?;
@@ -30,7 +33,8 @@ pub fn inverted(alloc: Global, inverted: bool, a: Formula) -> Result<Formula, No
 }
 
 fn leads_to(alloc: Global, a: Formula, b: Formula) -> Result<Formula, NoMemory>
-    ensures { (on : ℕ → Bool) → IfOk result (λ f. value_in on f ≡ (not (value_in on a) || value_in on b)) }
+    ensures value { (on : ℕ → Bool) → IfOk result (λ f. value_in on f ≡ (not (value_in on a) || value_in on b)) }
+    ensures below { (count : ℕ) → IsBelow count a → IsBelow count b → IfOk result (IsBelow count) }
 {
     let inverse = Formula::not(alloc, a)?;
     let formula = Formula::or(alloc, inverse, b)?;
@@ -38,7 +42,8 @@ fn leads_to(alloc: Global, a: Formula, b: Formula) -> Result<Formula, NoMemory>
 }
 
 fn same_as(alloc: Global, a: Formula, b: Formula) -> Result<Formula, NoMemory>
-    ensures { (on : ℕ → Bool) → IfOk result (λ f. value_in on f ≡ (if value_in on a then value_in on b else not (value_in on b))) }
+    ensures value { (on : ℕ → Bool) → IfOk result (λ f. value_in on f ≡ (if value_in on a then value_in on b else not (value_in on b))) }
+    ensures below { (count : ℕ) → IsBelow count a → IsBelow count b → IfOk result (IsBelow count) }
 {
     let a_copy = a.try_clone(alloc)?;
     let b_copy = b.try_clone(alloc)?;
@@ -53,7 +58,8 @@ pub fn joined_by_and(
     left: Option<Formula>,
     right: Formula,
 ) -> Result<Formula, NoMemory>
-    ensures { (on : ℕ → Bool) → IfOk result (λ f. value_in on f ≡ joined (λ a b. a && b) (option_map (value_in on) left) (value_in on right)) }
+    ensures value { (on : ℕ → Bool) → IfOk result (λ f. value_in on f ≡ joined (λ a b. a && b) (option_map (value_in on) left) (value_in on right)) }
+    ensures below { (count : ℕ) → IfSome left (IsBelow count) → IsBelow count right → IfOk result (IsBelow count) }
 {
     match left {
         None => Ok(right),
@@ -69,7 +75,8 @@ pub fn joined_by_or(
     left: Option<Formula>,
     right: Formula,
 ) -> Result<Formula, NoMemory>
-    ensures { (on : ℕ → Bool) → IfOk result (λ f. value_in on f ≡ joined (λ a b. a || b) (option_map (value_in on) left) (value_in on right)) }
+    ensures value { (on : ℕ → Bool) → IfOk result (λ f. value_in on f ≡ joined (λ a b. a || b) (option_map (value_in on) left) (value_in on right)) }
+    ensures below { (count : ℕ) → IfSome left (IsBelow count) → IsBelow count right → IfOk result (IsBelow count) }
 {
     match left {
         None => Ok(right),
@@ -85,7 +92,8 @@ pub fn joined_by_equals(
     left: Option<Formula>,
     right: Formula,
 ) -> Result<Formula, NoMemory>
-    ensures { (on : ℕ → Bool) → IfOk result (λ f. value_in on f ≡ joined (λ a b. if a then b else not b) (option_map (value_in on) left) (value_in on right)) }
+    ensures value { (on : ℕ → Bool) → IfOk result (λ f. value_in on f ≡ joined (λ a b. if a then b else not b) (option_map (value_in on) left) (value_in on right)) }
+    ensures below { (count : ℕ) → IfSome left (IsBelow count) → IsBelow count right → IfOk result (IsBelow count) }
 {
     match left {
         None => Ok(right),
@@ -102,7 +110,8 @@ pub fn implied(
     mut premises: Vec<Formula>,
     conclusion: Formula,
 ) -> Result<Formula, NoMemory>
-    ensures { (on : ℕ → Bool) → IfOk result (λ f. value_in on f ≡ implied (λ a b. not a || b) (map (value_in on) premises.items) (value_in on conclusion)) }
+    ensures value { (on : ℕ → Bool) → IfOk result (λ f. value_in on f ≡ implied (λ a b. not a || b) (map (value_in on) premises.items) (value_in on conclusion)) }
+    ensures below { (count : ℕ) → All (IsBelow count) premises.items → IsBelow count conclusion → IfOk result (IsBelow count) }
 {
     let mut formula = conclusion;
     while let Some(premise) = premises.pop() {
