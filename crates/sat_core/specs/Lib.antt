@@ -1,0 +1,5 @@
+pub mod Models
+pub mod Nodes
+pub mod Translations
+pub mod Numbering
+pub mod Acceptance
