@@ -1,0 +1,5 @@
+pub mod BoolLaws
+pub mod ClauseLaws
+pub mod NodeLaws
+pub mod TranslationLaws
+pub mod AcceptanceLaws

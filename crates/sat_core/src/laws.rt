@@ -3,6 +3,8 @@
 ghost use Rattle.sat_core.specs.Translations.{TranslationLaw, NoModelLaw};
 ghost use Rattle.sat_core.specs.Acceptance.{AcceptanceLaw};
 
+use refute_check::refuted_clauses_are_unsatisfiable;
+
 /// The law that a translation is satisfiable exactly where its formula has a model, to be cited in proofs; the call does
 /// nothing.
 pub fn translations_are_equisatisfiable()
@@ -12,7 +14,9 @@ pub fn translations_are_equisatisfiable()
 /// The law that a formula whose translation has a refutation is true in no configuration.
 pub fn refuted_formulas_have_no_model()
     ensures { NoModelLaw }
-{}
+{
+    refuted_clauses_are_unsatisfiable();
+}
 
 /// The law that a checker with room for a refutation accepts it.
 pub fn refutations_are_accepted()
