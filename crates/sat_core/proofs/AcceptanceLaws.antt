@@ -29,10 +29,10 @@ has_empty_step-more : (entries : List Entry) (step : Step) (later : Bool) → (h
 has_empty_step-more entries step later =
     ap (λ (b : Bool). b || later) (list_any-append (λ (e : Entry). e.derived && has_no_literals e.clause) entries (entry step.clause true ∷ []))
     ∙ grouped (has_empty_step entries) (has_no_literals step.clause) later where
-  grouped : (a b c : Bool) → ((a || (b || false)) || c) ≡ (a || (b || c))
-  grouped true b c = refl
-  grouped false true c = refl
-  grouped false false c = refl
+      grouped : (a b c : Bool) → ((a || (b || false)) || c) ≡ (a || (b || c))
+      grouped true b c = refl
+      grouped false true c = refl
+      grouped false false c = refl
 
 or_false : (a : Bool) → (a || false) ≡ true → a ≡ true
 or_false true is = refl
@@ -46,8 +46,7 @@ steps_accepted progress (first ∷ rest) fresh checked ended clauses literals =
     let later = well_checked progress.vars (clauses_of progress.entries ++ first.clause ∷ []) rest in
     let total = sum_by-cons (λ (step : Step). length step.clause) first rest in
     let next = with_entry progress (entry first.clause true) in
-    let more : well_checked progress.vars (clauses_of next.entries) rest ≡ true = rw (clauses_of-more progress.entries (entry first.clause true)) (right_true (is_none fault) later checked) in
-    (
+    let more : well_checked progress.vars (clauses_of next.entries) rest ≡ true = rw (clauses_of-more progress.entries (entry first.clause true)) (right_true (is_none fault) later checked) in (
       record { for_clause = omega arith; for_literals = omega (arith, total) },
       not_refused progress fault fresh (none_from_test fault (left_true (is_none fault) later checked)),
       steps_accepted next rest fresh more (has_empty_step-more progress.entries first (list_any (λ (step : Step). has_no_literals step.clause) rest) ∙ ended) (omega arith) (omega (arith, total)),
@@ -66,8 +65,7 @@ all_accepted progress (first ∷ rest) steps fresh formed checked ended clauses 
     let total = sum_by-cons (length {A = ℤ}) first rest in
     let next = with_entry progress (entry first false) in
     let same_clauses : clauses_of next.entries ++ rest ≡ clauses_of progress.entries ++ first ∷ rest =
-    rw (clauses_of-more progress.entries (entry first false)) (append_assoc (clauses_of progress.entries) (first ∷ []) rest) in
-    (
+    rw (clauses_of-more progress.entries (entry first false)) (append_assoc (clauses_of progress.entries) (first ∷ []) rest) in (
       record { for_clause = omega arith; for_literals = omega (arith, total) },
       not_refused progress (given_fault progress first) fresh (given_formed progress first (left_true (is_clause progress.vars first) (list_all (is_clause progress.vars) rest) formed)),
       all_accepted next rest steps fresh (right_true (is_clause progress.vars first) (list_all (is_clause progress.vars) rest) formed) (rw same_clauses checked) ended (omega arith) (omega (arith, total)) (no_step_yet progress.entries first none),

@@ -3,3 +3,4 @@ pub mod ClauseLaws
 pub mod NodeLaws
 pub mod TranslationLaws
 pub mod AcceptanceLaws
+pub mod NumberingLaws

@@ -12,6 +12,16 @@ use Rattle.sat_core.specs.Nodes.{Node, Parts, always_at, never_at, feature_at, i
 use Rattle.sat_core.specs.Translations.{features_of}
 use Rattle.sat_core.proofs.BoolLaws.{left_true, right_true, same, equal_from_same, same_from_equal}
 
+-- a test of the clauses that define nodes
+module _ (test : List ℤ → Bool) where
+  pub each_definition-append : (xs ys : List Node) → list_all test (flat_map definition (xs ++ ys)) ≡ (list_all test (flat_map definition xs) && list_all test (flat_map definition ys))
+  each_definition-append xs ys =
+      ap (list_all test) (flat_map-append definition xs ys) ∙ list_all-append test (flat_map definition xs) (flat_map definition ys)
+
+  pub each_definition-push : (xs : List Node) (node : Node) → list_all test (flat_map definition (xs ++ node ∷ [])) ≡ (list_all test (flat_map definition xs) && list_all test (definition node))
+  each_definition-push xs node =
+      each_definition-append xs (node ∷ []) ∙ ap (λ (clauses : List (List ℤ)). list_all test (flat_map definition xs) && list_all test clauses) (append-nil (definition node))
+
 module _ (values : ℕ → Bool) where
   negated_holds : (v : ℕ) → 0 < v → literal_holds values (negated v) ≡ not (values v)
   negated_holds zero some = absurd (omega arith)
@@ -127,12 +137,10 @@ module _ (values : ℕ → Bool) where
   defined nodes = all_hold values (flat_map definition nodes)
 
   defined-append : (xs ys : List Node) → defined (xs ++ ys) ≡ (defined xs && defined ys)
-  defined-append xs ys =
-      ap (all_hold values) (flat_map-append definition xs ys) ∙ list_all-append (clause_holds values) (flat_map definition xs) (flat_map definition ys)
+  defined-append = each_definition-append (clause_holds values)
 
   defined-push : (xs : List Node) (node : Node) → defined (xs ++ node ∷ []) ≡ (defined xs && all_hold values (definition node))
-  defined-push xs node =
-      defined-append xs (node ∷ []) ∙ ap (λ (clauses : List (List ℤ)). defined xs && all_hold values clauses) (append-nil (definition node))
+  defined-push = each_definition-push (clause_holds values)
 
   -- Where the clauses hold, each node is sound.
   mutual
@@ -167,8 +175,7 @@ module _ (values : ℕ → Bool) where
     parts_sound : (parts : Parts) → ((other : Node) → Contains (nodes_of_parts parts) other → 0 < variable other) → defined (nodes_of_parts parts) ≡ true → AreSound parts
     parts_sound no_part some holds = tt
     parts_sound (part_then first rest) some holds =
-        let both : (defined (nodes_of first) && defined (nodes_of_parts rest)) ≡ true = sym (defined-append (nodes_of first) (nodes_of_parts rest)) ∙ holds in
-        (
+        let both : (defined (nodes_of first) && defined (nodes_of_parts rest)) ≡ true = sym (defined-append (nodes_of first) (nodes_of_parts rest)) ∙ holds in (
           sound_from_defined first (λ other is. some other (Contains-append_left (nodes_of first) (nodes_of_parts rest) other is)) (left_true (defined (nodes_of first)) (defined (nodes_of_parts rest)) both),
           parts_sound rest (λ other is. some other (Contains-append_right (nodes_of first) (nodes_of_parts rest) other is)) (right_true (defined (nodes_of first)) (defined (nodes_of_parts rest)) both),
         )
@@ -213,8 +220,7 @@ module _ (values : ℕ → Bool) where
     parts_defined no_part sound = (refl, tt)
     parts_defined (part_then first rest) sound =
         let front = λ (other : Node) (is : Contains (nodes_of first) other). sound other (Contains-append_left (nodes_of first) (nodes_of_parts rest) other is) in
-        let back = parts_defined rest (λ other is. sound other (Contains-append_right (nodes_of first) (nodes_of_parts rest) other is)) in
-        (
+        let back = parts_defined rest (λ other is. sound other (Contains-append_right (nodes_of first) (nodes_of_parts rest) other is)) in (
           defined-append (nodes_of first) (nodes_of_parts rest) ∙ both_true (defined_from_sound first front) back.0,
           (front first (own_node first), back.1),
         )

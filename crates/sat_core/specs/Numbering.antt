@@ -1,7 +1,10 @@
--- Numbers for the nodes of a condition: each node its own, one after another from the root on.
-use Rattle.std.specs.Prelude.{ℕ, ◌+◌}
+-- Numbers for the nodes of a condition: each node its own, one after another from the root on; and the clauses in the order in
+-- which they are made.
+use Rattle.std.specs.Prelude.{ℕ, ◌+◌, ℤ, pos, Bool, true, false, not, List, [], ◌∷◌, map, Vec}
+use Rattle.std.specs.List.{flat_map}
+use Rattle.std.specs.declared.alloc.Global.{Global}
 use Rattle.cond_formula.specs.Conditions.{Condition, Conditions, Always, Never, Feature, Inverse, All_of, Any_of, none, more}
-use Rattle.sat_core.specs.Nodes.{Node, Parts, always_at, never_at, feature_at, inverse_at, all_at, any_at, no_part, part_then}
+use Rattle.sat_core.specs.Nodes.{Node, Parts, always_at, never_at, feature_at, inverse_at, all_at, any_at, no_part, part_then, nodes_of, nodes_of_parts, part_variables, negated, definition}
 
 -- How many nodes there are.
 abbrev mutual
@@ -29,3 +32,39 @@ abbrev mutual
   numbered_parts last none = no_part
   numbered_parts last (more first rest) =
       part_then (numbered last first) (numbered_parts (last + node_count first) rest)
+
+-- the clauses that define the nodes
+unfoldable pub node_clauses : ℕ → Condition → List (List ℤ)
+node_clauses last condition = flat_map definition (nodes_of (numbered last condition))
+
+unfoldable pub parts_clauses : ℕ → Conditions → List (List ℤ)
+parts_clauses last parts = flat_map definition (nodes_of_parts (numbered_parts last parts))
+
+-- the variables of the parts
+unfoldable pub parts_variables : ℕ → Conditions → List ℕ
+parts_variables last parts = part_variables (numbered_parts last parts)
+
+-- the variable, or its negation
+abbrev pub signed : Bool → ℕ → ℤ
+signed true v = pos v
+signed false v = negated v
+
+-- The clauses that hold where the variable is true exactly where the part is, or, where `positive` is false, where it isn't.
+abbrev pub link : Bool → ℕ → ℕ → List (List ℤ)
+link positive v part =
+    (signed false v ∷ signed positive part ∷ []) ∷ (signed true v ∷ signed (not positive) part ∷ []) ∷ []
+
+-- The clauses that hold where the variable is true exactly where each of the parts is, or, where `positive` is false, false
+-- exactly where each of the parts is.
+abbrev pub long_clause : Bool → ℕ → List ℕ → List ℤ
+long_clause positive v parts = signed positive v ∷ map (signed (not positive)) parts
+
+abbrev pub short_clauses : Bool → ℕ → List ℕ → List (List ℤ)
+short_clauses positive v parts = map (λ part. signed (not positive) v ∷ signed positive part ∷ []) parts
+
+abbrev pub gate : Bool → ℕ → List ℕ → List (List ℤ)
+gate positive v parts = long_clause positive v parts ∷ short_clauses positive v parts
+
+-- what clauses in memory are
+abbrev pub literals_of : List (Vec ℤ Global) → List (List ℤ)
+literals_of clauses = map (λ clause. clause.items) clauses

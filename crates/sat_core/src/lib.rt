@@ -2,7 +2,9 @@
 #![tactic(auto)]
 
 mod laws;
+mod translation;
 
 pub use laws::{
     refutations_are_accepted, refuted_formulas_have_no_model, translations_are_equisatisfiable,
 };
+pub use translation::{Translation, translate};
