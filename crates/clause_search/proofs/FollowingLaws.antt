@@ -64,7 +64,7 @@ judged_open known (Some true) first literal others_false others at later is = cc
 judged_open known None first literal true others at later is =
     let same : first ≡ literal = cc in
     subst (λ (l : ℤ). value_of known l ≡ None) same at
-judged_open known None first literal false others at later is = later is
+judged_open known None first literal false others at later is = cc
 
 unit_open : (known : List (Option Bool)) (clause : List ℤ) (literal : ℤ) → judgement known clause ≡ unit literal → value_of known literal ≡ None
 unit_open known [] literal is = cc
