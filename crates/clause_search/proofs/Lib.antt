@@ -1,0 +1,4 @@
+pub mod NumberLaws
+pub mod KnownLaws
+pub mod DecisionLaws
+pub mod FollowingLaws
