@@ -1,6 +1,5 @@
 -- A checker with room refuses nothing of a refutation.
-use Rattle.std.proofs.Common.{◌≡◌, ℕ, zero, suc, ◌+◌, ◌-◌, ◌<◌, ◌≤◌, Bool, true, false, ◌&&◌, ◌||◌, cond, ℤ, List, [], ◌∷◌, ◌++◌, length, Option, None, Some, is_none, refl, sym, ap, ◌∙◌, subst, arith}
-use Rattle.std.proofs.lemmas.Bool.{false≢true}
+use Rattle.std.proofs.Common.{◌≡◌, ◌+◌, ◌≤◌, Bool, true, false, ◌&&◌, ◌||◌, ℤ, List, [], ◌∷◌, ◌++◌, length, Option, None, is_none, refl, ap, ◌∙◌, arith}
 use Rattle.std.proofs.lemmas.List.{map-append, append_assoc, append-nil}
 use Rattle.std.proofs.lemmas.List.Folds.{list_any-append}
 use Rattle.std.proofs.lemmas.List.Sums.{sum_by-cons}
@@ -8,15 +7,11 @@ use Rattle.std.specs.List.{list_all, list_any, sum_by}
 use Rattle.refute_check.specs.declared.refusals.CheckKind.{CheckKind}
 use Rattle.refute_check.specs.Clauses.{is_clause}
 use Rattle.refute_check.specs.Steps.{step_fault}
-use Rattle.refute_check.specs.Refutations.{Step, IsRefutation, well_checked, has_no_literals}
+use Rattle.refute_check.specs.Refutations.{Step, well_checked, has_no_literals}
 use Rattle.refute_check.specs.Entries.{Entry, entry, clauses_of, has_empty_step}
-use Rattle.refute_check.specs.Progress.{Progress, begun, with_entry, refusal_by, given_fault, derived_fault, end_fault}
-use Rattle.sat_core.specs.Acceptance.{HasRoom, StepsAccepted, AllAccepted, AcceptanceLaw}
-use Rattle.sat_core.proofs.BoolLaws.{left_true, right_true}
-
-none_from_test : (fault : Option CheckKind) → is_none fault ≡ true → fault ≡ None
-none_from_test None is = refl
-none_from_test (Some kind) is = absurd (false≢true is)
+use Rattle.refute_check.specs.Progress.{Progress, begun, with_entry, refusal_by, given_fault, end_fault}
+use Rattle.sat_core.specs.Acceptance.{StepsAccepted, AllAccepted, AcceptanceLaw}
+use Rattle.refute_check.specs.StepLaws.{left_true, right_true, none_from_test}
 
 -- nothing is wrong, and nothing was
 not_refused : (progress : Progress) (fault : Option CheckKind) → progress.refusal ≡ None → fault ≡ None → refusal_by progress fault ≡ None

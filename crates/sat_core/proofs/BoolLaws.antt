@@ -1,14 +1,5 @@
 -- Tests that hold together.
-use Rattle.std.proofs.Common.{◌≡◌, Bool, true, false, not, ◌&&◌, ◌||◌, refl, sym, ◌∙◌}
-use Rattle.std.proofs.lemmas.Bool.{false≢true}
-
-pub left_true : (a b : Bool) → (a && b) ≡ true → a ≡ true
-left_true true b is = refl
-left_true false b is = is
-
-pub right_true : (a b : Bool) → (a && b) ≡ true → b ≡ true
-right_true true b is = is
-right_true false b is = absurd (false≢true is)
+use Rattle.std.proofs.Common.{◌≡◌, Bool, true, false, not, refl, sym}
 
 -- whether two tests have one answer
 abbrev pub same : Bool → Bool → Bool

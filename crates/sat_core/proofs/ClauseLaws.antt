@@ -1,6 +1,6 @@
 -- Clauses as sets of literals, and lists of clauses as sets of clauses.
-use Rattle.std.proofs.Common.{◌≡◌, ℕ, Bool, true, ℤ, List, refl}
-use Rattle.std.specs.Prelude.{All, Any, Contains}
+use Rattle.std.proofs.Common.{◌≡◌, ℕ, Bool, true, ℤ, List}
+use Rattle.std.specs.Prelude.{Any}
 use Rattle.std.proofs.lemmas.List.Elements.{All-contains, All-weaker}
 use Rattle.std.proofs.lemmas.List.Folds.{Any-from_list_any, list_any-from_Any}
 use Rattle.std.proofs.lemmas.List.Sums.{AllPass-from_list_all, list_all-from_AllPass}

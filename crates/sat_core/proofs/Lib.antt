@@ -4,3 +4,5 @@ pub mod NodeLaws
 pub mod TranslationLaws
 pub mod AcceptanceLaws
 pub mod NumberingLaws
+pub mod ConfigLaws
+pub mod LeastLaws

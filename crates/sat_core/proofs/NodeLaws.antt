@@ -1,16 +1,17 @@
 -- Where the clauses that define a node hold.
-use Rattle.std.proofs.Common.{◌≡◌, ℕ, zero, suc, ◌+◌, ◌<◌, Bool, true, false, not, ◌&&◌, ◌||◌, ℤ, pos, List, [], ◌∷◌, ◌++◌, map, Contains, refl, sym, ap, ◌∙◌, arith}
+use Rattle.std.proofs.Common.{◌≡◌, ℕ, zero, suc, ◌<◌, Bool, true, false, not, ◌&&◌, ◌||◌, ℤ, pos, List, [], ◌∷◌, ◌++◌, map, Contains, refl, sym, ap, ◌∙◌, arith}
 use Rattle.std.proofs.lemmas.List.{append-nil}
 use Rattle.std.proofs.lemmas.List.Concat.{flat_map-append}
 use Rattle.std.proofs.lemmas.List.Elements.{Contains-append_left, Contains-append_right, Contains-push}
 use Rattle.std.proofs.lemmas.List.Folds.{list_all-append}
 use Rattle.std.specs.Cmp.Derive.{both_true}
 use Rattle.std.specs.List.{list_all, list_any, flat_map}
-use Rattle.cond_formula.specs.Conditions.{Condition, Conditions, value, all_true, any_true}
+use Rattle.cond_formula.specs.Conditions.{value, all_true, any_true}
 use Rattle.refute_check.specs.Clauses.{literal_holds, clause_holds, all_hold}
 use Rattle.sat_core.specs.Nodes.{Node, Parts, always_at, never_at, feature_at, inverse_at, all_at, any_at, no_part, part_then, variable, condition_at, conditions_at, nodes_of, nodes_of_parts, part_variables, negated, feature_variable, definition}
 use Rattle.sat_core.specs.Translations.{features_of}
-use Rattle.sat_core.proofs.BoolLaws.{left_true, right_true, same, equal_from_same, same_from_equal}
+use Rattle.refute_check.specs.StepLaws.{left_true, right_true}
+use Rattle.sat_core.proofs.BoolLaws.{same, equal_from_same, same_from_equal}
 
 -- a test of the clauses that define nodes
 module _ (test : List ℤ → Bool) where

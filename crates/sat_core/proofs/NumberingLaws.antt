@@ -1,5 +1,5 @@
 -- Numbering the nodes of a condition one after another gives a translation.
-use Rattle.std.proofs.Common.{◌≡◌, ◌≢◌, ℕ, zero, suc, ◌+◌, ◌-◌, ◌<◌, ◌≤◌, Bool, true, false, not, ◌&&◌, ◌||◌, eqb, leb, ℤ, pos, List, [], ◌∷◌, ◌++◌, map, All, Contains, refl, sym, ap, ◌∙◌, subst, arith, inl, inr}
+use Rattle.std.proofs.Common.{◌≡◌, ◌≢◌, ℕ, zero, suc, ◌+◌, ◌<◌, ◌≤◌, true, false, eqb, ℤ, pos, List, [], ◌∷◌, ◌++◌, map, Contains, refl, sym, ap, ◌∙◌, subst, arith, inl, inr}
 use Rattle.std.specs.Prelude.{Any}
 use Rattle.std.proofs.lemmas.Bool.Decides.{nat_tests}
 use Rattle.std.proofs.lemmas.Grind.{common_steps}
@@ -12,8 +12,8 @@ use Rattle.std.specs.List.{list_all, flat_map}
 use Rattle.cond_formula.specs.Conditions.{Condition, Conditions, Always, Never, Feature, Inverse, All_of, Any_of, none, more, VarsBelow, AllVarsBelow}
 use Rattle.cond_formula.specs.ConditionLaws.{formula_kinds}
 use Rattle.refute_check.specs.Clauses.{variable_of, is_literal, names_variable, is_clause}
-use Rattle.sat_core.specs.Nodes.{Node, Parts, always_at, never_at, feature_at, inverse_at, all_at, any_at, no_part, part_then, variable, condition_at, conditions_at, nodes_of, nodes_of_parts, part_variables, negated, feature_variable, definition}
-use Rattle.sat_core.specs.Translations.{SameLiterals, AreAmong, defining_clauses, IsTranslation}
+use Rattle.sat_core.specs.Nodes.{Node, Parts, always_at, never_at, feature_at, inverse_at, all_at, any_at, variable, condition_at, conditions_at, nodes_of, nodes_of_parts, part_variables, negated, feature_variable, definition}
+use Rattle.sat_core.specs.Translations.{SameLiterals, AreAmong, IsTranslation}
 use Rattle.sat_core.specs.Numbering.{node_count, node_count_of, numbered, numbered_parts, node_clauses, parts_clauses, parts_variables, signed, link, gate}
 use Rattle.sat_core.proofs.NodeLaws.{each_definition-append, each_definition-push}
 

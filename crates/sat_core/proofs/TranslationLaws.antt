@@ -1,18 +1,17 @@
 -- A translation is satisfiable exactly where the condition has a model.
-use Rattle.std.proofs.Common.{◌≡◌, ℕ, zero, suc, ◌+◌, ◌-◌, ◌<◌, ◌≤◌, Bool, true, false, not, ◌&&◌, ◌||◌, cond, eqb, leb, ℤ, pos, List, [], ◌∷◌, ◌++◌, Contains, refl, sym, ap, ◌∙◌, subst, arith, inl, inr}
+use Rattle.std.proofs.Common.{◌≡◌, ℕ, zero, suc, ◌+◌, ◌-◌, ◌<◌, Bool, true, false, ◌||◌, cond, eqb, leb, ℤ, List, [], ◌∷◌, Contains, refl, sym, ap, ◌∙◌, subst, arith, inl, inr}
 use Rattle.std.proofs.Math.Bool.{or-false}
 use Rattle.std.proofs.lemmas.Bool.{false_from_ne_true, false≢true, eqb-true}
 use Rattle.std.proofs.lemmas.Bool.Decides.{nat_tests}
-use Rattle.std.proofs.lemmas.List.Elements.{All-contains, Contains-append_cases, Contains-append_left, Contains-append_right, Contains-push_cases}
+use Rattle.std.proofs.lemmas.List.Elements.{All-contains, Contains-append_cases, Contains-append_right}
 use Rattle.std.specs.Cmp.Derive.{both_true}
-use Rattle.std.specs.List.{flat_map}
-use Rattle.cond_formula.specs.Conditions.{Condition, Conditions, Never, value, VarsBelow, AllVarsBelow}
+use Rattle.cond_formula.specs.Conditions.{Condition, Never, value, VarsBelow, AllVarsBelow}
 use Rattle.cond_formula.specs.ConditionLaws.{value_same_below}
 use Rattle.refute_check.specs.Clauses.{all_hold}
-use Rattle.refute_check.specs.Refutations.{Step, IsRefutation, RefutationLaw}
-use Rattle.sat_core.specs.Nodes.{Node, Parts, always_at, never_at, feature_at, inverse_at, all_at, any_at, no_part, part_then, variable, condition_at, conditions_at, nodes_of, nodes_of_parts, feature_variable, definition}
-use Rattle.sat_core.specs.Translations.{features_of, defining_clauses, IsTranslation, IsExtended, IsEquisatisfiable, TranslationLaw, NoModelLaw}
-use Rattle.sat_core.proofs.BoolLaws.{left_true, right_true}
+use Rattle.refute_check.specs.Refutations.{RefutationLaw}
+use Rattle.sat_core.specs.Nodes.{Node, Parts, always_at, never_at, feature_at, inverse_at, all_at, any_at, no_part, part_then, variable, condition_at, conditions_at, nodes_of, nodes_of_parts}
+use Rattle.sat_core.specs.Translations.{features_of, defining_clauses, IsTranslation, IsExtended, TranslationLaw, NoModelLaw}
+use Rattle.refute_check.specs.StepLaws.{left_true, right_true}
 use Rattle.sat_core.proofs.ClauseLaws.{all_hold_among}
 use Rattle.sat_core.proofs.NodeLaws.{IsSound, own_node, sound_from_defined, defined_from_sound, defined}
 

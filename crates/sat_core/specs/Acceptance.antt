@@ -1,5 +1,5 @@
 -- What a checker answers where it is given the clauses and the steps of a refutation one by one, and then asked for the end.
-use Rattle.std.specs.Prelude.{◌≡◌, ℕ, ◌+◌, ◌≤◌, ℤ, true, false, List, [], ◌∷◌, length, None, ⊤}
+use Rattle.std.specs.Prelude.{◌≡◌, ℕ, ◌+◌, ◌≤◌, ℤ, true, false, List, [], ◌∷◌, length, None}
 use Rattle.std.specs.List.{sum_by}
 use Rattle.refute_check.specs.Refutations.{Step, IsRefutation}
 use Rattle.refute_check.specs.Entries.{entry}

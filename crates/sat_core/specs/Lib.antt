@@ -3,3 +3,4 @@ pub mod Nodes
 pub mod Translations
 pub mod Numbering
 pub mod Acceptance
+pub mod Answers

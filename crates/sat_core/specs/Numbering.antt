@@ -1,8 +1,7 @@
 -- Numbers for the nodes of a condition: each node its own, one after another from the root on; and the clauses in the order in
 -- which they are made.
-use Rattle.std.specs.Prelude.{ℕ, ◌+◌, ℤ, pos, Bool, true, false, not, List, [], ◌∷◌, map, Vec}
+use Rattle.std.specs.Prelude.{ℕ, ◌+◌, ℤ, pos, Bool, true, false, not, List, [], ◌∷◌, map}
 use Rattle.std.specs.List.{flat_map}
-use Rattle.std.specs.declared.alloc.Global.{Global}
 use Rattle.cond_formula.specs.Conditions.{Condition, Conditions, Always, Never, Feature, Inverse, All_of, Any_of, none, more}
 use Rattle.sat_core.specs.Nodes.{Node, Parts, always_at, never_at, feature_at, inverse_at, all_at, any_at, no_part, part_then, nodes_of, nodes_of_parts, part_variables, negated, definition}
 
@@ -64,7 +63,3 @@ short_clauses positive v parts = map (λ part. signed (not positive) v ∷ signe
 
 abbrev pub gate : Bool → ℕ → List ℕ → List (List ℤ)
 gate positive v parts = long_clause positive v parts ∷ short_clauses positive v parts
-
--- what clauses in memory are
-abbrev pub literals_of : List (Vec ℤ Global) → List (List ℤ)
-literals_of clauses = map (λ clause. clause.items) clauses

@@ -1,6 +1,6 @@
 -- Translations: lists of clauses that are satisfiable exactly where a condition has a model. Variable i + 1 is feature i, and
 -- each node of the condition has a variable above the features, which clauses define by the variables of its parts.
-use Rattle.std.specs.Prelude.{◌≡◌, ℕ, ◌<◌, Bool, true, false, ℤ, pos, List, [], ◌∷◌, IsTrue, All, Any, Contains}
+use Rattle.std.specs.Prelude.{◌≡◌, ℕ, ◌<◌, Bool, ℤ, pos, List, [], ◌∷◌, IsTrue, All, Any, Contains}
 use Rattle.std.specs.List.{list_all, flat_map}
 use Rattle.cond_formula.specs.Conditions.{Condition, value, VarsBelow}
 use Rattle.refute_check.specs.Clauses.{is_clause, all_hold}

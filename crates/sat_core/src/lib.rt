@@ -1,10 +1,14 @@
-//! Whether a formula has a model: its translation into clauses, and what follows from a refutation of these.
+//! Whether a formula has a model: the least one, or a refutation of the clauses into which the formula is translated.
 #![tactic(auto)]
 
+mod configs;
 mod laws;
+mod solver;
 mod translation;
 
+pub use clause_search::Step;
 pub use laws::{
     refutations_are_accepted, refuted_formulas_have_no_model, translations_are_equisatisfiable,
 };
+pub use solver::{Answer, Proof, solve};
 pub use translation::{Translation, translate};

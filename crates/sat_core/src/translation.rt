@@ -2,8 +2,9 @@
 
 ghost use Rattle.std.specs.Prelude.{◌≡◌, ◌+◌, ◌<◌, ◌≤◌, Bool, true, false, not, ℕ, pos, List, [], ◌∷◌, ◌++◌, map, length, IfOk, OnOk, All};
 ghost use Rattle.cond_formula.specs.Conditions.{condition_of, conditions_of, VarsBelow};
+ghost use Rattle.clause_search.specs.Answers.{literals_of};
 ghost use Rattle.sat_core.specs.Translations.{IsTranslation};
-ghost use Rattle.sat_core.specs.Numbering.{node_count, node_count_of, node_clauses, parts_clauses, parts_variables, signed, link, long_clause, short_clauses, gate, literals_of};
+ghost use Rattle.sat_core.specs.Numbering.{node_count, node_count_of, node_clauses, parts_clauses, parts_variables, signed, link, long_clause, short_clauses, gate};
 
 use cond_formula::{Formula, NoMemory};
 use std::alloc::{AllocError, Global};

@@ -1,6 +1,7 @@
 use Rattle.std.proofs.Common.{◌≡◌, ◌+◌, ◌<◌, ◌++◌, drop, All}
 use Rattle.cond_formula.specs.Conditions.{conditions_of}
-use Rattle.sat_core.specs.Numbering.{node_count_of, parts_clauses, parts_variables, literals_of}
+use Rattle.clause_search.specs.Answers.{literals_of}
+use Rattle.sat_core.specs.Numbering.{node_count_of, parts_clauses, parts_variables}
 use Rattle.sat_core.proofs.translation.Translation.+define.Given as goal
 
 abbrev pub invariant-define_parts-loop-part : goal.invariant-define_parts-loop-part

@@ -1,5 +1,6 @@
 use Rattle.std.proofs.Common.{◌≡◌, ◌++◌, take}
-use Rattle.sat_core.specs.Numbering.{short_clauses, literals_of}
+use Rattle.clause_search.specs.Answers.{literals_of}
+use Rattle.sat_core.specs.Numbering.{short_clauses}
 use Rattle.sat_core.proofs.translation.Translation.add_short.Given as goal
 
 abbrev pub invariant-loop-part : goal.invariant-loop-part
