@@ -32,7 +32,7 @@ module _ (vars : ℕ) (first : ℤ) (rest : List ℤ) (is : is_clause vars (firs
 made_clause : (vars : ℕ) (first : ℤ) (rest : List ℤ) → is_literal vars first ≡ true → names_variable rest (variable_of first) ≡ false → is_clause vars rest ≡ true → is_clause vars (first ∷ rest) ≡ true
 made_clause vars first rest literal once formed = both_true (both_true literal (ap not once)) formed
 
-literal_some : (vars : ℕ) (literal : ℤ) → is_literal vars literal ≡ true → 1 ≤ variable_of literal
+pub literal_some : (vars : ℕ) (literal : ℤ) → is_literal vars literal ≡ true → 1 ≤ variable_of literal
 literal_some vars literal is = leb-true 1 (variable_of literal) (left_true (leb 1 (variable_of literal)) (leb (variable_of literal) vars) is)
 
 pub literal_within : (vars : ℕ) (literal : ℤ) → is_literal vars literal ≡ true → variable_of literal ≤ vars
@@ -60,11 +60,13 @@ is_clause-front vars (first ∷ rest) more formed =
     sym (list_any-append (λ (l : ℤ). eqb (variable_of l) (variable_of first)) rest more) ∙ named_once vars first (rest ++ more) formed in
     made_clause vars first rest (first_literal vars first (rest ++ more) formed) (or_parts (names_variable rest (variable_of first)) (names_variable more (variable_of first)) once).0 (is_clause-front vars rest more (rest_clause vars first (rest ++ more) formed))
 
-named_within : (vars : ℕ) (clause : List ℤ) (variable : ℕ) → is_clause vars clause ≡ true → names_variable clause variable ≡ true → variable ≤ vars
-named_within vars [] variable formed named = absurd (false≢true named)
-named_within vars (first ∷ rest) variable formed named = elim (or_cases (eqb (variable_of first) variable) (names_variable rest variable) named) [
-  | inl here ↦ rw (← eqb-true (variable_of first) variable here) (literal_within vars first (first_literal vars first rest formed))
-  | inr later ↦ named_within vars rest variable (rest_clause vars first rest formed) later
+pub named_numbers : (vars : ℕ) (clause : List ℤ) (variable : ℕ) → is_clause vars clause ≡ true → names_variable clause variable ≡ true → (1 ≤ variable) × (variable ≤ vars)
+named_numbers vars [] variable formed named = absurd (false≢true named)
+named_numbers vars (first ∷ rest) variable formed named = elim (or_cases (eqb (variable_of first) variable) (names_variable rest variable) named) [
+  | inl here ↦
+      let is = first_literal vars first rest formed in
+      rw (← eqb-true (variable_of first) variable here) (literal_some vars first is, literal_within vars first is)
+  | inr later ↦ named_numbers vars rest variable (rest_clause vars first rest formed) later
 ]
 
 set_false : (values : List (Option Bool)) (i variable : ℕ) → get_or values variable None ≡ Some false → get_or (set values i (Some false)) variable None ≡ Some false
@@ -100,10 +102,10 @@ named_false values (first ∷ rest) variable positive within named =
 
 pub decided_false : (vars : ℕ) (decisions : List ℤ) (variable : ℕ) → is_clause vars decisions ≡ true → all_positive decisions ≡ true → names_variable decisions variable ≡ true → get_or (all_taken_false (no_values vars) decisions) variable None ≡ Some false
 decided_false vars decisions variable formed positive named =
-    let within = named_within vars decisions variable formed named in
+    let within = (named_numbers vars decisions variable formed named).1 in
     named_false (no_values vars) decisions variable positive (rw (length-replicate {A = Option Bool} (vars + 1) None) (omega arith)) named
 
-positive_holds : (values : ℕ → Bool) (literal : ℤ) → is_positive literal ≡ true → literal_holds values literal ≡ values (variable_of literal)
+pub positive_holds : (values : ℕ → Bool) (literal : ℤ) → is_positive literal ≡ true → literal_holds values literal ≡ values (variable_of literal)
 positive_holds values (pos n) is = refl
 positive_holds values (negsuc n) is = absurd (false≢true is)
 

@@ -1,3 +1,4 @@
+pub mod TurnLaws
 pub mod NumberLaws
 pub mod KnownLaws
 pub mod DecisionLaws

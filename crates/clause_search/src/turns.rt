@@ -1,6 +1,6 @@
 //! The search: it takes variables as false, one after another, and learns from each conflict.
 
-ghost use Rattle.std.specs.Prelude.{◌≡◌, ◌+◌, ◌-◌, ◌<◌, ◌≤◌, ◌^◌, ℕ, List, length, map, drop, IsTrue, IfOk, IsSomeAnd, MatchOption, unwrap_or, slice_get, pos, false, true, [], ◌∷◌, ◌++◌};
+ghost use Rattle.std.specs.Prelude.{◌≡◌, ◌+◌, ◌-◌, ◌<◌, ◌≤◌, ◌^◌, ℕ, List, length, map, drop, IsTrue, IfOk, OnOk, IsSomeAnd, MatchOption, unwrap_or, slice_get, pos, false, true, [], ◌∷◌, ◌++◌};
 ghost use Rattle.std.specs.List.{list_all, list_any};
 ghost use Rattle.refute_check.specs.Clauses.{is_clause};
 ghost use Rattle.refute_check.specs.Steps.{all_false};
@@ -80,11 +80,16 @@ fn take_turn(
 {
     let mut trail = Trail::new(alloc, vars, &state.decisions)?;
     let conflict = trail.propagate(given, &state.steps, state.watched.numbers())?;
-    let turn = match conflict {
-        Some(number) => learn(alloc, given, state, trail, number)?,
-        None => settle(alloc, vars, given, state, trail)?,
-    };
-    Ok(turn)
+    match conflict {
+        Some(number) => {
+            let turn = learn(alloc, given, state, trail, number)?;
+            Ok(turn)
+        }
+        None => {
+            let turn = settle(alloc, vars, given, state, trail)?;
+            Ok(turn)
+        }
+    }
 }
 
 // Adds the step that one of the decisions is wrong, since they make the clause with this number false, and takes back the
@@ -129,22 +134,28 @@ fn settle(
     requires known { IsKnown vars (literals_of given.now) state.old (known_of trail) }
     ensures { IfOk result (HasTurned vars (literals_of given.now) state.new) }
 {
-    let turn = match first_open(&trail.values) {
-        Some(variable) => decide(state, variable)?,
-        None => finish(alloc, given, state, trail)?,
-    };
-    Ok(turn)
+    match first_open(&trail.values) {
+        Some(variable) => {
+            decide(state, variable)?;
+            Ok(Turn::Onward)
+        }
+        None => {
+            let turn = finish(alloc, given, state, trail)?;
+            Ok(turn)
+        }
+    }
 }
 
-fn decide(state: &mut State, variable: usize) -> Result<Turn, NoMemory>
+// Takes a variable as false.
+fn decide(state: &mut State, variable: usize) -> Result<(), NoMemory>
     requires { variable < 2147483648 }
-    ensures steps { IfOk result (λ _. state.new.steps.items ≡ state.old.steps.items) }
-    ensures decisions { IfOk result (λ _. state.new.decisions.items ≡ state.old.decisions.items ++ pos variable ∷ []) }
-    ensures onward { IfOk result (λ turn. turn ≡ Turn.Onward) }
+    ensures steps { OnOk result (state.new.steps.items ≡ state.old.steps.items) }
+    ensures decisions { OnOk result
+        (state.new.decisions.items ≡ state.old.decisions.items ++ pos variable ∷ []) }
 {
     state.decisions.push(variable as i32)?;
     state.watched.decide()?;
-    Ok(Turn::Onward)
+    Ok(())
 }
 
 // Where all variables have values: they satisfy the clauses, if none of these is false.
