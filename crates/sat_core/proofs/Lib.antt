@@ -6,3 +6,4 @@ pub mod AcceptanceLaws
 pub mod NumberingLaws
 pub mod ConfigLaws
 pub mod LeastLaws
+pub mod FormulaLaws

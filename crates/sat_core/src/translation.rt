@@ -229,20 +229,3 @@ fn long_clause(
     }
     Ok(clause)
 }
-
-#[cfg(test)]
-mod tests {
-    use super::*;
-    use std::test::Fail;
-
-    #[test]
-    fn each_node_has_a_variable(rt: HostRuntime) -> Result<(), Fail> {
-        let alloc = rt.alloc();
-        let inner = Formula::not(alloc, Formula::Var(0))?;
-        let formula = Formula::and(alloc, inner, Formula::Var(1))?;
-        let translation = translate(alloc, &formula, 2)?;
-        assert_eq!(rt; translation.vars, 6);
-        assert_eq!(rt; translation.clauses.len(), 10);
-        Ok(())
-    }
-}

@@ -1,4 +1,4 @@
-use Rattle.std.proofs.Common.{◌≡◌, ℕ, ◌<◌, ℤ, Bool, List, sym, subst, arith}
+use Rattle.std.proofs.Common.{◌≡◌, ℕ, ℤ, Bool, List, sym, subst, arith}
 use Rattle.std.specs.Prelude.{Vec}
 use Rattle.std.specs.declared.alloc.Global.{Global}
 use Rattle.cond_formula.specs.Conditions.{Condition, condition_of, VarsBelow}
@@ -18,11 +18,10 @@ found_least : (vars : ℕ) (clauses slice : List (Vec ℤ Global)) (found : Foun
 found_least vars clauses slice found values same is answer =
     subst (λ (all : List (Vec ℤ Global)). IsLeast vars (literals_of all) values.items) same (subst (IsAnswer vars (literals_of slice)) is answer)
 
-refutes : (features : ℕ) (condition : Condition) (vars : ℕ) (clauses slice : List (Vec ℤ Global)) (found : Found) (steps : Vec Step Global) → NoModelLaw → vars < 2147483648 → VarsBelow features condition → IsTranslation features condition vars (literals_of clauses) → slice ≡ clauses → found ≡ Refuted steps → IsAnswer vars (literals_of slice) found → Refutes features condition vars (literals_of clauses) (steps_of steps.items)
-refutes features condition vars clauses slice found steps law small below translation same is answer =
+refutes : (features : ℕ) (condition : Condition) (vars : ℕ) (clauses slice : List (Vec ℤ Global)) (found : Found) (steps : Vec Step Global) → NoModelLaw → VarsBelow features condition → IsTranslation features condition vars (literals_of clauses) → slice ≡ clauses → found ≡ Refuted steps → IsAnswer vars (literals_of slice) found → Refutes features condition vars (literals_of clauses) (steps_of steps.items)
+refutes features condition vars clauses slice found steps law below translation same is answer =
     let refutation : IsRefutation vars (literals_of clauses) (steps_of steps.items) = subst (λ (all : List (Vec ℤ Global)). IsRefutation vars (literals_of all) (steps_of steps.items)) same (subst (IsAnswer vars (literals_of slice)) is answer) in
     record {
-      small = small;
       translation = translation;
       refutation = refutation;
       no_model = law features condition vars (literals_of clauses) (steps_of steps.items) below translation refutation;
@@ -47,4 +46,4 @@ returns-in-Least c =
 pub returns-in-Refuted : goal.returns-in-Refuted
 returns-in-Refuted c =
     let t = c.in_ok-vars.field-0 in
-    refutes c.args.features (condition_of c.args.formula.now) t.vars t.clauses.items c.deref.result.now c.in_ok-values.field-0 c.in-Refuted.steps c.refuted_formulas_have_no_model.ensures t.small c.requires.numbered c.in_ok-vars.ensures c.deref.ensures.value c.in-Refuted.is c.in_ok-values.ensures
+    refutes c.args.features (condition_of c.args.formula.now) t.vars t.clauses.items c.deref.result.now c.in_ok-values.field-0 c.in-Refuted.steps c.refuted_formulas_have_no_model.ensures c.requires.numbered c.in_ok-vars.ensures c.deref.ensures.value c.in-Refuted.is c.in_ok-values.ensures
