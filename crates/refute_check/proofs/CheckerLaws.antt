@@ -12,7 +12,8 @@ use Rattle.refute_check.specs.Steps.{no_values, all_taken_false, hints_fault}
 use Rattle.refute_check.specs.Refutations.{has_no_literals}
 use Rattle.refute_check.specs.Entries.{Entry, entry, clauses_of, given_of, has_empty_step}
 use Rattle.refute_check.specs.Progress.{fault_in}
-use Rattle.refute_check.proofs.Soundness.{left_true, right_true, empty_or_later, step_follows}
+use Rattle.refute_check.specs.StepLaws.{left_true, right_true, step_follows}
+use Rattle.refute_check.proofs.Soundness.{empty_or_later}
 
 module _ (vars : ℕ) (clauses : List (List ℤ)) (clause : List ℤ) where
   pub fault-unformed : (hints : Option (List ℕ)) → is_clause vars clause ≡ false → Some Syntax ≡ fault_in vars clauses clause hints

@@ -8,7 +8,7 @@ use Rattle.std.proofs.lemmas.List.Elements.{All-head, All-tail, All-nil, All-con
 use Rattle.std.specs.List.{list_all}
 use Rattle.std.proofs.lemmas.List.{length-replicate}
 use Rattle.std.specs.Cmp.Derive.{both_true}
-use Rattle.refute_check.proofs.Soundness.{left_true, right_true, get_or-replicate_None}
+use Rattle.refute_check.specs.StepLaws.{left_true, right_true, get_or-replicate_None}
 use Rattle.refute_check.specs.declared.marks.Mark.{Mark}
 use Rattle.refute_check.specs.Clauses.{variable_of, is_positive, is_literal, names_variable, is_clause}
 use Rattle.refute_check.specs.Steps.{no_values, literal_of, value_of, taken_false, all_taken_false}

@@ -1,6 +1,7 @@
 pub mod Clauses
 pub mod Steps
 pub mod Refutations
+pub mod StepLaws
 pub mod Marks
 pub mod Entries
 pub mod Storage

@@ -1,0 +1,5 @@
+pub mod TurnLaws
+pub mod NumberLaws
+pub mod KnownLaws
+pub mod DecisionLaws
+pub mod FollowingLaws

@@ -1,0 +1,6 @@
+pub mod Least
+pub mod LeastLaws
+pub mod Answers
+pub mod Following
+pub mod Known
+pub mod Searches

@@ -1,0 +1,257 @@
+//! The search: it takes variables as false, one after another, and learns from each conflict.
+
+ghost use Rattle.std.specs.Prelude.{◌≡◌, ◌+◌, ◌-◌, ◌<◌, ◌≤◌, ◌^◌, ℕ, List, length, map, drop, IsTrue, IfOk, OnOk, IsSomeAnd, MatchOption, unwrap_or, slice_get, pos, false, true, [], ◌∷◌, ◌++◌};
+ghost use Rattle.std.specs.List.{list_all, list_any};
+ghost use Rattle.refute_check.specs.Clauses.{is_clause};
+ghost use Rattle.refute_check.specs.Steps.{all_false};
+ghost use Rattle.clause_search.specs.Answers.{literals_of, IsAnswer};
+ghost use Rattle.clause_search.specs.Known.{known_of, IsRefutedAt};
+ghost use Rattle.clause_search.specs.Following.{numbered};
+ghost use Rattle.clause_search.specs.Searches.{IsSearching, IsKnown, AreValued, IsFirstOpen, HasTurned};
+ghost use Rattle.clause_search.specs.Answers.{steps_of};
+
+use crate::answers::{Found, Step};
+use crate::literals::are_false;
+use crate::trail::Trail;
+use crate::watched::Watched;
+use cond_formula::NoMemory;
+use std::alloc::{AllocError, Global};
+
+// How far a search has come.
+#[derive(Drop)]
+struct State {
+    steps: Vec<Step>,
+    // The variables that are taken as false, in ascending order.
+    decisions: Vec<i32>,
+    watched: Watched,
+}
+
+// What a turn comes to.
+#[derive(Drop)]
+enum Turn {
+    Onward,
+    Least(Vec<bool>),
+    Refuted,
+}
+
+/// The least assignment of variables 1 up to `vars` that satisfies the clauses, or a refutation of them.
+///
+/// It takes the first variable whose value isn't forced as false, and so on. Where that leads to a conflict, a step says
+/// that one of these decisions is wrong, and the last of them is taken back.
+pub fn search(alloc: Global, vars: u32, clauses: &[Vec<i32>]) -> Result<Found, NoMemory>
+    requires few { vars < 2147483648 }
+    requires formed { IsTrue (list_all (is_clause vars) (literals_of clauses.now)) }
+    ensures { IfOk result (IsAnswer vars (literals_of clauses.now)) }
+{
+    let mut state = begun(alloc, clauses.len())?;
+    for _ in 0..u64::MAX {
+        match take_turn(alloc, vars, clauses, &mut state)? {
+            Turn::Onward => {}
+            Turn::Least(values) => return Ok(Found::Least(values)),
+            Turn::Refuted => return Ok(Found::Refuted(state.steps)),
+        }
+    }
+    Err(AllocError)
+}
+
+fn begun(alloc: Global, given: usize) -> Result<State, NoMemory>
+    ensures steps { IfOk result (λ state. state.steps.items ≡ []) }
+    ensures decisions { IfOk result (λ state. state.decisions.items ≡ []) }
+{
+    let given = u32::try_from(given).map_err(|_| AllocError)?;
+    let watched = Watched::new(alloc, given)?;
+    Ok(State {
+        steps: Vec::new(alloc),
+        decisions: Vec::new(alloc),
+        watched,
+    })
+}
+
+fn take_turn(
+    alloc: Global,
+    vars: u32,
+    given: &[Vec<i32>],
+    state: &mut State,
+) -> Result<Turn, NoMemory>
+    requires few { vars < 2147483648 }
+    requires formed { IsTrue (list_all (is_clause vars) (literals_of given.now)) }
+    requires searching { IsSearching vars (literals_of given.now) state.old }
+    ensures { IfOk result (HasTurned vars (literals_of given.now) state.new) }
+{
+    let mut trail = Trail::new(alloc, vars, &state.decisions)?;
+    let conflict = trail.propagate(given, &state.steps, state.watched.numbers())?;
+    match conflict {
+        Some(number) => {
+            let turn = learn(alloc, given, state, trail, number)?;
+            Ok(turn)
+        }
+        None => {
+            let turn = settle(alloc, vars, given, state, trail)?;
+            Ok(turn)
+        }
+    }
+}
+
+// Adds the step that one of the decisions is wrong, since they make the clause with this number false, and takes back the
+// last of them.
+fn learn(
+    alloc: Global,
+    given: &[Vec<i32>],
+    state: &mut State,
+    trail: Trail,
+    number: u32,
+) -> Result<Turn, NoMemory>
+    ensures { IfOk result (λ turn. (vars : ℕ)
+        → IsTrue (list_all (is_clause vars) (literals_of given.now))
+        → IsSearching vars (literals_of given.now) state.old
+        → IsKnown vars (literals_of given.now) state.old (known_of trail)
+        → IsRefutedAt (numbered (literals_of given.now) (steps_of state.old.steps.items)) (known_of trail) number
+        → HasTurned vars (literals_of given.now) state.new turn) }
+{
+    let Trail { mut hints, .. } = trail;
+    hints.push(number)?;
+    let clause = Vec::from_slice(alloc, &state.decisions)?;
+    let step = number_at(given.len() + state.steps.len())?;
+    state.steps.push(Step { clause, hints })?;
+    if state.decisions.pop().is_none() {
+        return Ok(Turn::Refuted);
+    }
+    state.watched.take_back(step)?;
+    Ok(Turn::Onward)
+}
+
+// Where no clause was found to be false: the next decision, if there is a variable without value.
+fn settle(
+    alloc: Global,
+    vars: u32,
+    given: &[Vec<i32>],
+    state: &mut State,
+    trail: Trail,
+) -> Result<Turn, NoMemory>
+    requires few { vars < 2147483648 }
+    requires formed { IsTrue (list_all (is_clause vars) (literals_of given.now)) }
+    requires searching { IsSearching vars (literals_of given.now) state.old }
+    requires known { IsKnown vars (literals_of given.now) state.old (known_of trail) }
+    ensures { IfOk result (HasTurned vars (literals_of given.now) state.new) }
+{
+    match first_open(&trail.values) {
+        Some(variable) => {
+            decide(state, variable)?;
+            Ok(Turn::Onward)
+        }
+        None => {
+            let turn = finish(alloc, given, state, trail)?;
+            Ok(turn)
+        }
+    }
+}
+
+// Takes a variable as false.
+fn decide(state: &mut State, variable: usize) -> Result<(), NoMemory>
+    requires { variable < 2147483648 }
+    ensures steps { OnOk result (state.new.steps.items ≡ state.old.steps.items) }
+    ensures decisions { OnOk result
+        (state.new.decisions.items ≡ state.old.decisions.items ++ pos variable ∷ []) }
+{
+    state.decisions.push(variable as i32)?;
+    state.watched.decide()?;
+    Ok(())
+}
+
+// Where all variables have values: they satisfy the clauses, if none of these is false.
+fn finish(
+    alloc: Global,
+    given: &[Vec<i32>],
+    state: &mut State,
+    trail: Trail,
+) -> Result<Turn, NoMemory>
+    ensures { IfOk result (λ turn. (vars : ℕ)
+        → IsTrue (list_all (is_clause vars) (literals_of given.now))
+        → IsSearching vars (literals_of given.now) state.old
+        → IsKnown vars (literals_of given.now) state.old (known_of trail)
+        → AreValued trail.values.items (length trail.values.items)
+        → HasTurned vars (literals_of given.now) state.new turn) }
+{
+    match first_false(&trail.values, given) {
+        Some(index) => {
+            let number = number_at(index)?;
+            let turn = learn(alloc, given, state, trail, number)?;
+            Ok(turn)
+        }
+        None => {
+            let values = values_of(alloc, &trail.values)?;
+            Ok(Turn::Least(values))
+        }
+    }
+}
+
+// The number of a clause, of which there are more than the numbers only where memory is wanting.
+fn number_at(index: usize) -> Result<u32, NoMemory>
+    ensures { IfOk result (λ number. number ≡ index + 1) }
+{
+    if index < u32::MAX as usize {
+        Ok(index as u32 + 1)
+    } else {
+        Err(AllocError)
+    }
+}
+
+// The first variable without value.
+fn first_open(values: &[Option<bool>]) -> Option<usize>
+    ensures { MatchOption result (AreValued values.now (length values.now)) (IsFirstOpen values.now) }
+{
+    for variable in 1..values.len() {
+        if values[variable].is_none() {
+            return Some(variable);
+        }
+    }
+    None
+}
+
+// The place of the first clause whose literals are all false.
+fn first_false(values: &[Option<bool>], clauses: &[Vec<i32>]) -> Option<usize>
+    ensures { MatchOption result (list_any (all_false values.now) (literals_of clauses.now) ≡ false)
+        (λ index. IsSomeAnd (slice_get (literals_of clauses.now) index) (λ clause. all_false values.now clause ≡ true)) }
+{
+    for (index, clause) in clauses.iter().enumerate() {
+        if are_false(values, clause) {
+            return Some(index);
+        }
+    }
+    None
+}
+
+// The values of the variables in the order of their numbers, without that at the place of number 0.
+fn values_of(alloc: Global, values: &[Option<bool>]) -> Result<Vec<bool>, NoMemory>
+    ensures { IfOk result (λ all. all.items ≡ map (λ value. unwrap_or value false) (drop 1 values.now)) }
+{
+    values.iter().skip(1).map(|value| value.unwrap_or(false)).collect(alloc)
+}
+
+#[cfg(test)]
+mod tests {
+    use super::*;
+    use refute_check::Checker;
+    use std::process::Abort;
+    use std::test::Fail;
+
+    fn clauses_of(alloc: Global, clauses: &[&[i32]]) -> Result<Vec<Vec<i32>>, NoMemory> {
+        let mut all = Vec::new(alloc);
+        for clause in clauses {
+            all.push(Vec::from_slice(alloc, clause)?)?;
+        }
+        Ok(all)
+    }
+
+    #[test]
+    fn the_least_assignment_is_found(rt: HostRuntime) -> Result<(), Fail> {
+        let clauses = clauses_of(rt.alloc(), &[&[1, 2], &[-2, 3], &[-1, -3], &[2, 4]])?;
+        match search(rt.alloc(), 4, &clauses)? {
+            Found::Least(values) => {
+                assert_eq!(rt; values.as_slice(), [false, true, true, false].as_slice())
+            }
+            Found::Refuted(_) => assert!(rt; false),
+        }
+        Ok(())
+    }
+}

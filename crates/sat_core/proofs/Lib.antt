@@ -1,0 +1,9 @@
+pub mod BoolLaws
+pub mod ClauseLaws
+pub mod NodeLaws
+pub mod TranslationLaws
+pub mod AcceptanceLaws
+pub mod NumberingLaws
+pub mod ConfigLaws
+pub mod LeastLaws
+pub mod FormulaLaws
