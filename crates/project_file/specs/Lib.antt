@@ -1,0 +1,6 @@
+pub mod Documents
+pub mod Contents
+pub mod Texts
+pub mod Projects
+pub mod Faults
+pub mod View
