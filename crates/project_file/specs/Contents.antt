@@ -42,25 +42,34 @@ pub record HasHeaders (project : List ℕ) (document : Members) (headers : List 
   pub are_strings : AreStrings (get_member (codes "headers") document) headers
   pub good : All (λ name. is_source_name project name ≡ true) headers
 
+-- the table names a file
+pub record HasFile (project : List ℕ) (members : Members) (file : List ℕ) : Type 0 where
+  pub is_string : get_member (codes "file") members ≡ Some (string file)
+  pub good : is_source_name project file ≡ true
+
 -- the table of a unit: the name of its file, perhaps a text, and no other key
 pub record IsUnitTable (project : List ℕ) (members : Members) (u : UnitText) : Type 0 where
   pub keys : AllListed unit_keys members
-  pub file : get_member (codes "file") members ≡ Some (string u.file)
+  pub file : HasFile project members u.file
   pub when : get_member (codes "when") members ≡ option_map string u.when
-  pub good : is_source_name project u.file ≡ true
+
+-- a value that is the table of a unit
+abbrev pub IsUnitValue : List ℕ → Data → UnitText → Type 0
+IsUnitValue project (table members) u = IsUnitTable project members u
+IsUnitValue project _ u = ⊥
 
 -- tables of units, one by one
-abbrev pub AreUnitTables : List ℕ → Items → List UnitText → Type 0
-AreUnitTables project no_items [] = ⊤
-AreUnitTables project (item (table members) values) (u ∷ units) =
-    IsUnitTable project members u × AreUnitTables project values units
-AreUnitTables project _ _ = ⊥
+abbrev pub AreUnitValues : List ℕ → Items → List UnitText → Type 0
+AreUnitValues project no_items [] = ⊤
+AreUnitValues project no_items (u ∷ units) = ⊥
+AreUnitValues project (item value values) [] = ⊥
+AreUnitValues project (item value values) (u ∷ units) = IsUnitValue project value u × AreUnitValues project values units
 
 -- the units are an array of one table or more
 pub record HasUnits (project : List ℕ) (document : Members) (units : List UnitText) : Type 0 where
   pub values : Items
   pub are_values : get_member (codes "unit") document ≡ Some (array values)
-  pub are_tables : AreUnitTables project values units
+  pub are_units : AreUnitValues project values units
   pub some : units ≢ []
 
 -- a document has the listed keys alone, and says this

@@ -4,3 +4,4 @@ pub mod Texts
 pub mod Projects
 pub mod Faults
 pub mod View
+pub mod Checks

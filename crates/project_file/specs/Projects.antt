@@ -39,14 +39,18 @@ AreUnits names (text ∷ texts) [] = ⊥
 AreUnits names (text ∷ texts) (unit ∷ units) =
     (unit.file ≡ text.file) × IsPresence names text.when unit.when × AreUnits names texts units
 
+-- the project of a file with this name that says this
+pub record IsProjectOf (name : List ℕ) (contents : Contents) (project : PlainProject) : Type 0 where
+  pub name_is : project.name ≡ name
+  pub features : project.features ≡ contents.features
+  pub headers : project.headers ≡ contents.headers
+  pub model : IsModelOf contents.features contents.constraints project.model
+  pub units : AreUnits contents.features contents.units project.units
+
 -- The project file of this name has no fault, and says this project.
 pub record IsProject (name bytes : List ℕ) (project : PlainProject) : Type 0 where
   pub contents : Contents
   pub says : SaysContents name bytes contents
   pub lawful : AreFeatureNames contents.features
   pub once : NamesOnce contents
-  pub name_is : project.name ≡ name
-  pub features : project.features ≡ contents.features
-  pub headers : project.headers ≡ contents.headers
-  pub model : IsModelOf contents.features contents.constraints project.model
-  pub units : AreUnits contents.features contents.units project.units
+  pub project_is : IsProjectOf name contents project
