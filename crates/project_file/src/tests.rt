@@ -1,0 +1,78 @@
+//! Small project files.
+use crate::{Project, ProjectError, parse_project};
+use cond_formula::Config;
+use std::alloc::Global;
+use std::process::Abort;
+use std::test::Fail;
+
+const WHOLE: &str =
+    "features = ['A', 'B']\nconstraints = ['A || B']\nheaders = ['a.h']\n[[unit]]\nfile = 'm.c'\n[[unit]]\nfile = 'n.c'\nwhen = 'A'\n";
+
+#[test]
+fn projects_are_read(rt: HostRuntime) -> Result<(), Fail> {
+    let project = parse_project(rt.alloc(), "p.toml", WHOLE.as_bytes())?;
+    assert_eq!(rt; project.name.as_str(), "p.toml");
+    assert_eq!(rt; project.features.len(), 2);
+    assert_eq!(rt; project.headers.len(), 1);
+    assert_eq!(rt; project.units.len(), 2);
+    assert!(rt;
+        project.model.admits(Config { bits: 2 }) && !project.model.admits(Config { bits: 0 })
+    );
+    for unit in &project.units {
+        assert!(rt; unit.when.value(Config { bits: 1 }));
+    }
+    Ok(())
+}
+
+/// What is printed of the fault of a file.
+fn fault(rt: &impl Abort, alloc: Global, text: &str, want: &str) -> Result<(), Fail> {
+    match parse_project(alloc, "p.toml", text.as_bytes()) {
+        Ok(_) => assert!(rt; false, "{text} has no fault"),
+        Err(error) => {
+            let said = error.to_string(alloc)?;
+            assert_eq!(rt; said.as_str(), want, "{text}");
+        }
+    }
+    Ok(())
+}
+
+#[test]
+fn faults_are_found(rt: HostRuntime) -> Result<(), Fail> {
+    let alloc = rt.alloc();
+    fault(&rt, alloc, "features", "not toml")?;
+    fault(&rt, alloc, "", "shape unit")?;
+    fault(
+        &rt,
+        alloc,
+        "zz = 1\nab = 1\n[[unit]]\nfile = 'm.c'\n",
+        "shape ab",
+    )?;
+    fault(&rt, alloc, "unit = 1\nheaders = 1\n", "shape headers")?;
+    fault(&rt, alloc, "[[unit]]\nfile = 'p.toml'\n", "shape unit")?;
+    fault(&rt, alloc, "[[unit]]\nfile = 'm.c'\nx = 1\n", "shape unit")?;
+    fault(
+        &rt,
+        alloc,
+        "features = ['A', 'int']\n[[unit]]\nfile = 'm.c'\n",
+        "feature int",
+    )?;
+    fault(
+        &rt,
+        alloc,
+        "headers = ['m.c']\n[[unit]]\nfile = 'm.c'\n",
+        "duplicate m.c",
+    )?;
+    fault(
+        &rt,
+        alloc,
+        "features = ['A']\nconstraints = ['A', 'Z']\n[[unit]]\nfile = 'm.c'\n",
+        "constraint 2",
+    )?;
+    fault(
+        &rt,
+        alloc,
+        "features = ['A']\nconstraints = ['A']\n[[unit]]\nfile = 'm.c'\n[[unit]]\nfile = 'n.c'\nwhen = '('\n",
+        "constraint 3",
+    )?;
+    Ok(())
+}
