@@ -1,5 +1,5 @@
 -- Tables of units, one by one, and what the names of files are.
-use Rattle.std.proofs.Common.{◌≡◌, ℕ, zero, suc, ◌+◌, ◌<◌, ◌≤◌, codes, Bool, true, false, length, take, get_or, List, [], ◌∷◌, ◌++◌, map, Option, Some, None, String, Global, string_bytes, refl, sym, ap, subst, ◌∙◌, arith}
+use Rattle.std.proofs.Common.{◌≡◌, ◌==◌, ℕ, zero, suc, ◌+◌, ◌<◌, ◌≤◌, codes, Bool, true, false, length, take, get_or, List, [], ◌∷◌, ◌++◌, map, Option, Some, None, String, Vec, Global, string_bytes, refl, sym, ap, subst, ◌∙◌, arith}
 use Rattle.std.specs.List.{All, list_all}
 use Rattle.std.proofs.lemmas.Bool.{both_ways}
 use Rattle.std.proofs.lemmas.List.Elements.{All-map}
@@ -7,6 +7,8 @@ use Rattle.std.proofs.lemmas.List.Sums.{AllPass-from_list_all, list_all-from_All
 use Rattle.toml.specs.Data.{Data, string, integer, float, boolean, datetime, array, table, Items, no_items, item, Members, no_members, member, push_item, as_array, as_table, get_member}
 use Rattle.toml.specs.View.{view, items_view}
 use Rattle.toml.specs.declared.value.Value.{Value}
+use Rattle.project_file.specs.declared.contents.UnitText.{UnitText as CodeUnitText}
+use Rattle.project_file.specs.View.{Finds, unit_texts_view}
 use Rattle.project_file.specs.Contents.{UnitText, is_source_name, HasFeatures, HasHeaders, HasFile, HasUnits, IsUnitTable, IsUnitValue, AreUnitValues}
 use Rattle.project_file.specs.Documents.{strings, AreStrings}
 use Rattle.project_file.proofs.DocumentLemmas.{items_view-more}
@@ -152,3 +154,15 @@ pub no_values : (project : List ℕ) (document : Members) (values : List Value) 
 no_values project document values held empty units has =
     let same = items_one has.values (items_view values) (sym has.are_values ∙ held) in
     has.some (none_units project values units empty (subst (λ vs. AreUnitValues project vs units) same has.are_units))
+
+not_empty : (n : ℕ) → (n == 0) ≡ false → 0 < n
+not_empty zero e = cc
+not_empty (suc n) e = omega arith
+
+-- what was found in the values of units
+pub found_units : (project : List ℕ) (document : Members) (values : List Value) (found : Option (Vec CodeUnitText Global))
+    → get_member (codes "unit") document ≡ Some (array (items_view values)) → (length values == 0) ≡ false
+    → Finds unit_texts_view (AreUnitValues project (items_view values)) found → Finds unit_texts_view (HasUnits project document) found
+found_units project document values None held some none = no_units project document (items_view values) held none
+found_units project document values (Some units) held some are =
+    are_units project document values (unit_texts_view units) held (not_empty (length values) some) are
