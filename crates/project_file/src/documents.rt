@@ -1,10 +1,12 @@
 //! TOML documents: what their keys hold.
-ghost use Rattle.std.specs.Prelude.{◌≡◌, ◌↔◌, IsTrue, Some, codes, IfOk, MatchOption, MatchResult, map, string_bytes, option_map};
-ghost use Rattle.std.specs.List.{list_any};
+ghost use Rattle.std.specs.Prelude.{◌≡◌, not, Some, option_copied, IfOk, MatchOption, MatchResult, map, string_bytes, option_map};
+ghost use Rattle.std.specs.List.{find, list_any};
 ghost use Rattle.std.specs.Str.{bytes_eq};
+ghost use Rattle.std.specs.BTreeMap.{keys, IsOrdered};
+ghost use Rattle.std.specs.String.{string_cmp};
 ghost use Rattle.toml.specs.Data.{string, get_member};
 ghost use Rattle.toml.specs.View.{view, table_view, items_view};
-ghost use Rattle.project_file.specs.Documents.{IsToml, AreStrings, strings, AllListed, IsFirstUnlisted, is_listed};
+ghost use Rattle.project_file.specs.Documents as spec;
 ghost use Rattle.project_file.specs.View.{Finds, Why, strings_view};
 ghost use Rattle.project_file.specs.Checks.{IsTomlFault};
 
@@ -14,7 +16,7 @@ use toml::{Table, Value};
 
 /// The table of a TOML document.
 pub(crate) fn document(alloc: Global, bytes: &[u8]) -> Result<Table, ProjectError>
-    ensures { MatchResult result (λ table. IsToml bytes.now (table_view table)) (Why (IsTomlFault bytes.now) ⊥) }
+    ensures { MatchResult result (λ table. spec.IsToml bytes.now (table_view table)) (Why (IsTomlFault bytes.now) ⊥) }
 {
     match toml::table_from_slice(alloc, bytes) {
         Ok(table) => Ok(table),
@@ -27,30 +29,50 @@ pub(crate) fn document(alloc: Global, bytes: &[u8]) -> Result<Table, ProjectErro
     }
 }
 
+/// Whether the text is among these.
+fn is_among(texts: &[&str], text: &str) -> bool
+    ensures { result ≡ list_any (λ other. bytes_eq text.now other.now) texts.now }
+{
+    texts.iter().any(|other| text == *other)
+}
+
 /// Whether the key is among those that are listed.
 fn is_listed(listed: &[&str], key: &str) -> bool
-    ensures { result ≡ list_any (λ other. bytes_eq key.now other.now) listed.now }
+    ensures { result ≡ spec.is_listed (map (λ other. other.now) listed.now) key.now }
 {
-    listed.iter().any(|other| key == *other)
+    is_among(listed, key)
+}
+
+/// The first key, in the order of the table, that isn't listed.
+fn first_key_unlisted<'a>(table: &'a Table, listed: &[&str]) -> Option<&'a String>
+    ensures found { option_copied result ≡ find (λ key. not (spec.is_listed (map (λ other. other.now) listed.now) (string_bytes key))) (keys table.now) }
+    ensures ordered { IsOrdered string_cmp table.now }
+{
+    table.keys().find(|key| !is_listed(listed, key.as_str()))
 }
 
 /// The first key of the table, in byte order, that isn't listed.
 pub(crate) fn first_unlisted<'a>(table: &'a Table, listed: &[&str]) -> Option<&'a str>
     ensures { MatchOption result
-        (AllListed (map (λ key. key.now) listed.now) (table_view table.now))
-        (λ key. IsFirstUnlisted (map (λ key. key.now) listed.now) (table_view table.now) key.now) }
+        (spec.AllListed (map (λ key. key.now) listed.now) (table_view table.now))
+        (λ key. spec.IsFirstUnlisted (map (λ key. key.now) listed.now) (table_view table.now) key.now) }
 {
-    for (key, _value) in table.iter() {
-        if !is_listed(listed, key.as_str()) {
-            return Some(key.as_str());
-        }
+    match first_key_unlisted(table, listed) {
+        Some(key) => Some(key.as_str()),
+        None => None,
     }
-    None
+}
+
+/// The value that a key holds.
+pub(crate) fn value_at<'a>(table: &'a Table, key: &str) -> Option<&'a Value>
+    ensures { option_map (λ value. view value.now) result ≡ get_member key.now (table_view table.now) }
+{
+    table.get(key)
 }
 
 /// The texts of an array of strings.
 fn strings_in(alloc: Global, values: &[Value]) -> Result<Option<Vec<String>>, AllocError>
-    ensures { IfOk result (Finds strings_view (λ texts. items_view values.now ≡ strings texts)) }
+    ensures { IfOk result (Finds strings_view (λ texts. items_view values.now ≡ spec.strings texts)) }
 {
     let mut texts = Vec::new(alloc);
     for value in values {
@@ -64,7 +86,7 @@ fn strings_in(alloc: Global, values: &[Value]) -> Result<Option<Vec<String>>, Al
 
 /// The texts of a value, if that is an array of strings.
 fn strings_of(alloc: Global, value: &Value) -> Result<Option<Vec<String>>, AllocError>
-    ensures { IfOk result (Finds strings_view (AreStrings (Some (view value.now)))) }
+    ensures { IfOk result (Finds strings_view (spec.AreStrings (Some (view value.now)))) }
 {
     match value.as_array() {
         None => Ok(None),
@@ -81,9 +103,9 @@ pub(crate) fn strings_at(
     table: &Table,
     key: &str,
 ) -> Result<Option<Vec<String>>, AllocError>
-    ensures { IfOk result (Finds strings_view (AreStrings (get_member key.now (table_view table.now)))) }
+    ensures { IfOk result (Finds strings_view (spec.AreStrings (get_member key.now (table_view table.now)))) }
 {
-    match table.get(key) {
+    match value_at(table, key) {
         None => Ok(Some(Vec::new(alloc))),
         Some(value) => {
             let texts = strings_of(alloc, value)?;
@@ -96,7 +118,7 @@ pub(crate) fn strings_at(
 pub(crate) fn string_at<'a>(table: &'a Table, key: &str) -> Option<&'a str>
     ensures { Finds (λ text. text.now) (λ text. get_member key.now (table_view table.now) ≡ Some (string text)) result }
 {
-    match table.get(key) {
+    match value_at(table, key) {
         Some(value) => value.as_str(),
         None => None,
     }
@@ -110,7 +132,7 @@ pub(crate) fn optional_string_at(
 ) -> Result<Option<Option<String>>, AllocError>
     ensures { IfOk result (Finds (option_map string_bytes) (λ text. get_member key.now (table_view table.now) ≡ option_map string text)) }
 {
-    match table.get(key) {
+    match value_at(table, key) {
         None => Ok(Some(None)),
         Some(value) => {
             let text = string_of(alloc, value)?;

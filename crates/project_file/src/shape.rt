@@ -9,7 +9,7 @@ ghost use Rattle.project_file.specs.View.{Finds, Why, strings_view, unit_text_vi
 ghost use Rattle.project_file.specs.Checks.{IsFaultOfShape};
 
 use crate::contents::{Contents, UnitText};
-use crate::documents::{first_unlisted, optional_string_at, string_at, strings_at};
+use crate::documents::{first_unlisted, optional_string_at, string_at, strings_at, value_at};
 use crate::errors::ProjectError;
 use c_names::is_file_name;
 use std::alloc::{AllocError, Global};
@@ -40,10 +40,13 @@ fn are_source_names(project: &str, names: &[String]) -> bool
 fn features_in(alloc: Global, table: &Table) -> Result<Option<Vec<String>>, AllocError>
     ensures { IfOk result (Finds strings_view (spec.HasFeatures (table_view table.now))) }
 {
-    match strings_at(alloc, table, "features")? {
-        Some(features) if features.len() <= MOST_FEATURES => Ok(Some(features)),
-        _ => Ok(None),
+    let Some(features) = strings_at(alloc, table, "features")? else {
+        return Ok(None);
+    };
+    if features.len() > MOST_FEATURES {
+        return Ok(None);
     }
+    Ok(Some(features))
 }
 
 fn headers_in(
@@ -53,23 +56,27 @@ fn headers_in(
 ) -> Result<Option<Vec<String>>, AllocError>
     ensures { IfOk result (Finds strings_view (spec.HasHeaders project.now (table_view table.now))) }
 {
-    match strings_at(alloc, table, "headers")? {
-        Some(headers) if are_source_names(project, &headers) => Ok(Some(headers)),
-        _ => Ok(None),
+    let Some(headers) = strings_at(alloc, table, "headers")? else {
+        return Ok(None);
+    };
+    if !are_source_names(project, &headers) {
+        return Ok(None);
     }
+    Ok(Some(headers))
 }
 
 /// The name of the file of a unit.
 fn file_in(alloc: Global, project: &str, members: &Table) -> Result<Option<String>, AllocError>
     ensures { IfOk result (Finds string_bytes (spec.HasFile project.now (table_view members.now))) }
 {
-    match string_at(members, "file") {
-        Some(file) if is_source_name(project, file) => {
-            let file = String::from_str(alloc, file)?;
-            Ok(Some(file))
-        }
-        _ => Ok(None),
+    let Some(file) = string_at(members, "file") else {
+        return Ok(None);
+    };
+    if !is_source_name(project, file) {
+        return Ok(None);
     }
+    let file = String::from_str(alloc, file)?;
+    Ok(Some(file))
 }
 
 /// The unit that a table says.
@@ -123,7 +130,7 @@ fn units_of(
 fn array_at<'a>(table: &'a Table, key: &str) -> Option<&'a [Value]>
     ensures { Finds (λ values. items_view values.now) (λ items. get_member key.now (table_view table.now) ≡ Some (array items)) result }
 {
-    match table.get(key) {
+    match value_at(table, key) {
         None => None,
         Some(value) => match value.as_array() {
             None => None,
@@ -139,13 +146,14 @@ fn units_in(
 ) -> Result<Option<Vec<UnitText>>, AllocError>
     ensures { IfOk result (Finds unit_texts_view (spec.HasUnits project.now (table_view table.now))) }
 {
-    match array_at(table, "unit") {
-        Some(values) if !values.is_empty() => {
-            let units = units_of(alloc, project, values)?;
-            Ok(units)
-        }
-        _ => Ok(None),
+    let Some(values) = array_at(table, "unit") else {
+        return Ok(None);
+    };
+    if values.is_empty() {
+        return Ok(None);
     }
+    let units = units_of(alloc, project, values)?;
+    Ok(units)
 }
 
 /// The error of a key, or want of memory.

@@ -1,0 +1,5 @@
+mod DocumentLemmas
+mod ShapeLemmas
+mod NameLemmas
+mod TextLemmas
+mod Whys
