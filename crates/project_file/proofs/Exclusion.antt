@@ -1,9 +1,9 @@
 -- A project file that says a project has none of the faults: its contents are determined, and each fault contradicts what they
 -- are.
-use Rattle.std.proofs.Common.{◌≡◌, ◌≢◌, ℕ, zero, suc, ◌+◌, ◌<◌, ◌≤◌, Bool, true, false, length, length-append, get_or, List, [], ◌∷◌, ◌++◌, map, Option, Some, None, String, Global, string_bytes, codes, refl, sym, ap, subst, ◌∙◌, inl, inr, arith}
-use Rattle.std.specs.List.{All, AllByRecursion, AllPairs, Contains}
+use Rattle.std.proofs.Common.{◌≡◌, ℕ, suc, ◌<◌, true, length, length-append, get_or, List, [], ◌∷◌, ◌++◌, map, Option, Some, None, String, Global, string_bytes, codes, refl, sym, ap, subst, ◌∙◌, inl, inr, arith}
+use Rattle.std.specs.List.{All, AllByRecursion, Contains}
 use Rattle.std.specs.Option.{option_map}
-use Rattle.std.proofs.lemmas.List.{get_or_append_left, map-append}
+use Rattle.std.proofs.lemmas.List.{get_or_append_left}
 use Rattle.std.proofs.Math.Seq.{get_or-append_seam}
 use Rattle.std.proofs.lemmas.List.Elements.{All-contains, All-from_recursion}
 use Rattle.std.proofs.lemmas.Bool.{false≢true}
@@ -12,11 +12,11 @@ use Rattle.c_names.specs.Names.{is_new_name}
 use Rattle.cond_formula.specs.Conditions.{Condition}
 use Rattle.feature_model.specs.Trees.{Tree}
 use Rattle.feature_model.specs.Constraints.{AreOver}
-use Rattle.project_file.specs.Documents.{IsToml, keys_of, is_listed, AllListed, IsFirstUnlisted, strings, AreStrings}
-use Rattle.project_file.specs.Contents.{UnitText, Contents, document_keys, HasFeatures, HasConstraints, HasHeaders, IsUnitTable, IsUnitValue, AreUnitValues, HasUnits, IsContents, longest_file, SaysContents, files_of, texts_of}
-use Rattle.project_file.specs.Texts.{Spell, IsConstraintOver, IsLawful, IsPresence, IsModelOf}
-use Rattle.project_file.specs.Projects.{PlainUnit, PlainProject, AllDiffer, AreFeatureNames, NamesOnce, AreUnits, IsProject}
-use Rattle.project_file.specs.Faults.{Fault, size, not_toml, shape, feature, duplicate, constraint, IsShapeFault, unlisted, bad_features, bad_constraints, bad_headers, bad_units, HasShapeFault, IsFirstUnlawful, IsFirstRepeated, IsDuplicate, IsFirstBadText, FirstFault}
+use Rattle.project_file.specs.Documents.{IsToml, keys_of, is_listed, strings, AreStrings}
+use Rattle.project_file.specs.Contents.{UnitText, Contents, document_keys, IsUnitTable, IsUnitValue, AreUnitValues, IsContents, SaysContents, files_of, texts_of}
+use Rattle.project_file.specs.Texts.{Spell, IsLawful, IsPresence, IsModelOf}
+use Rattle.project_file.specs.Projects.{PlainUnit, AllDiffer, AreFeatureNames, NamesOnce, AreUnits}
+use Rattle.project_file.specs.Faults.{size, not_toml, shape, feature, duplicate, constraint, IsShapeFault, unlisted, bad_features, bad_constraints, bad_headers, bad_units, IsFirstUnlawful, IsFirstRepeated, IsDuplicate, IsFirstBadText}
 use Rattle.project_file.specs.Laws.{FaultyFilesSayNoProject}
 
 in_middle : {X : Type 0} (before : List X) (x : X) (after : List X) → Contains (before ++ x ∷ after) x
@@ -184,5 +184,5 @@ exclusion name bytes project (duplicate other) p f =
     no_duplicate p.contents other p.once (subst (λ c. IsDuplicate c other) same f.3)
 exclusion name bytes project (constraint place) p f =
     let same = one_saying name bytes f.0 p.contents f.1 p.says in
-    no_bad_text p.contents.features (texts_of p.contents) place (all_lawful p.contents project.model p.model project.units p.units)
+    no_bad_text p.contents.features (texts_of p.contents) place (all_lawful p.contents project.model p.project_is.model project.units p.project_is.units)
     (subst (λ (c : Contents). IsFirstBadText c.features (texts_of c) place) same f.4)
