@@ -3,3 +3,4 @@ pub mod QuickLemmas
 pub mod WordLemmas
 pub mod Promises
 mod AdmitPromises
+mod AdmitLemmas

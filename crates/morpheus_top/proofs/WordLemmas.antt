@@ -64,3 +64,10 @@ five_items (v ∷ w ∷ x ∷ []) a b c d e low high p q r s t = absurd (omega a
 five_items (v ∷ w ∷ x ∷ y ∷ []) a b c d e low high p q r s t = absurd (omega arith)
 five_items (v ∷ w ∷ x ∷ y ∷ z ∷ []) a b c d e low high p q r s t = cc
 five_items (v ∷ w ∷ x ∷ y ∷ z ∷ u ∷ xs) a b c d e low high p q r s t = absurd (omega arith)
+
+-- the same of two items
+pub two_items : {X : Type 0} (xs : List X) (a b : X) → 2 ≤ length xs → length xs < 3 → a ≡ get_or xs 0 a → b ≡ get_or xs 1 b → xs ≡ a ∷ b ∷ []
+two_items [] a b low high p q = absurd (omega arith)
+two_items (v ∷ []) a b low high p q = absurd (omega arith)
+two_items (v ∷ w ∷ []) a b low high p q = cc
+two_items (v ∷ w ∷ x ∷ xs) a b low high p q = absurd (omega arith)

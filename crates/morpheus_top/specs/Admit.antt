@@ -1,5 +1,5 @@
 -- What `admit` says of a project that stands in a store.
-use Rattle.std.specs.Prelude.{◌≡◌, ℕ, suc, Bool, List, [], ◌∷◌, length, map, if◌then◌else◌, ⊤}
+use Rattle.std.specs.Prelude.{◌≡◌, ℕ, ◌+◌, Bool, List, [], ◌∷◌, length, map, if◌then◌else◌, ⊤}
 use Rattle.std.specs.String.{string_bytes}
 use Rattle.cond_formula.specs.Features.{has}
 use Rattle.sat_core.specs.Models.{IsLeastModel, HasNoModel}
@@ -17,7 +17,7 @@ use Rattle.text_edits.specs.Files.{Lookup}
 abbrev pub names_from : ℕ → (ℕ → Bool) → List (List ℕ) → List (List ℕ)
 names_from number on [] = []
 names_from number on (name ∷ names) =
-    if on number then name ∷ names_from (suc number) on names else names_from (suc number) on names
+    if on number then name ∷ names_from (number + 1) on names else names_from (number + 1) on names
 
 abbrev pub names_on : (ℕ → Bool) → List (List ℕ) → List (List ℕ)
 names_on on names = names_from 0 on names

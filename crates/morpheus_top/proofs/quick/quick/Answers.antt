@@ -1,4 +1,4 @@
-use Rattle.std.proofs.Common.{◌∙◌, ap, sym, Some}
+use Rattle.std.proofs.Common.{◌∙◌, ap, sym, refl, inl, Some}
 use Rattle.morpheus_top.specs.Quick.{asked}
 use Rattle.morpheus_top.proofs.QuickLemmas.{read_and_ran}
 use Rattle.morpheus_top.proofs.quick.quick.Goals as goal
@@ -17,3 +17,9 @@ returns-in-Ok g c = λ words a.
       room_is_told = g.met.S.Store.room_is_told c.args.store.now;
     })
     (λ t. e.bytes t ∙ ap Some (sym c.deref.ensures.value)) c.rename_in.ensures
+
+pub returns-in-Err-Failed : goal.returns-in-Err-Failed
+returns-in-Err-Failed g c = ?
+
+pub returns-in-Err-Memory : goal.returns-in-Err-Memory
+returns-in-Err-Memory g c = ?

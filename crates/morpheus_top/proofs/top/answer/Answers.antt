@@ -4,7 +4,7 @@ use Rattle.morpheus_top.proofs.WordLemmas.{new_name_is_name}
 use Rattle.morpheus_top.proofs.top.answer.Goals as goal
 
 pub quick-requires : goal.quick-requires
-quick-requires g c = new_name_is_name c.in-Some-Quick.renaming.new.now c.in-Some-Quick.ensures.good.new
+quick-requires g c = new_name_is_name c.in-Some-Quick.renaming.new.now ?
 
 pub returns-in-Some-Quick : goal.returns-in-Some-Quick
-returns-in-Some-Quick g c = c.quick.ensures (map string_bytes c.args.words.now) c.in-Some-Quick.ensures
+returns-in-Some-Quick g c = c.quick.ensures (map string_bytes c.args.words.now) ?
