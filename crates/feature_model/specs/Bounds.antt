@@ -12,7 +12,7 @@ abbrev pub IsBelow : ℕ → Formula → Type 0
 IsBelow count formula = VarsBelow count (condition_of formula)
 
 pub record SidesBelow (count : ℕ) (s : Sides) : Type 0 where
-  pub same : IfSome s.same (IsBelow count)
+  pub same : All (IsBelow count) s.same.items
   pub premises : All (IsBelow count) s.premises.items
   pub any : IfSome s.any (IsBelow count)
 

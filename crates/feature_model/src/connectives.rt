@@ -2,12 +2,13 @@
 ghost use Rattle.std.specs.Prelude.{◌≡◌, ℕ, Bool, not, ◌&&◌, ◌||◌, if◌then◌else◌, All, IfOk, IfSome, option_map, map, length, ◌≤◌};
 ghost use Rattle.feature_model.specs.Reading.{joined, implied};
 ghost use Rattle.feature_model.specs.Trees.{feature_number, on_feature};
-ghost use Rattle.feature_model.specs.ReaderView.{value_in};
+ghost use Rattle.feature_model.specs.ReaderView.{value_in, chained};
 ghost use Rattle.feature_model.specs.Bounds.{IsBelow};
 
 use crate::tokens::feature_number;
 use cond_formula::{Formula, NoMemory};
 use std::alloc::Global;
+use std::collections::VecDeque;
 
 /// The formula of a name; false for one that no feature has.
 pub fn named(features: &[String], name: &[u8]) -> Formula
@@ -87,21 +88,25 @@ pub fn joined_by_or(
     }
 }
 
-pub fn joined_by_equals(
+/// A chain of `<->`. It has one value however its operands are grouped, and `same_as` copies both sides, so they are joined
+/// as a balanced tree: its size grows with the square of their number.
+pub fn chained_by_equals(
     alloc: Global,
-    left: Option<Formula>,
-    right: Formula,
+    mut operands: VecDeque<Formula>,
 ) -> Result<Formula, NoMemory>
-    ensures value { (on : ℕ → Bool) → IfOk result (λ f. value_in on f ≡ joined (λ a b. if a then b else not b) (option_map (value_in on) left) (value_in on right)) }
-    ensures below { (count : ℕ) → IfSome left (IsBelow count) → IsBelow count right → IfOk result (IsBelow count) }
+    ensures value { (on : ℕ → Bool) → IfOk result (λ f. value_in on f ≡ chained (map (value_in on) operands.items)) }
+    ensures below { (count : ℕ) → All (IsBelow count) operands.items → IfOk result (IsBelow count) }
 {
-    match left {
-        None => Ok(right),
-        Some(left) => {
-            let formula = same_as(alloc, left, right)?;
-            Ok(formula)
+    while let Some(first) = operands.pop_front() {
+        match operands.pop_front() {
+            None => return Ok(first),
+            Some(second) => {
+                let pair = same_as(alloc, first, second)?;
+                operands.push_back(pair)?;
+            }
         }
     }
+    Ok(Formula::True)
 }
 
 /// Each premise implies what follows it.

@@ -5,20 +5,23 @@ ghost use Rattle.std.specs.declared.alloc.Global.{Global};
 ghost use Rattle.feature_model.specs.Tokens.{Mark};
 ghost use Rattle.feature_model.specs.declared.signs.Sign.TheVariants.{Or, Implies, Equals};
 ghost use Rattle.feature_model.specs.View.{token_view};
-ghost use Rattle.feature_model.specs.ReaderView.{value_in, sides_view, wanting_view, place_view, outer_view, reader_view};
+ghost use Rattle.feature_model.specs.ReaderView.{value_in, chain_view, sides_view, wanting_view, place_view, outer_view, reader_view};
 ghost use Rattle.feature_model.specs.Bounds.{IsBelow, SidesBelow, WantingBelow, HasBelow, PlaceBelow, ReaderBelow};
 
-use crate::connectives::{implied, inverted, joined_by_and, joined_by_equals, joined_by_or, named};
+use crate::connectives::{
+    chained_by_equals, implied, inverted, joined_by_and, joined_by_or, named,
+};
 use crate::signs::Sign;
 use crate::tokens::Token;
 use cond_formula::{Formula, NoMemory};
 use std::alloc::Global;
+use std::collections::VecDeque;
 
 /// Left sides that wait for their right sides.
 #[derive(Drop)]
 pub struct Sides {
-    /// of `<->`
-    pub same: Option<Formula>,
+    /// of `<->`, the first one first
+    pub same: VecDeque<Formula>,
     /// of `->`, the first one first
     pub premises: Vec<Formula>,
     /// of `||`
@@ -54,7 +57,7 @@ fn no_sides(alloc: Global) -> Sides
     ensures below { (count : ℕ) → SidesBelow count result }
 {
     Sides {
-        same: None,
+        same: VecDeque::new(alloc),
         premises: Vec::new(alloc),
         any: None,
     }
@@ -74,19 +77,39 @@ fn at_operand(sides: Sides, outer: Vec<Wanting>) -> Reader
     }
 }
 
-/// All that waits in a group, with its last conjuncts.
-fn whole(alloc: Global, sides: Sides, last: Formula) -> Result<Formula, NoMemory>
-    ensures value { (features : List (String Global)) (on : ℕ → Bool) → IfOk result (λ f. value_in on f ≡ whole (truths features on) (sides_view on sides) (value_in on last)) }
-    ensures below { (count : ℕ) → HasBelow count sides last → IfOk result (IsBelow count) }
+fn with_operand(
+    mut same: VecDeque<Formula>,
+    operand: Formula,
+) -> Result<VecDeque<Formula>, NoMemory>
+    ensures { IfOk result (λ longer. longer.items ≡ same.items ++ operand ∷ []) }
+{
+    same.push_back(operand)?;
+    Ok(same)
+}
+
+/// The operands of `<->` in a group, with the last one.
+fn operands(alloc: Global, sides: Sides, last: Formula) -> Result<VecDeque<Formula>, NoMemory>
+    ensures value { (features : List (String Global)) (on : ℕ → Bool) → IfOk result (λ all. chain_view (map (value_in on) all.items) ≡ Some (whole (truths features on) (sides_view on sides) (value_in on last))) }
+    ensures below { (count : ℕ) → HasBelow count sides last → IfOk result (λ all. All (IsBelow count) all.items) }
 {
     let Sides {
         same,
         premises,
         any,
     } = sides;
-    let last = joined_by_or(alloc, any, last)?;
-    let last = implied(alloc, premises, last)?;
-    let formula = joined_by_equals(alloc, same, last)?;
+    let conclusion = joined_by_or(alloc, any, last)?;
+    let operand = implied(alloc, premises, conclusion)?;
+    let all = with_operand(same, operand)?;
+    Ok(all)
+}
+
+/// All that waits in a group, with its last conjuncts.
+fn whole(alloc: Global, sides: Sides, last: Formula) -> Result<Formula, NoMemory>
+    ensures value { (features : List (String Global)) (on : ℕ → Bool) → IfOk result (λ f. value_in on f ≡ whole (truths features on) (sides_view on sides) (value_in on last)) }
+    ensures below { (count : ℕ) → HasBelow count sides last → IfOk result (IsBelow count) }
+{
+    let all = operands(alloc, sides, last)?;
+    let formula = chained_by_equals(alloc, all)?;
     Ok(formula)
 }
 
@@ -263,10 +286,10 @@ fn behind_equals(
     ensures value { (features : List (String Global)) (on : ℕ → Bool) → IfOk result (λ r. Some (reader_view on r) ≡ behind (truths features on) (sides_view on sides) (value_in on last) (outer_view on outer) (Mark Equals)) }
     ensures below { (count : ℕ) → HasBelow count sides last → All (WantingBelow count) outer.items → IfOk result (ReaderBelow count) }
 {
-    let same = whole(alloc, sides, last)?;
+    let same = operands(alloc, sides, last)?;
     Ok(at_operand(
         Sides {
-            same: Some(same),
+            same,
             premises: Vec::new(alloc),
             any: None,
         },

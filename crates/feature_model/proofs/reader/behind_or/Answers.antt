@@ -1,7 +1,6 @@
 use Rattle.std.proofs.Common.{Bool, Some, map, ap, ◌∙◌}
-use Rattle.std.specs.Prelude.{option_map}
 use Rattle.feature_model.specs.Reading.{wanting, truths}
-use Rattle.feature_model.specs.ReaderView.{value_in, outer_view}
+use Rattle.feature_model.specs.ReaderView.{value_in, chain_view, outer_view}
 use Rattle.feature_model.proofs.reader.behind_or.Goals as goal
 
 pub returns-clause-value : goal.returns-clause-value
@@ -11,7 +10,7 @@ returns-clause-value c = λ features on.
     (λ (x : Bool).
     wanting (truths features on)
     (record {
-      same = option_map (value_in on) c.args.sides.same;
+      same = chain_view (map (value_in on) c.args.sides.same.items);
       premises = map (value_in on) c.args.sides.premises.items;
       any = Some x;
     })
