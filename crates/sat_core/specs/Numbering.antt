@@ -53,13 +53,15 @@ abbrev pub link : Bool → ℕ → ℕ → List (List ℤ)
 link positive v part =
     (signed false v ∷ signed positive part ∷ []) ∷ (signed true v ∷ signed (not positive) part ∷ []) ∷ []
 
--- The clauses that hold where the variable is true exactly where each of the parts is, or, where `positive` is false, false
--- exactly where each of the parts is.
+-- the clause of a conjunction or a disjunction that names all its parts
 abbrev pub long_clause : Bool → ℕ → List ℕ → List ℤ
 long_clause positive v parts = signed positive v ∷ map (signed (not positive)) parts
 
+-- the clauses that name one part each
 abbrev pub short_clauses : Bool → ℕ → List ℕ → List (List ℤ)
 short_clauses positive v parts = map (λ part. signed (not positive) v ∷ signed positive part ∷ []) parts
 
+-- The clauses that hold where the variable is true exactly where each of the parts is, or, where `positive` is false, false
+-- exactly where each of the parts is.
 abbrev pub gate : Bool → ℕ → List ℕ → List (List ℤ)
 gate positive v parts = long_clause positive v parts ∷ short_clauses positive v parts

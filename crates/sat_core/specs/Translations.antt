@@ -21,7 +21,8 @@ pub record SameLiterals (one other : List ℤ) : Type 0 where
 abbrev pub AreAmong : List (List ℤ) → List (List ℤ) → Type 0
 AreAmong others clauses = All (λ clause. Any (SameLiterals clause) others) clauses
 
--- Clauses that define the nodes of the condition, in whatever order, and one that is the root alone, and no other.
+-- Clauses that define the nodes of the condition, and one that is the root alone, and no other; lists of clauses and of
+-- literals are read as sets.
 pub record IsTranslation (features : ℕ) (condition : Condition) (vars : ℕ) (given : List (List ℤ)) : Type 0 where
   -- the condition, with a variable for each node
   pub root : Node

@@ -1,9 +1,12 @@
 //! Formulas and their answers.
 
+ghost use Rattle.std.specs.Prelude.{◌<◌, IfOk};
+ghost use Rattle.cond_formula.specs.Conditions.{condition_of, VarsBelow};
+
 use crate::answers::{Answer, Proof};
 use crate::solver::solve;
 use crate::translation::translate;
-use cond_formula::Formula;
+use cond_formula::{Formula, NoMemory};
 use refute_check::Checker;
 use std::alloc::Global;
 use std::process::Abort;
@@ -43,6 +46,31 @@ fn the_least_model_is_found(rt: HostRuntime) -> Result<(), Fail> {
     let either = Formula::or(alloc, Formula::Var(0), Formula::Var(2))?;
     match solve(alloc, &either, 3) {
         Answer::Sat(config) => assert_eq!(rt; config.bits, 4),
+        Answer::Unsat(_) | Answer::Memory => assert!(rt; false),
+    }
+    Ok(())
+}
+
+// Feature 0 is on, and each feature that is on has the next one on.
+fn chain(alloc: Global, features: u8) -> Result<Formula, NoMemory>
+    requires { 0 < features }
+    ensures { IfOk result (λ f. VarsBelow features (condition_of f)) }
+{
+    let mut all = Formula::Var(0);
+    for next in 1..features {
+        let before = Formula::not(alloc, Formula::Var(next - 1))?;
+        let implication = Formula::or(alloc, before, Formula::Var(next))?;
+        all = Formula::and(alloc, all, implication)?;
+    }
+    Ok(all)
+}
+
+#[test]
+fn all_features_can_be_on(rt: HostRuntime) -> Result<(), Fail> {
+    let alloc = rt.alloc();
+    let formula = chain(alloc, 128)?;
+    match solve(alloc, &formula, 128) {
+        Answer::Sat(config) => assert_eq!(rt; config.bits, u128::MAX),
         Answer::Unsat(_) | Answer::Memory => assert!(rt; false),
     }
     Ok(())
