@@ -11,4 +11,3 @@ pub mod SureSink
 pub mod SureStore
 pub mod Packed
 pub mod PackedFiles
-pub mod Projects
