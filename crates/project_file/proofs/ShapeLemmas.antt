@@ -1,15 +1,15 @@
 -- Tables of units, one by one, and what the names of files are.
-use Rattle.std.proofs.Common.{◌≡◌, ◌==◌, ℕ, zero, suc, ◌+◌, ◌<◌, ◌≤◌, codes, Bool, true, false, length, take, get_or, List, [], ◌∷◌, ◌++◌, map, Option, Some, None, String, Vec, Global, string_bytes, refl, sym, ap, subst, ◌∙◌, arith}
+use Rattle.std.proofs.Common.{◌≡◌, ◌==◌, ℕ, zero, suc, ◌+◌, ◌<◌, ◌≤◌, codes, true, false, length, take, get_or, List, [], ◌∷◌, ◌++◌, map, Option, Some, None, String, Vec, Global, string_bytes, refl, sym, ap, subst, ◌∙◌, arith}
 use Rattle.std.specs.List.{All, list_all}
 use Rattle.std.proofs.lemmas.Bool.{both_ways}
 use Rattle.std.proofs.lemmas.List.Elements.{All-map}
 use Rattle.std.proofs.lemmas.List.Sums.{AllPass-from_list_all, list_all-from_AllPass}
-use Rattle.toml.specs.Data.{Data, string, integer, float, boolean, datetime, array, table, Items, no_items, item, Members, no_members, member, push_item, as_array, as_table, get_member}
+use Rattle.toml.specs.Data.{Data, string, integer, float, boolean, datetime, array, table, Items, no_items, item, Members, push_item, as_array, as_table, get_member}
 use Rattle.toml.specs.View.{view, items_view}
 use Rattle.toml.specs.declared.value.Value.{Value}
 use Rattle.project_file.specs.declared.contents.UnitText.{UnitText as CodeUnitText}
 use Rattle.project_file.specs.View.{Finds, unit_texts_view}
-use Rattle.project_file.specs.Contents.{UnitText, is_source_name, HasFeatures, HasHeaders, HasFile, HasUnits, IsUnitTable, IsUnitValue, AreUnitValues}
+use Rattle.project_file.specs.Contents.{UnitText, is_source_name, HasFeatures, HasHeaders, HasFile, HasUnits, IsUnitValue, AreUnitValues}
 use Rattle.project_file.specs.Documents.{strings, AreStrings}
 use Rattle.project_file.proofs.DocumentLemmas.{items_view-more}
 

@@ -1,21 +1,21 @@
 -- Texts over features: lawful ones, and the first that isn't.
-use Rattle.std.proofs.Common.{◌≡◌, ℕ, zero, suc, ◌+◌, ◌<◌, Bool, true, false, not, ◌&&◌, cond, length, take, drop, get_or, List, [], ◌∷◌, ◌++◌, map, Option, Some, None, String, Global, string_bytes, refl, sym, ap, subst, ◌∙◌, arith, nat_lt}
+use Rattle.std.proofs.Common.{◌≡◌, ℕ, zero, suc, ◌+◌, ◌<◌, Bool, true, not, cond, length, take, drop, get_or, List, [], ◌∷◌, ◌++◌, map, Option, Some, None, String, Global, string_bytes, refl, sym, ap, subst, ◌∙◌, arith}
 use Rattle.std.specs.Option.{is_some}
 use Rattle.std.specs.List.{All, position, position_or_len, prefix_len}
 use Rattle.std.specs.Str.{bytes_eq}
 use Rattle.std.proofs.lemmas.Bool.{both_ways}
 use Rattle.std.proofs.lemmas.List.{map-append, append_assoc}
-use Rattle.std.proofs.lemmas.List.Elements.{All-nil, All-cons, All-append, All-same}
-use Rattle.cond_formula.specs.Conditions.{Condition, value}
+use Rattle.std.proofs.lemmas.List.Elements.{All-nil, All-cons, All-append}
+use Rattle.cond_formula.specs.Conditions.{Condition}
 use Rattle.feature_model.specs.Trees.{Tree, named, inverse, grouped, both, either, implies, equals, feature_number, is_known}
 use Rattle.feature_model.specs.Laws.{TreeIsOne}
-use Rattle.feature_model.specs.Constraints.{IsConstraint, IsOver, Says, Admits, AreOver, NamesAnother, WhyRefused, FirstRefused, WhyNoModel}
+use Rattle.feature_model.specs.Constraints.{IsConstraint, IsOver, AreOver, NamesAnother, WhyRefused, FirstRefused, WhyNoModel}
 use Rattle.feature_model.specs.declared.errors.ModelError.{ModelError}
 use Rattle.feature_model.specs.declared.errors.ModelError.TheVariants.{Syntax, UnknownFeature, TooMany, Memory}
 use Rattle.project_file.specs.Contents.{UnitText, Contents, texts_of}
-use Rattle.project_file.specs.Texts.{IsConstraintOver, IsLawful, HasValueOf, IsPresence, IsModelOf}
+use Rattle.project_file.specs.Texts.{IsConstraintOver, IsLawful, IsPresence, IsModelOf}
 use Rattle.project_file.specs.Projects.{PlainUnit, AreUnits}
-use Rattle.project_file.specs.Faults.{Fault, size, not_toml, shape, feature, duplicate, constraint, IsFirstBadText}
+use Rattle.project_file.specs.Faults.{Fault, size, not_toml, shape, feature, duplicate, constraint}
 use Rattle.project_file.specs.View.{Why}
 use Rattle.project_file.specs.declared.errors.ProjectError.{ProjectError}
 use Rattle.project_file.proofs.Whys.{Why-weaker}

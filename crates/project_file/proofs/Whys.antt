@@ -1,5 +1,5 @@
 -- Why a project isn't had, by weaker causes.
-use Rattle.std.proofs.Common.{◌≡◌, List, ℕ, sym, subst}
+use Rattle.std.proofs.Common.{◌≡◌, sym, subst}
 use Rattle.project_file.specs.declared.errors.ProjectError.{ProjectError}
 use Rattle.project_file.specs.declared.errors.ProjectError.TheVariants.{NotToml, Shape, Feature, Constraint, Duplicate, Size, Read, Memory}
 use Rattle.project_file.specs.Faults.{Fault}

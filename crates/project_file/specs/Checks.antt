@@ -9,7 +9,7 @@ use Rattle.project_file.specs.Documents.{IsToml}
 use Rattle.project_file.specs.Contents.{UnitText, Contents}
 use Rattle.project_file.specs.Projects.{PlainUnit, AreFeatureNames}
 use Rattle.project_file.specs.Texts.{IsLawful, IsPresence}
-use Rattle.project_file.specs.Faults.{Fault, size, not_toml, shape, feature, duplicate, constraint, IsShapeFault, IsFirstUnlawful, IsDuplicate, IsFirstBadText}
+use Rattle.project_file.specs.Faults.{Fault, not_toml, shape, feature, duplicate, constraint, IsShapeFault, IsFirstUnlawful, IsDuplicate, IsFirstBadText}
 
 -- of the bytes: that they are no TOML
 abbrev pub IsTomlFault : List ℕ → Fault → Type 0

@@ -1,5 +1,5 @@
 -- The faults of project files, in the order in which they are looked for.
-use Rattle.std.specs.Prelude.{◌≡◌, ℕ, suc, ◌<◌, ◌≤◌, false, List, [], ◌∷◌, ◌++◌, length, All, Contains, Option, Some, codes, ◌⊎◌}
+use Rattle.std.specs.Prelude.{◌≡◌, ℕ, suc, ◌<◌, ◌≤◌, false, List, ◌∷◌, ◌++◌, length, All, Contains, Option, Some, codes, ◌⊎◌}
 use Rattle.c_names.specs.Names.{is_new_name}
 use Rattle.toml.specs.Data.{Members}
 use Rattle.project_file.specs.Documents.{IsToml, AllListed, IsFirstUnlisted}

@@ -1,5 +1,5 @@
 -- What constraints and conditions of units mean, over the names of the features.
-use Rattle.std.specs.Prelude.{◌≡◌, ℕ, Bool, true, List, [], ◌∷◌, map, length, Option, Some, None, String, string_bytes, ⊤}
+use Rattle.std.specs.Prelude.{◌≡◌, ℕ, Bool, true, List, map, Option, Some, None, String, string_bytes, ⊤}
 use Rattle.std.specs.declared.alloc.Global.{Global}
 use Rattle.cond_formula.specs.Conditions.{Condition, value}
 use Rattle.feature_model.specs.Trees.{Tree}

@@ -1,5 +1,5 @@
 -- This crate's types as definitions see them.
-use Rattle.std.specs.Prelude.{◌≡◌, ℕ, List, map, Option, Some, None, option_map, String, Vec, string_bytes, ⊤}
+use Rattle.std.specs.Prelude.{ℕ, List, map, Option, Some, None, option_map, String, Vec, string_bytes, ⊤}
 use Rattle.std.specs.declared.alloc.Global.{Global}
 use Rattle.cond_formula.specs.Conditions.{condition_of}
 use Rattle.feature_model.specs.ModelView.{admitted}

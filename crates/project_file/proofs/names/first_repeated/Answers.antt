@@ -1,5 +1,5 @@
 use Rattle.std.proofs.Common.{ℕ, List, [], Bor, get_or}
-use Rattle.project_file.proofs.NameLemmas.{str_cmp, first_repeated, names_more, get_or-self, held, not_held}
+use Rattle.project_file.proofs.NameLemmas.{first_repeated, names_more, get_or-self, held, not_held}
 use Rattle.project_file.proofs.names.first_repeated.Goals as goal
 
 pub returns-then-not-branch : goal.returns-then-not-branch
