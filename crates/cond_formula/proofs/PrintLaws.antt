@@ -1,5 +1,5 @@
 -- Between the steps of printing and the expression that is printed.
-use Rattle.std.proofs.Common.{◌≡◌, ◌≢◌, ℕ, zero, suc, ◌<◌, Bool, true, false, ◌&&◌, ◌||◌, not, List, [], ◌∷◌, ◌++◌, map, length, get_or, string_bytes, codes, All, Contains, eqb, nat_eq, refl, sym, ap, ◌∙◌, arith, String}
+use Rattle.std.proofs.Common.{◌≡◌, ◌≢◌, ℕ, zero, suc, ◌<◌, Bool, IsTrue, true, false, ◌&&◌, ◌||◌, not, List, [], ◌∷◌, ◌++◌, map, length, get_or, string_bytes, codes, All, Contains, eqb, nat_eq, refl, sym, ap, ◌∙◌, arith, String}
 use Rattle.std.proofs.Math.Numerals.{add-one}
 use Rattle.std.proofs.Math.Bool.{and_assoc, or_assoc, and-true, or-false}
 use Rattle.std.proofs.lemmas.List.{append_assoc, get_or-map, append-nil, get_or_default, length-map}
@@ -8,7 +8,7 @@ use Rattle.std.proofs.lemmas.Bool.{false≢true}
 use Rattle.std.proofs.lemmas.List.Folds.{list_all-append}
 use Rattle.std.specs.Cmp.Derive.{both_true}
 use Rattle.std.proofs.lemmas.Bool.Decides.{nat_tests}
-use Rattle.std.specs.List.{list_all, starts_with}
+use Rattle.std.specs.List.{list_all, list_any, starts_with}
 use Rattle.std.specs.declared.alloc.Global.{Global}
 use Rattle.std.specs.Prelude.{Vec, Box}
 use Rattle.cond_formula.specs.declared.formulas.Formula.{Formula, Var, Not, And, Or}
@@ -16,7 +16,8 @@ use Rattle.cond_formula.specs.declared.print.Operator.{Operator}
 use Rattle.cond_formula.specs.declared.print.Operator.TheVariants as operators
 use Rattle.cond_formula.specs.Conditions.{Condition, Conditions, Always, Never, Feature, Inverse, All_of, Any_of, none, more, condition_of, conditions_of, VarsBelow, AllVarsBelow, value, all_true, any_true}
 use Rattle.cond_formula.specs.ConditionLaws.{condition_of-Var, condition_of-Not, condition_of-And, condition_of-Or}
-use Rattle.cond_formula.specs.FeatureNames.{is_identifier_start, is_identifier_part, is_identifier, is_among, keywords, taken_names, is_feature_name, IsFeatureName}
+use Rattle.std.specs.Str.{bytes_eq}
+use Rattle.c_names.specs.Names.{is_nondigit, is_word_byte, is_identifier, is_keyword, taken_names, is_new_name}
 use Rattle.cond_formula.specs.Expressions.{Disjunction, Conjunction, Test, conjunction, or, test, and, zero_constant, one_constant, is_defined, inverse, parenthesized, disjunction_text, conjunction_text, test_text, disjunction_holds, conjunction_holds, test_holds, DisjunctionNames, ConjunctionNames, TestNames, name_of, IsSpelling}
 use Rattle.cond_formula.specs.Printed.{printed, printed_test, printed_all, printed_any, with_all, with_any, parts_text, joined_text}
 
@@ -188,28 +189,27 @@ pub right_true : (a b : Bool) → (a && b) ≡ true → b ≡ true
 right_true true b is = is
 right_true false b is = absurd (false≢true is)
 
-part_line : (byte : ℕ) → is_identifier_part byte ≡ true → not (eqb byte 10) ≡ true
+part_line : (byte : ℕ) → is_word_byte byte ≡ true → not (eqb byte 10) ≡ true
 part_line byte is = grind (arith, nat_tests)
 
-parts_line : (name : List ℕ) → list_all is_identifier_part name ≡ true → one_line name ≡ true
+parts_line : (name : List ℕ) → list_all is_word_byte name ≡ true → one_line name ≡ true
 parts_line [] is = refl
 parts_line (byte ∷ rest) is =
-    both_true (part_line byte (left_true (is_identifier_part byte) (list_all is_identifier_part rest) is)) (parts_line rest (right_true (is_identifier_part byte) (list_all is_identifier_part rest) is))
+    both_true (part_line byte (left_true (is_word_byte byte) (list_all is_word_byte rest) is)) (parts_line rest (right_true (is_word_byte byte) (list_all is_word_byte rest) is))
 
-identifier_parts : (name : List ℕ) → is_identifier name ≡ true → list_all is_identifier_part name ≡ true
+identifier_parts : (name : List ℕ) → is_identifier name ≡ true → list_all is_word_byte name ≡ true
 identifier_parts [] is = refl
 identifier_parts (first ∷ rest) is =
-    let start = left_true (is_identifier_start first) (list_all is_identifier_part rest) is in
-    let part : is_identifier_part first ≡ true = rw start refl in
-    both_true part (right_true (is_identifier_start first) (list_all is_identifier_part rest) is)
+    let start = left_true (is_nondigit first) (list_all is_word_byte rest) is in
+    let part : is_word_byte first ≡ true = rw start refl in
+    both_true part (right_true (is_nondigit first) (list_all is_word_byte rest) is)
 
-pub feature_name_parts : (name : List ℕ) → IsFeatureName name → list_all is_identifier_part name ≡ true
-unfolding IsFeatureName is_feature_name
-feature_name_parts name is =
-    identifier_parts name (left_true _ _ (left_true _ _ (left_true (is_identifier name && not (is_among keywords name) && not (is_among taken_names name)) (not (starts_with nat_eq name (codes "__"))) is)))
+pub new_name_bytes : (name : List ℕ) → is_new_name name ≡ true → list_all is_word_byte name ≡ true
+new_name_bytes name is =
+    identifier_parts name (left_true _ _ (left_true _ _ (left_true (is_identifier name && not (is_keyword name) && not (list_any (bytes_eq name) taken_names)) (not (starts_with nat_eq name (codes "__"))) is)))
 
-pub feature_name_line : (name : List ℕ) → IsFeatureName name → one_line name ≡ true
-feature_name_line name is = parts_line name (feature_name_parts name is)
+pub new_name_line : (name : List ℕ) → is_new_name name ≡ true → one_line name ≡ true
+new_name_line name is = parts_line name (new_name_bytes name is)
 
 module _ (names : List (List ℕ)) (lawful : (name : List ℕ) → Contains names name → one_line name ≡ true) where
   mutual
@@ -236,12 +236,12 @@ All-from_line (byte ∷ rest) is =
     let other : byte ≢ 10 = λ same. false≢true (rw same at (left_true (not (eqb byte 10)) (one_line rest) is)) in
     All-cons (λ b. b ≢ 10) byte rest other (All-from_line rest (right_true (not (eqb byte 10)) (one_line rest) is))
 
-pub lawful_line : (strings : List (String Global)) → All (λ (string : String Global). IsFeatureName (string_bytes string)) strings → (name : List ℕ) → Contains (map string_bytes strings) name → one_line name ≡ true
+pub lawful_line : (strings : List (String Global)) → All (λ (string : String Global). IsTrue (is_new_name (string_bytes string))) strings → (name : List ℕ) → Contains (map string_bytes strings) name → one_line name ≡ true
 lawful_line [] lawful name (k, within, at) = absurd (omega arith)
 lawful_line (string ∷ rest) lawful name (zero, within, at) =
-    rw (← at) (feature_name_line (string_bytes string) (All-head (λ (string : String Global). IsFeatureName (string_bytes string)) string rest lawful))
+    rw (← at) (new_name_line (string_bytes string) (All-head (λ (string : String Global). IsTrue (is_new_name (string_bytes string))) string rest lawful))
 lawful_line (string ∷ rest) lawful name (suc k, within, at) =
-    lawful_line rest (All-tail (λ (string : String Global). IsFeatureName (string_bytes string)) string rest lawful) name (k, omega arith, at)
+    lawful_line rest (All-tail (λ (string : String Global). IsTrue (is_new_name (string_bytes string))) string rest lawful) name (k, omega arith, at)
 
 -- the printed expression of a condition over lawful names
 module _ (strings : List (String Global)) (condition : Condition) (numbered : VarsBelow (length strings) condition) where
@@ -259,6 +259,6 @@ module _ (strings : List (String Global)) (condition : Condition) (numbered : Va
     holds = λ on. printed-holds names on condition;
   }
 
-  pub printed_line : All (λ (string : String Global). IsFeatureName (string_bytes string)) strings → (text : List ℕ) → text ≡ disjunction_text (printed names condition) → All (λ byte. byte ≢ 10) text
+  pub printed_line : All (λ (string : String Global). IsTrue (is_new_name (string_bytes string))) strings → (text : List ℕ) → text ≡ disjunction_text (printed names condition) → All (λ byte. byte ≢ 10) text
   printed_line lawful text is =
       All-from_line text (rw is (disjunction_line names (lawful_line strings lawful) (printed names condition) has_names))

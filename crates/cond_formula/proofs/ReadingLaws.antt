@@ -1,14 +1,14 @@
 -- A text is read in one way: a machine that takes it byte by byte comes to the value of each expression that it spells.
-use Rattle.std.proofs.Common.{◌≡◌, ℕ, Bool, true, false, not, ◌&&◌, ◌||◌, cond, eqb, List, [], ◌∷◌, ◌++◌, codes, Contains, All, refl, sym, ap, ◌∙◌, arith}
+use Rattle.std.proofs.Common.{◌≡◌, ℕ, Bool, IsTrue, true, false, not, ◌&&◌, ◌||◌, cond, eqb, List, [], ◌∷◌, ◌++◌, codes, Contains, All, refl, sym, ap, ◌∙◌, arith}
 use Rattle.std.proofs.Math.Bool.{and_assoc, or_assoc, not-not}
 use Rattle.std.proofs.lemmas.List.{append_assoc, append-nil}
 use Rattle.std.specs.List.{list_all}
 use Rattle.std.proofs.lemmas.Bool.{not-true}
 use Rattle.std.proofs.lemmas.Bool.Decides.{nat_tests}
 use Rattle.std.specs.Cmp.Derive.{both_true}
-use Rattle.cond_formula.specs.FeatureNames.{is_identifier_part, IsFeatureName}
+use Rattle.c_names.specs.Names.{is_word_byte, is_new_name}
 use Rattle.cond_formula.specs.Readings.{OneReading}
-use Rattle.cond_formula.proofs.PrintLaws.{left_true, right_true, feature_name_parts}
+use Rattle.cond_formula.proofs.PrintLaws.{left_true, right_true, new_name_bytes}
 use Rattle.cond_formula.specs.Expressions.{Disjunction, Conjunction, Test, conjunction, or, test, and, zero_constant, one_constant, is_defined, inverse, parenthesized, disjunction_text, conjunction_text, test_text, disjunction_holds, conjunction_holds, test_holds, DisjunctionNames, ConjunctionNames, TestNames}
 
 -- inside one pair of parentheses: whether a conjunction before holds, whether the tests so far do, and whether the next one
@@ -136,16 +136,16 @@ module _ (on : List ℕ → Bool) where
         ∙ ap (λ (end : State). end.inner.earlier || end.inner.tests) (read_disjunction d false [] [] has)
         ∙ level_value d false
 
-part_plain : (byte : ℕ) → is_identifier_part byte ≡ true → not (eqb byte 41) ≡ true
+part_plain : (byte : ℕ) → is_word_byte byte ≡ true → not (eqb byte 41) ≡ true
 part_plain byte is = grind (arith, nat_tests)
 
-parts_plain : (name : List ℕ) → list_all is_identifier_part name ≡ true → plain_name (λ _. true) name ≡ true
+parts_plain : (name : List ℕ) → list_all is_word_byte name ≡ true → plain_name (λ _. true) name ≡ true
 parts_plain [] is = refl
 parts_plain (byte ∷ rest) is =
-    both_true (part_plain byte (left_true (is_identifier_part byte) (list_all is_identifier_part rest) is)) (parts_plain rest (right_true (is_identifier_part byte) (list_all is_identifier_part rest) is))
+    both_true (part_plain byte (left_true (is_word_byte byte) (list_all is_word_byte rest) is)) (parts_plain rest (right_true (is_word_byte byte) (list_all is_word_byte rest) is))
 
-lawful_plain : (names : List (List ℕ)) → All IsFeatureName names → (name : List ℕ) → Contains names name → list_all (λ byte. not (eqb byte 41)) name ≡ true
-lawful_plain names lawful name (k, within, at) = parts_plain name (feature_name_parts name (rw at at (lawful k name within)))
+lawful_plain : (names : List (List ℕ)) → All (λ (name : List ℕ). IsTrue (is_new_name name)) names → (name : List ℕ) → Contains names name → list_all (λ byte. not (eqb byte 41)) name ≡ true
+lawful_plain names lawful name (k, within, at) = parts_plain name (new_name_bytes name (rw at at (lawful k name within)))
 
 pub one_reading : OneReading
 one_reading names lawful d e in_d in_e same on =

@@ -1,6 +1,5 @@
 pub mod Features
 pub mod FeatureBits
-pub mod FeatureNames
 pub mod Conditions
 pub mod ConditionLaws
 pub mod Expressions

@@ -1,9 +1,9 @@
 //! Formulas as the controlling expressions of `#if`.
 
-ghost use Rattle.std.specs.Prelude.{◌≡◌, ◌≢◌, ◌++◌, codes, length, map, string_bytes, All, IfOk, OnOk};
+ghost use Rattle.std.specs.Prelude.{◌≡◌, ◌≢◌, ◌++◌, codes, length, map, string_bytes, All, IfOk, IsTrue, OnOk};
+ghost use Rattle.c_names.specs.Names.{is_new_name};
 ghost use Rattle.cond_formula.specs.Conditions.{condition_of, conditions_of, VarsBelow, AllVarsBelow};
 ghost use Rattle.cond_formula.specs.Expressions.{IsSpelling, is_defined, disjunction_text, test_text};
-ghost use Rattle.cond_formula.specs.FeatureNames.{IsFeatureName};
 ghost use Rattle.cond_formula.specs.Printed.{operator_text, empty_text, printed, printed_test, parts_text, joined_text, separator_text};
 
 use crate::NoMemory;
@@ -15,7 +15,7 @@ impl Formula {
     /// directive's name and the newline. Feature number i is written as `defined(NAME)` with the i-th name.
     pub fn print_if(&self, alloc: Global, names: &[String]) -> Result<Vec<u8>, NoMemory>
         requires numbered { VarsBelow (length names.now) (condition_of self.now) }
-        requires lawful { All (λ name. IsFeatureName (string_bytes name)) names.now }
+        requires lawful { All (λ name. IsTrue (is_new_name (string_bytes name))) names.now }
         ensures spelling { IfOk result
             (λ text. IsSpelling (map string_bytes names.now) (condition_of self.now) text.items) }
         ensures one_line { IfOk result (λ text. All (λ byte. byte ≢ 10) text.items) }

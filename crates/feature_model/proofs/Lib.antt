@@ -7,3 +7,4 @@ pub mod Uniqueness
 pub mod ModelLemmas
 pub mod ReaderLemmas
 pub mod Refusals
+pub mod Chains

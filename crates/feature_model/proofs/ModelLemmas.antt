@@ -12,7 +12,7 @@ use Rattle.feature_model.specs.Constraints.{IsOver, Says, WhyRefused, AreOver, A
 
 module _ (features : List (String Global)) where
   pub admits_all : Admits features [] Always
-  admits_all = record { trees = []; over = tt; holds = λ on. refl }
+  admits_all = record { trees = []; over = tt; holds = λ on. refl; below = tt }
 
   over_more :
       (texts : List (String Global)) (trees : List Tree) (text : String Global) (tree : Tree)
@@ -47,6 +47,7 @@ module _ (features : List (String Global)) where
             ∙ ap (λ x. x && value on b) (p.holds on)
             ∙ ap (λ x. list_all (holds features on) p.trees && x) (q.holds on)
             ∙ sym (all_more (holds features on) p.trees q.tree);
+        below = c.below (length features) p.below q.below;
       }
 
   pub admits_next :

@@ -41,6 +41,7 @@ module _ (features : List (String Global)) where
         tree = s.tree;
         over = record { constraint = constraint_read text tokens s.tree e h s.spelled; known = s.known };
         holds = s.holds;
+        below = s.below;
       }
 
   pub why_text :

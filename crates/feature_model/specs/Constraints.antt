@@ -2,7 +2,7 @@
 use Rattle.std.specs.Prelude.{◌≡◌, ℕ, suc, ◌<◌, ◌≤◌, Bool, true, false, List, [], ◌∷◌, ◌++◌, length, String, string_bytes, ⊤}
 use Rattle.std.specs.List.{list_all}
 use Rattle.std.specs.declared.alloc.Global.{Global}
-use Rattle.cond_formula.specs.Conditions.{Condition, value}
+use Rattle.cond_formula.specs.Conditions.{Condition, VarsBelow, value}
 use Rattle.feature_model.specs.declared.errors.ModelError.{ModelError}
 use Rattle.feature_model.specs.declared.errors.ModelError.TheVariants.{Syntax, UnknownFeature, TooMany, Memory}
 use Rattle.feature_model.specs.Tokens.{Token, IsWriting}
@@ -20,11 +20,12 @@ pub record IsOver (features : List (String Global)) (text : List ℕ) (tree : Tr
   pub constraint : IsConstraint text tree
   pub known : is_known features tree ≡ true
 
--- the condition has the value of the text in every configuration
+-- The condition has the value of the text in every configuration, and names none but these features.
 pub record Says (features : List (String Global)) (text : List ℕ) (condition : Condition) : Type 0 where
   pub tree : Tree
   pub over : IsOver features text tree
   pub holds : (on : ℕ → Bool) → value on condition ≡ holds features on tree
+  pub below : VarsBelow (length features) condition
 
 -- a constraint that names no feature with one of its names
 pub record NamesAnother (features : List (String Global)) (text : List ℕ) : Type 0 where
@@ -46,11 +47,13 @@ AreOver features [] (tree ∷ trees) = ⊥
 AreOver features (text ∷ texts) [] = ⊥
 AreOver features (text ∷ texts) (tree ∷ trees) = IsOver features (string_bytes text) tree × AreOver features texts trees
 
--- The condition is true in the configurations in which each of the texts is, and in no other.
+-- The condition is true in the configurations in which each of the texts is, and in no other. It names none but these
+-- features.
 pub record Admits (features texts : List (String Global)) (condition : Condition) : Type 0 where
   pub trees : List Tree
   pub over : AreOver features texts trees
   pub holds : (on : ℕ → Bool) → value on condition ≡ list_all (holds features on) trees
+  pub below : VarsBelow (length features) condition
 
 -- the first text that is refused, and why
 pub record FirstRefused (features texts : List (String Global)) (error : ModelError) : Type 0 where
@@ -82,6 +85,7 @@ pub record SaysTokens (features : List (String Global)) (tokens : List Token) (c
   pub spelled : Spells tokens tree
   pub known : is_known features tree ≡ true
   pub holds : (on : ℕ → Bool) → value on condition ≡ holds features on tree
+  pub below : VarsBelow (length features) condition
 
 abbrev pub WhyTokens : List (String Global) → List Token → ℕ → ModelError → Type 0
 WhyTokens features tokens index (Syntax at) = (at ≡ index) × ((tree : Tree) → Spells tokens tree → ⊥)

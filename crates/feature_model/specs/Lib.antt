@@ -4,6 +4,7 @@ pub mod Trees
 pub mod Reading
 pub mod View
 pub mod ReaderView
+pub mod Bounds
 pub mod Constraints
 pub mod Laws
 pub mod ModelView

@@ -1,5 +1,5 @@
 -- What a reader holds where `on` says which features are on.
-use Rattle.std.specs.Prelude.{ℕ, Bool, List, map, reverse, option_map, Vec}
+use Rattle.std.specs.Prelude.{ℕ, Bool, true, not, List, [], ◌∷◌, map, reverse, Option, Some, None, option_map, if◌then◌else◌, Vec}
 use Rattle.std.specs.declared.alloc.Global.{Global}
 use Rattle.cond_formula.specs.declared.formulas.Formula.{Formula}
 use Rattle.cond_formula.specs.Conditions.{value, condition_of}
@@ -13,9 +13,18 @@ use Rattle.feature_model.specs.declared.reader.Reader.{Reader}
 abbrev pub value_in : (ℕ → Bool) → Formula → Bool
 value_in on formula = value on (condition_of formula)
 
+-- a chain of `<->`, which has one value however its operands are grouped
+abbrev pub chained : List Bool → Bool
+chained [] = true
+chained (operand ∷ rest) = if operand then chained rest else not (chained rest)
+
+abbrev pub chain_view : List Bool → Option Bool
+chain_view [] = None
+chain_view (operand ∷ rest) = Some (chained (operand ∷ rest))
+
 abbrev pub sides_view : (ℕ → Bool) → Sides → plain.Sides Bool
 sides_view on s = record {
-  same = option_map (value_in on) s.same;
+  same = chain_view (map (value_in on) s.same.items);
   premises = map (value_in on) s.premises.items;
   any = option_map (value_in on) s.any;
 }

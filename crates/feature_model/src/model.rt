@@ -56,7 +56,8 @@ impl Model {
         Ok(Model { formula })
     }
 
-    /// The formula that is true where the model admits a configuration.
+    /// The formula that is true where the model admits a configuration. It names none but the features of `parse`
+    /// (`Admits`, in its field `below`).
     pub fn formula(&self) -> &Formula
         ensures { condition_of result.now ≡ admitted self.now }
     {

@@ -1,23 +1,27 @@
 //! The reader of a constraint's tokens. Its open groups stand on a stack of its own.
-ghost use Rattle.std.specs.Prelude.{◌≡◌, ◌++◌, if◌then◌else◌, None, ℕ, Bool, List, String, Some, [], ◌∷◌, IfOk, option_map, map, length, ◌≤◌, MatchOption};
+ghost use Rattle.std.specs.Prelude.{◌≡◌, ◌++◌, if◌then◌else◌, None, ℕ, Bool, List, String, Some, [], ◌∷◌, All, IfOk, IfSome, option_map, map, length, ◌≤◌, MatchOption};
 ghost use Rattle.feature_model.specs.Reading.{at_start, at_sides, no_sides, truths, whole, placed, closed, wanted, behind, next, finished, read};
 ghost use Rattle.std.specs.declared.alloc.Global.{Global};
 ghost use Rattle.feature_model.specs.Tokens.{Mark};
 ghost use Rattle.feature_model.specs.declared.signs.Sign.TheVariants.{Or, Implies, Equals};
 ghost use Rattle.feature_model.specs.View.{token_view};
-ghost use Rattle.feature_model.specs.ReaderView.{value_in, sides_view, wanting_view, place_view, outer_view, reader_view};
+ghost use Rattle.feature_model.specs.ReaderView.{value_in, chain_view, sides_view, wanting_view, place_view, outer_view, reader_view};
+ghost use Rattle.feature_model.specs.Bounds.{IsBelow, SidesBelow, WantingBelow, HasBelow, PlaceBelow, ReaderBelow};
 
-use crate::connectives::{implied, inverted, joined_by_and, joined_by_equals, joined_by_or, named};
+use crate::connectives::{
+    chained_by_equals, implied, inverted, joined_by_and, joined_by_or, named,
+};
 use crate::signs::Sign;
 use crate::tokens::Token;
 use cond_formula::{Formula, NoMemory};
 use std::alloc::Global;
+use std::collections::VecDeque;
 
 /// Left sides that wait for their right sides.
 #[derive(Drop)]
 pub struct Sides {
-    /// of `<->`
-    pub same: Option<Formula>,
+    /// of `<->`, the first one first
+    pub same: VecDeque<Formula>,
     /// of `->`, the first one first
     pub premises: Vec<Formula>,
     /// of `||`
@@ -49,17 +53,19 @@ pub struct Reader {
 }
 
 fn no_sides(alloc: Global) -> Sides
-    ensures { (on : ℕ → Bool) → sides_view on result ≡ no_sides }
+    ensures empty { (on : ℕ → Bool) → sides_view on result ≡ no_sides }
+    ensures below { (count : ℕ) → SidesBelow count result }
 {
     Sides {
-        same: None,
+        same: VecDeque::new(alloc),
         premises: Vec::new(alloc),
         any: None,
     }
 }
 
 fn at_operand(sides: Sides, outer: Vec<Wanting>) -> Reader
-    ensures { (features : List (String Global)) (on : ℕ → Bool) → reader_view on result ≡ at_sides (truths features on) (sides_view on sides) (outer_view on outer) }
+    ensures value { (features : List (String Global)) (on : ℕ → Bool) → reader_view on result ≡ at_sides (truths features on) (sides_view on sides) (outer_view on outer) }
+    ensures below { (count : ℕ) → SidesBelow count sides → All (WantingBelow count) outer.items → ReaderBelow count result }
 {
     Reader {
         place: Place::Wants(Wanting {
@@ -71,18 +77,39 @@ fn at_operand(sides: Sides, outer: Vec<Wanting>) -> Reader
     }
 }
 
-/// All that waits in a group, with its last conjuncts.
-fn whole(alloc: Global, sides: Sides, last: Formula) -> Result<Formula, NoMemory>
-    ensures { (features : List (String Global)) (on : ℕ → Bool) → IfOk result (λ f. value_in on f ≡ whole (truths features on) (sides_view on sides) (value_in on last)) }
+fn with_operand(
+    mut same: VecDeque<Formula>,
+    operand: Formula,
+) -> Result<VecDeque<Formula>, NoMemory>
+    ensures { IfOk result (λ longer. longer.items ≡ same.items ++ operand ∷ []) }
+{
+    same.push_back(operand)?;
+    Ok(same)
+}
+
+/// The operands of `<->` in a group, with the last one.
+fn operands(alloc: Global, sides: Sides, last: Formula) -> Result<VecDeque<Formula>, NoMemory>
+    ensures value { (features : List (String Global)) (on : ℕ → Bool) → IfOk result (λ all. chain_view (map (value_in on) all.items) ≡ Some (whole (truths features on) (sides_view on sides) (value_in on last))) }
+    ensures below { (count : ℕ) → HasBelow count sides last → IfOk result (λ all. All (IsBelow count) all.items) }
 {
     let Sides {
         same,
         premises,
         any,
     } = sides;
-    let last = joined_by_or(alloc, any, last)?;
-    let last = implied(alloc, premises, last)?;
-    let formula = joined_by_equals(alloc, same, last)?;
+    let conclusion = joined_by_or(alloc, any, last)?;
+    let operand = implied(alloc, premises, conclusion)?;
+    let all = with_operand(same, operand)?;
+    Ok(all)
+}
+
+/// All that waits in a group, with its last conjuncts.
+fn whole(alloc: Global, sides: Sides, last: Formula) -> Result<Formula, NoMemory>
+    ensures value { (features : List (String Global)) (on : ℕ → Bool) → IfOk result (λ f. value_in on f ≡ whole (truths features on) (sides_view on sides) (value_in on last)) }
+    ensures below { (count : ℕ) → HasBelow count sides last → IfOk result (IsBelow count) }
+{
+    let all = operands(alloc, sides, last)?;
+    let formula = chained_by_equals(alloc, all)?;
     Ok(formula)
 }
 
@@ -93,7 +120,8 @@ fn placed(
     outer: Vec<Wanting>,
     operand: Formula,
 ) -> Result<Reader, NoMemory>
-    ensures { (features : List (String Global)) (on : ℕ → Bool) → IfOk result (λ r. reader_view on r ≡ placed (truths features on) (wanting_view on waits) (outer_view on outer) (value_in on operand)) }
+    ensures value { (features : List (String Global)) (on : ℕ → Bool) → IfOk result (λ r. reader_view on r ≡ placed (truths features on) (wanting_view on waits) (outer_view on outer) (value_in on operand)) }
+    ensures below { (count : ℕ) → WantingBelow count waits → All (WantingBelow count) outer.items → IsBelow count operand → IfOk result (ReaderBelow count) }
 {
     let Wanting {
         sides,
@@ -109,14 +137,16 @@ fn placed(
 }
 
 fn opened(mut outer: Vec<Wanting>, waits: Wanting) -> Result<Vec<Wanting>, NoMemory>
-    ensures { (on : ℕ → Bool) → IfOk result (λ deeper. outer_view on deeper ≡ wanting_view on waits ∷ outer_view on outer) }
+    ensures value { (on : ℕ → Bool) → IfOk result (λ deeper. outer_view on deeper ≡ wanting_view on waits ∷ outer_view on outer) }
+    ensures below { (count : ℕ) → WantingBelow count waits → All (WantingBelow count) outer.items → IfOk result (λ deeper. All (WantingBelow count) deeper.items) }
 {
     outer.push(waits)?;
     Ok(outer)
 }
 
 fn with_premise(mut premises: Vec<Formula>, premise: Formula) -> Result<Vec<Formula>, NoMemory>
-    ensures { (on : ℕ → Bool) → IfOk result (λ longer. map (value_in on) longer.items ≡ map (value_in on) premises.items ++ value_in on premise ∷ []) }
+    ensures value { (on : ℕ → Bool) → IfOk result (λ longer. map (value_in on) longer.items ≡ map (value_in on) premises.items ++ value_in on premise ∷ []) }
+    ensures below { (count : ℕ) → All (IsBelow count) premises.items → IsBelow count premise → IfOk result (λ longer. All (IsBelow count) longer.items) }
 {
     premises.push(premise)?;
     Ok(premises)
@@ -127,7 +157,8 @@ fn closed(
     mut outer: Vec<Wanting>,
     operand: Formula,
 ) -> Result<Option<Reader>, NoMemory>
-    ensures { (features : List (String Global)) (on : ℕ → Bool) → IfOk result (λ r. option_map (reader_view on) r ≡ closed (truths features on) (outer_view on outer) (value_in on operand)) }
+    ensures value { (features : List (String Global)) (on : ℕ → Bool) → IfOk result (λ r. option_map (reader_view on) r ≡ closed (truths features on) (outer_view on outer) (value_in on operand)) }
+    ensures below { (count : ℕ) → All (WantingBelow count) outer.items → IsBelow count operand → IfOk result (λ r. IfSome r (ReaderBelow count)) }
 {
     match outer.pop() {
         None => Ok(None),
@@ -144,7 +175,8 @@ fn wanted_sign(
     outer: Vec<Wanting>,
     sign: Sign,
 ) -> Result<Option<Reader>, NoMemory>
-    ensures { (features : List (String Global)) (on : ℕ → Bool) → IfOk result (λ r. option_map (reader_view on) r ≡ wanted (truths features on) (wanting_view on waits) (outer_view on outer) (Mark sign)) }
+    ensures value { (features : List (String Global)) (on : ℕ → Bool) → IfOk result (λ r. option_map (reader_view on) r ≡ wanted (truths features on) (wanting_view on waits) (outer_view on outer) (Mark sign)) }
+    ensures below { (count : ℕ) → WantingBelow count waits → All (WantingBelow count) outer.items → IfOk result (λ r. IfSome r (ReaderBelow count)) }
 {
     match sign {
         Sign::Not => {
@@ -179,7 +211,8 @@ fn wanted(
     token: &Token,
 ) -> Result<Option<Reader>, NoMemory>
     requires { length features.now ≤ 128 }
-    ensures { (on : ℕ → Bool) → IfOk result (λ r. option_map (reader_view on) r ≡ wanted (truths features.now on) (wanting_view on waits) (outer_view on outer) (token_view token.now)) }
+    ensures value { (on : ℕ → Bool) → IfOk result (λ r. option_map (reader_view on) r ≡ wanted (truths features.now on) (wanting_view on waits) (outer_view on outer) (token_view token.now)) }
+    ensures below { WantingBelow (length features.now) waits → All (WantingBelow (length features.now)) outer.items → IfOk result (λ r. IfSome r (ReaderBelow (length features.now))) }
 {
     match token {
         Token::Name(name) => {
@@ -199,7 +232,8 @@ fn behind_or(
     last: Formula,
     outer: Vec<Wanting>,
 ) -> Result<Reader, NoMemory>
-    ensures { (features : List (String Global)) (on : ℕ → Bool) → IfOk result (λ r. Some (reader_view on r) ≡ behind (truths features on) (sides_view on sides) (value_in on last) (outer_view on outer) (Mark Or)) }
+    ensures value { (features : List (String Global)) (on : ℕ → Bool) → IfOk result (λ r. Some (reader_view on r) ≡ behind (truths features on) (sides_view on sides) (value_in on last) (outer_view on outer) (Mark Or)) }
+    ensures below { (count : ℕ) → HasBelow count sides last → All (WantingBelow count) outer.items → IfOk result (ReaderBelow count) }
 {
     let Sides {
         same,
@@ -223,7 +257,8 @@ fn behind_implies(
     last: Formula,
     outer: Vec<Wanting>,
 ) -> Result<Reader, NoMemory>
-    ensures { (features : List (String Global)) (on : ℕ → Bool) → IfOk result (λ r. Some (reader_view on r) ≡ behind (truths features on) (sides_view on sides) (value_in on last) (outer_view on outer) (Mark Implies)) }
+    ensures value { (features : List (String Global)) (on : ℕ → Bool) → IfOk result (λ r. Some (reader_view on r) ≡ behind (truths features on) (sides_view on sides) (value_in on last) (outer_view on outer) (Mark Implies)) }
+    ensures below { (count : ℕ) → HasBelow count sides last → All (WantingBelow count) outer.items → IfOk result (ReaderBelow count) }
 {
     let Sides {
         same,
@@ -248,12 +283,13 @@ fn behind_equals(
     last: Formula,
     outer: Vec<Wanting>,
 ) -> Result<Reader, NoMemory>
-    ensures { (features : List (String Global)) (on : ℕ → Bool) → IfOk result (λ r. Some (reader_view on r) ≡ behind (truths features on) (sides_view on sides) (value_in on last) (outer_view on outer) (Mark Equals)) }
+    ensures value { (features : List (String Global)) (on : ℕ → Bool) → IfOk result (λ r. Some (reader_view on r) ≡ behind (truths features on) (sides_view on sides) (value_in on last) (outer_view on outer) (Mark Equals)) }
+    ensures below { (count : ℕ) → HasBelow count sides last → All (WantingBelow count) outer.items → IfOk result (ReaderBelow count) }
 {
-    let same = whole(alloc, sides, last)?;
+    let same = operands(alloc, sides, last)?;
     Ok(at_operand(
         Sides {
-            same: Some(same),
+            same,
             premises: Vec::new(alloc),
             any: None,
         },
@@ -268,7 +304,8 @@ fn behind_sign(
     outer: Vec<Wanting>,
     sign: Sign,
 ) -> Result<Option<Reader>, NoMemory>
-    ensures { (features : List (String Global)) (on : ℕ → Bool) → IfOk result (λ r. option_map (reader_view on) r ≡ behind (truths features on) (sides_view on sides) (value_in on last) (outer_view on outer) (Mark sign)) }
+    ensures value { (features : List (String Global)) (on : ℕ → Bool) → IfOk result (λ r. option_map (reader_view on) r ≡ behind (truths features on) (sides_view on sides) (value_in on last) (outer_view on outer) (Mark sign)) }
+    ensures below { (count : ℕ) → HasBelow count sides last → All (WantingBelow count) outer.items → IfOk result (λ r. IfSome r (ReaderBelow count)) }
 {
     match sign {
         Sign::And => {
@@ -310,7 +347,8 @@ fn behind(
     outer: Vec<Wanting>,
     token: &Token,
 ) -> Result<Option<Reader>, NoMemory>
-    ensures { (features : List (String Global)) (on : ℕ → Bool) → IfOk result (λ r. option_map (reader_view on) r ≡ behind (truths features on) (sides_view on sides) (value_in on last) (outer_view on outer) (token_view token.now)) }
+    ensures value { (features : List (String Global)) (on : ℕ → Bool) → IfOk result (λ r. option_map (reader_view on) r ≡ behind (truths features on) (sides_view on sides) (value_in on last) (outer_view on outer) (token_view token.now)) }
+    ensures below { (count : ℕ) → HasBelow count sides last → All (WantingBelow count) outer.items → IfOk result (λ r. IfSome r (ReaderBelow count)) }
 {
     match token {
         Token::Name(_) => Ok(None),
@@ -333,7 +371,8 @@ fn outermost(
     last: Formula,
     is_outermost: bool,
 ) -> Result<Option<Formula>, NoMemory>
-    ensures { (features : List (String Global)) (on : ℕ → Bool) → IfOk result (λ f. option_map (value_in on) f ≡ (if is_outermost then Some (whole (truths features on) (sides_view on sides) (value_in on last)) else None)) }
+    ensures value { (features : List (String Global)) (on : ℕ → Bool) → IfOk result (λ f. option_map (value_in on) f ≡ (if is_outermost then Some (whole (truths features on) (sides_view on sides) (value_in on last)) else None)) }
+    ensures below { (count : ℕ) → HasBelow count sides last → IfOk result (λ f. IfSome f (IsBelow count)) }
 {
     if is_outermost {
         let formula = whole(alloc, sides, last)?;
@@ -351,7 +390,8 @@ impl Reader {
         token: &Token,
     ) -> Result<Option<Reader>, NoMemory>
         requires { length features.now ≤ 128 }
-        ensures { (on : ℕ → Bool) → IfOk result (λ r. option_map (reader_view on) r ≡ next (truths features.now on) (place_view on self.place) (outer_view on self.outer) (token_view token.now)) }
+        ensures value { (on : ℕ → Bool) → IfOk result (λ r. option_map (reader_view on) r ≡ next (truths features.now on) (place_view on self.place) (outer_view on self.outer) (token_view token.now)) }
+        ensures below { PlaceBelow (length features.now) self.place → All (WantingBelow (length features.now)) self.outer.items → IfOk result (λ r. IfSome r (ReaderBelow (length features.now))) }
     {
         let Reader { place, outer } = self;
         match place {
@@ -368,7 +408,8 @@ impl Reader {
 
     /// The formula of the constraint, if it ends here.
     fn end(self, alloc: Global) -> Result<Option<Formula>, NoMemory>
-        ensures { (features : List (String Global)) (on : ℕ → Bool) → IfOk result (λ f. option_map (value_in on) f ≡ finished (truths features on) (place_view on self.place) (outer_view on self.outer)) }
+        ensures value { (features : List (String Global)) (on : ℕ → Bool) → IfOk result (λ f. option_map (value_in on) f ≡ finished (truths features on) (place_view on self.place) (outer_view on self.outer)) }
+        ensures below { (count : ℕ) → PlaceBelow count self.place → IfOk result (λ f. IfSome f (IsBelow count)) }
     {
         let Reader { place, outer } = self;
         match place {
@@ -388,7 +429,8 @@ pub fn formula_of(
     tokens: &[Token],
 ) -> Result<Option<Formula>, NoMemory>
     requires { length features.now ≤ 128 }
-    ensures { (on : ℕ → Bool) → IfOk result (λ f. option_map (value_in on) f ≡ read (truths features.now on) (at_start (truths features.now on)) (map token_view tokens.now)) }
+    ensures value { (on : ℕ → Bool) → IfOk result (λ f. option_map (value_in on) f ≡ read (truths features.now on) (at_start (truths features.now on)) (map token_view tokens.now)) }
+    ensures below { IfOk result (λ f. IfSome f (IsBelow (length features.now))) }
 {
     let mut reader = at_operand(no_sides(alloc), Vec::new(alloc));
     for token in tokens {

@@ -120,3 +120,24 @@ fn deep_texts_are_read(rt: HostRuntime) -> Result<(), Fail> {
     assert!(rt; formula.value(Config { bits: 1 }));
     Ok(())
 }
+
+fn chain(alloc: Global, operands: usize) -> Result<String, AllocError> {
+    let mut text = String::from_str(alloc, "A")?;
+    for _ in 1..operands {
+        text.push_str("<->A")?;
+    }
+    Ok(text)
+}
+
+/// 256 operands, the most that 1,024 bytes have room for, and 255.
+#[test]
+fn long_chains_are_read(rt: HostRuntime) -> Result<(), Fail> {
+    let alloc = rt.alloc();
+    let features = named(alloc, &["A"])?;
+    assert_eq!(rt; features.len(), 1);
+    let even = parse_constraint(alloc, &features, &chain(alloc, 256)?)?;
+    assert!(rt; even.value(Config { bits: 0 }));
+    let odd = parse_constraint(alloc, &features, &chain(alloc, 255)?)?;
+    assert!(rt; !odd.value(Config { bits: 0 }));
+    Ok(())
+}

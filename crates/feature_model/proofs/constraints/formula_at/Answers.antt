@@ -14,14 +14,14 @@ pub returns-in-None : goal.returns-in-None
 returns-in-None c = (
   refl,
   no_tree c.args.features.now (map token_view c.args.tokens.now)
-      (λ on. ap (option_map (value_in on)) (sym c.in-None.is) ∙ c.in_ok-read.ensures on),
+      (λ on. ap (option_map (value_in on)) (sym c.in-None.is) ∙ c.in_ok-read.ensures.value on),
 )
 
 pub returns-in_err-formula-in-Some : goal.returns-in_err-formula-in-Some
 returns-in_err-formula-in-Some c =
     let ks = map token_view c.args.tokens.now in
     let fs = c.args.features.now in
-    let f = found fs ks (condition_of c.in-Some.formula) (λ on. ap (option_map (value_in on)) (sym c.in-Some.is) ∙ c.in_ok-read.ensures on) in
+    let f = found fs ks (condition_of c.in-Some.formula) (λ on. ap (option_map (value_in on)) (sym c.in-Some.is) ∙ c.in_ok-read.ensures.value on) in
     let k : c.name_features.result ≡ is_known fs f.tree =
     c.name_features.ensures ∙ sym (list_all-map (names_feature fs) token_view c.args.tokens.now) ∙ known_of fs ks f.tree f.spelled
     in
@@ -33,7 +33,7 @@ pub returns-in_ok-formula-in-Some : goal.returns-in_ok-formula-in-Some
 returns-in_ok-formula-in-Some c =
     let ks = map token_view c.args.tokens.now in
     let fs = c.args.features.now in
-    let f = found fs ks (condition_of c.in-Some.formula) (λ on. ap (option_map (value_in on)) (sym c.in-Some.is) ∙ c.in_ok-read.ensures on) in
+    let f = found fs ks (condition_of c.in-Some.formula) (λ on. ap (option_map (value_in on)) (sym c.in-Some.is) ∙ c.in_ok-read.ensures.value on) in
     let k : c.name_features.result ≡ is_known fs f.tree =
     c.name_features.ensures ∙ sym (list_all-map (names_feature fs) token_view c.args.tokens.now) ∙ known_of fs ks f.tree f.spelled
     in
@@ -43,4 +43,5 @@ returns-in_ok-formula-in-Some c =
       spelled = f.spelled;
       known = sym k ∙ e.0;
       holds = λ on. ap (value_in on) e.1 ∙ f.holds on;
+      below = rw e.1 (rw c.in-Some.is at c.in_ok-read.ensures.below);
     }

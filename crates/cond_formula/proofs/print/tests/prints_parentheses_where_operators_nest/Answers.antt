@@ -1,10 +1,10 @@
-use Rattle.std.proofs.Common.{◌≡◌, ℕ, ◌<◌, List, [], ◌∷◌, length, string_bytes, String, codes, All, ap, ◌∙◌, refl, arith}
+use Rattle.std.proofs.Common.{◌≡◌, ℕ, ◌<◌, List, [], ◌∷◌, length, string_bytes, String, codes, All, IsTrue, ap, ◌∙◌, refl, arith}
 use Rattle.std.proofs.lemmas.List.Elements.{All-nil, All-cons}
 use Rattle.std.specs.declared.alloc.Global.{Global}
 use Rattle.cond_formula.specs.declared.formulas.Formula.{Var}
 use Rattle.cond_formula.specs.Conditions.{condition_of, VarsBelow}
 use Rattle.cond_formula.specs.ConditionLaws.{condition_of-Var}
-use Rattle.cond_formula.specs.FeatureNames.{IsFeatureName, is_feature_name, keywords, taken_names}
+use Rattle.c_names.specs.Names.{is_new_name}
 use Rattle.cond_formula.proofs.print.tests.prints_parentheses_where_operators_nest.Goals as goal
 
 below : (feature : ℕ) → feature < 2 → VarsBelow 2 (condition_of (Var feature))
@@ -16,10 +16,9 @@ print_if-requires-clause-numbered g c =
     rw two (c.in_ok-either.ensures.below 2 (c.in_ok-b_alone.ensures.below 2 (c.in_ok-without_a.ensures.below 2 (below 0 (omega arith))) (below 1 (omega arith))) (below 0 (omega arith)))
 
 abbrev IsNamed : String Global → Type 0
-IsNamed name = IsFeatureName (string_bytes name)
+IsNamed name = IsTrue (is_new_name (string_bytes name))
 
 named : (names : List (String Global)) (a b : String Global) → names ≡ a ∷ b ∷ [] → string_bytes a ≡ codes "A" → string_bytes b ≡ codes "B" → All IsNamed names
-unfolding IsFeatureName is_feature_name keywords taken_names
 named names a b is is_a is_b =
     rw is (All-cons IsNamed a (b ∷ []) (rw is_a refl) (All-cons IsNamed b [] (rw is_b refl) (All-nil IsNamed)))
 
