@@ -6,14 +6,14 @@ use Rattle.std.specs.Str.{bytes_eq}
 use Rattle.std.proofs.lemmas.Bool.{both_ways}
 use Rattle.std.proofs.lemmas.List.{map-append, append_assoc}
 use Rattle.std.proofs.lemmas.List.Elements.{All-nil, All-cons, All-append}
-use Rattle.cond_formula.specs.Conditions.{Condition}
+use Rattle.cond_formula.specs.Conditions.{Condition, VarsBelow}
 use Rattle.feature_model.specs.Trees.{Tree, named, inverse, grouped, both, either, implies, equals, feature_number, is_known}
 use Rattle.feature_model.specs.Laws.{TreeIsOne}
-use Rattle.feature_model.specs.Constraints.{IsConstraint, IsOver, AreOver, NamesAnother, WhyRefused, FirstRefused, WhyNoModel}
+use Rattle.feature_model.specs.Constraints.{IsConstraint, IsOver, AreOver, NamesAnother, WhyRefused, FirstRefused, WhyNoModel, Says, Admits}
 use Rattle.feature_model.specs.declared.errors.ModelError.{ModelError}
 use Rattle.feature_model.specs.declared.errors.ModelError.TheVariants.{Syntax, UnknownFeature, TooMany, Memory}
 use Rattle.project_file.specs.Contents.{UnitText, Contents, texts_of}
-use Rattle.project_file.specs.Texts.{IsConstraintOver, IsLawful, IsPresence, IsModelOf}
+use Rattle.project_file.specs.Texts.{IsConstraintOver, IsLawful, HasPresence, IsPresence, IsModelOf}
 use Rattle.project_file.specs.Projects.{PlainUnit, AreUnits}
 use Rattle.project_file.specs.Faults.{Fault, size, not_toml, shape, feature, duplicate, constraint}
 use Rattle.project_file.specs.View.{Why}
@@ -133,7 +133,7 @@ lawful_model names constraints condition m =
     (lawful_all m.features m.texts m.admits.trees m.admits.over))
 
 -- a unit's text is lawful where its condition is known
-lawful_presence : (names : List (List ℕ)) (when : Option (List ℕ)) (condition : Condition) → IsPresence names when condition → IsLawful names when
+lawful_presence : (names : List (List ℕ)) (when : Option (List ℕ)) (condition : Condition) → HasPresence names when condition → IsLawful names when
 lawful_presence names None condition h = tt
 lawful_presence names (Some text) condition h =
     record { features = h.features; spelled = h.spelled; tree = h.says.tree; over = h.says.over }
@@ -142,7 +142,7 @@ lawful_units : (names : List (List ℕ)) (texts : List UnitText) (units : List P
 lawful_units names [] units h = All-nil (IsLawful names)
 lawful_units names (t ∷ texts) [] h = absurd h
 lawful_units names (t ∷ texts) (u ∷ units) h =
-    All-cons (IsLawful names) t.when (map (λ u. u.when) texts) (lawful_presence names t.when u.when h.1) (lawful_units names texts units h.2)
+    All-cons (IsLawful names) t.when (map (λ u. u.when) texts) (lawful_presence names t.when u.when h.1.value_is) (lawful_units names texts units h.2)
 
 units-push : (names : List (List ℕ)) (texts : List UnitText) (units : List PlainUnit) (t : UnitText) (u : PlainUnit) → AreUnits names texts units → IsUnitOf names t u → AreUnits names (texts ++ t ∷ []) (units ++ u ∷ [])
 units-push names [] [] t u h is = (is.0, is.1, tt)
@@ -251,3 +251,20 @@ pub units_more : {X Y : Type 0} (f : X → UnitText) (g : Y → PlainUnit) (name
 units_more f g names texts i x units u h is so_far unit =
     rw (map-next f texts i x h is, map-append g units (u ∷ []))
     (units-push names (map f (take i texts)) (map g units) (f x) (g u) so_far unit)
+
+-- the condition of a text is that of a unit, and the condition of constraints that of a model
+pub presence_of : (features : List (String Global)) (text : List ℕ) (condition : Condition) → Says features text condition → IsPresence (map string_bytes features) (Some text) condition
+presence_of features text condition says = record {
+  value_is = record { features = features; spelled = refl; says = says };
+  below = subst (λ n. VarsBelow n condition) (sym (length-map string_bytes features)) says.below;
+}
+
+pub model_is : (features texts : List (String Global)) (condition : Condition) → Admits features texts condition → IsModelOf (map string_bytes features) (map string_bytes texts) condition
+model_is features texts condition admits = record {
+  features = features;
+  spelled = refl;
+  texts = texts;
+  texts_spelled = refl;
+  admits = admits;
+  below = subst (λ n. VarsBelow n condition) (sym (length-map string_bytes features)) admits.below;
+}

@@ -1,7 +1,7 @@
 -- What constraints and conditions of units mean, over the names of the features.
-use Rattle.std.specs.Prelude.{◌≡◌, ℕ, Bool, true, List, map, Option, Some, None, String, string_bytes, ⊤}
+use Rattle.std.specs.Prelude.{◌≡◌, ℕ, Bool, true, List, map, length, Option, Some, None, String, string_bytes, ⊤}
 use Rattle.std.specs.declared.alloc.Global.{Global}
-use Rattle.cond_formula.specs.Conditions.{Condition, value}
+use Rattle.cond_formula.specs.Conditions.{Condition, VarsBelow, value}
 use Rattle.feature_model.specs.Trees.{Tree}
 use Rattle.feature_model.specs.Constraints.{IsOver, Says, Admits}
 
@@ -28,14 +28,20 @@ pub record HasValueOf (names : List (List ℕ)) (text : List ℕ) (condition : C
   pub says : Says features text condition
 
 -- a unit is present where its text is true; one without a text always is
-abbrev pub IsPresence : List (List ℕ) → Option (List ℕ) → Condition → Type 0
-IsPresence names None condition = (on : ℕ → Bool) → value on condition ≡ true
-IsPresence names (Some text) condition = HasValueOf names text condition
+abbrev pub HasPresence : List (List ℕ) → Option (List ℕ) → Condition → Type 0
+HasPresence names None condition = (on : ℕ → Bool) → value on condition ≡ true
+HasPresence names (Some text) condition = HasValueOf names text condition
 
--- the condition is true where each of the constraints is
+-- The condition under which a unit is present. It names no other features.
+pub record IsPresence (names : List (List ℕ)) (when : Option (List ℕ)) (condition : Condition) : Type 0 where
+  pub value_is : HasPresence names when condition
+  pub below : VarsBelow (length names) condition
+
+-- The condition is true where each of the constraints is, and names no other features.
 pub record IsModelOf (names constraints : List (List ℕ)) (condition : Condition) : Type 0 where
   pub features : List (String Global)
   pub spelled : Spell features names
   pub texts : List (String Global)
   pub texts_spelled : Spell texts constraints
   pub admits : Admits features texts condition
+  pub below : VarsBelow (length names) condition
