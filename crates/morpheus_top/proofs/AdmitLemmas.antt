@@ -1,6 +1,7 @@
 -- The names that are on, and how they are listed.
-use Rattle.std.proofs.Common.{◌≡◌, ℕ, suc, ◌+◌, ◌<◌, ◌≤◌, ◌==◌, Bool, true, false, length, get_or, drop, List, [], ◌∷◌, ◌++◌, map, String, Global, codes, refl, sym, ap, ◌∙◌, arith}
+use Rattle.std.proofs.Common.{◌≡◌, ℕ, suc, ◌+◌, ◌<◌, ◌≤◌, ◌==◌, Bool, true, false, length, get_or, drop, List, [], ◌∷◌, ◌++◌, map, String, Global, Result, Ok, Err, IfOk, codes, refl, sym, ap, ◌∙◌, arith}
 use Rattle.std.specs.String.{string_bytes}
+use Rattle.std.specs.declared.alloc.AllocError.{AllocError}
 use Rattle.std.specs.List.{join_by, flat_map}
 use Rattle.std.proofs.lemmas.List.{drop_more, map-append, append_assoc}
 use Rattle.morpheus_top.specs.Replies.{listed}
@@ -39,3 +40,11 @@ further_names separator (name ∷ names) = ap (λ xs. (separator ++ string_bytes
 pub joined_names : (names : List (String Global)) → (length names == 0) ≡ false → join_by string_bytes (codes ",") names ≡ listed (map string_bytes names)
 joined_names [] h = cc
 joined_names (name ∷ names) h = ap (λ xs. string_bytes name ++ xs) (further_names (codes ",") names)
+
+pub joined_ok : (names : List (String Global)) (r : Result (String Global) AllocError) → (length names == 0) ≡ false → IfOk r (λ text. string_bytes text ≡ join_by string_bytes (codes ",") names) → IfOk r (λ text. string_bytes text ≡ listed (map string_bytes names))
+joined_ok names (Ok text) some is = is ∙ joined_names names some
+joined_ok names (Err e) some is = tt
+
+-- a kind and a name, and then the end of the line
+pub kind_and_name : (front kind name : List ℕ) → front ++ kind ++ 32 ∷ name ++ 10 ∷ [] ≡ front ++ (kind ++ 32 ∷ name) ++ 10 ∷ []
+kind_and_name front kind name = ap (λ xs. front ++ xs) (sym (append_assoc kind (32 ∷ name) (10 ∷ [])))

@@ -4,7 +4,7 @@ use Rattle.std.specs.String.{string_bytes}
 use Rattle.project_file.specs.Projects.{PlainProject, IsProject}
 use Rattle.project_file.specs.Faults.{Fault, FirstFault}
 use Rattle.project_file.specs.Laws.{FaultyFilesSayNoProject}
-use Rattle.project_store.specs.Projects.{HasProject, HasFault}
+use Rattle.project_store.specs.Reads.{SaysProject, HasFault}
 use Rattle.morpheus_top.specs.declared.replies.Reply.{Reply}
 use Rattle.morpheus_top.specs.declared.replies.Reply.TheVariants.{Renamed, Usage, ReadFault, WriteFault, WantOfMemory, NotQuick, BadProject, Admits, AdmitsNothing}
 use Rattle.morpheus_top.specs.Words.{AsksAdmit}
@@ -17,7 +17,7 @@ use Rattle.morpheus_top.proofs.Promises.{one_command, one_project, settled, firs
 
 -- what a reply to words that ask for a project comes to, where no read failed
 data Outcome (b : StoreState) (name : List ℕ) (reply : Reply) : Type 0 where
-  found : (project : PlainProject) → HasProject b.tells b.file name project → status_of reply ≡ 0 → Outcome b name reply
+  found : (project : PlainProject) → SaysProject b.tells b.file name project → status_of reply ≡ 0 → Outcome b name reply
   refused : (fault : Fault) → HasFault b.tells b.file name fault → status_of reply ≡ 5 → Outcome b name reply
   ended : status_of reply ≡ 7 → Outcome b name reply
 
@@ -31,18 +31,18 @@ outcome words b a name asked no_read (NotQuick o) h = absurd (one_command words 
 outcome words b a name asked no_read (BadProject f) h =
     refused (fault_view f) (subst (λ n. HasFault b.tells b.file n (fault_view f)) (one_project words h.project name h.asked asked) h.first) refl
 outcome words b a name asked no_read (Admits n) h =
-    found h.least.project (subst (λ m. HasProject b.tells b.file m h.least.project) (one_project words h.project name h.asked asked) h.least.has_project) refl
+    found h.least.project (subst (λ m. SaysProject b.tells b.file m h.least.project) (one_project words h.project name h.asked asked) h.least.has_project) refl
 outcome words b a name asked no_read AdmitsNothing h =
-    found h.none.project (subst (λ m. HasProject b.tells b.file m h.none.project) (one_project words h.project name h.asked asked) h.none.has_project) refl
+    found h.none.project (subst (λ m. SaysProject b.tells b.file m h.none.project) (one_project words h.project name h.asked asked) h.none.has_project) refl
 
 -- a project file that says a project has no fault
-excluded : FaultyFilesSayNoProject → (b : StoreState) (name : List ℕ) (project : PlainProject) (fault : Fault) → b.tells → HasProject b.tells b.file name project → HasFault b.tells b.file name fault → ⊥
+excluded : FaultyFilesSayNoProject → (b : StoreState) (name : List ℕ) (project : PlainProject) (fault : Fault) → b.tells → SaysProject b.tells b.file name project → HasFault b.tells b.file name fault → ⊥
 excluded law b name project fault tells p f =
-    let e : ◌≡◌ {A = Option (List ℕ)} (Some p.bytes) (Some f.bytes) = sym (p.held tells) ∙ f.held tells in
+    let e : ◌≡◌ {A = Option (List ℕ)} (Some p.bytes) (Some f.bytes) = sym (p.stands tells) ∙ f.stands tells in
     let same : p.bytes ≡ f.bytes = cc in
     law name f.bytes project fault (subst (λ bytes. IsProject name bytes project) same p.is_project) f.first
 
-found_or_ended : FaultyFilesSayNoProject → (b : StoreState) (name : List ℕ) (project : PlainProject) (reply : Reply) → b.tells → HasProject b.tells b.file name project → Outcome b name reply → (status_of reply ≡ 0) ⊎ (status_of reply ≡ 7)
+found_or_ended : FaultyFilesSayNoProject → (b : StoreState) (name : List ℕ) (project : PlainProject) (reply : Reply) → b.tells → SaysProject b.tells b.file name project → Outcome b name reply → (status_of reply ≡ 0) ⊎ (status_of reply ≡ 7)
 found_or_ended law b name project reply tells p (found other h e) = inl e
 found_or_ended law b name project reply tells p (refused fault h e) = absurd (excluded law b name project fault tells p h)
 found_or_ended law b name project reply tells p (ended e) = inr e
@@ -56,7 +56,7 @@ with_status : (status n m : ℕ) (reply : Reply) → status ≡ status_of reply 
 with_status status n m reply e (inl k) = inl (e ∙ k)
 with_status status n m reply e (inr k) = inr (e ∙ k)
 
-pub admits_lem : FaultyFilesSayNoProject → (words : List (List ℕ)) (b a : StoreState) (s t : SinkState) (status : ℕ) → Answers words b a s t status → NoFault b.read_faults a.read_faults b.write_faults a.write_faults s.faults t.faults → b.tells → (name : List ℕ) (project : PlainProject) → AsksAdmit words name → HasProject b.tells b.file name project → (status ≡ 0) ⊎ (status ≡ 7)
+pub admits_lem : FaultyFilesSayNoProject → (words : List (List ℕ)) (b a : StoreState) (s t : SinkState) (status : ℕ) → Answers words b a s t status → NoFault b.read_faults a.read_faults b.write_faults a.write_faults s.faults t.faults → b.tells → (name : List ℕ) (project : PlainProject) → AsksAdmit words name → SaysProject b.tells b.file name project → (status ≡ 0) ⊎ (status ≡ 7)
 admits_lem law words b a s t status A f tells name project asked p =
     elim A.told [
       | inl k ↦ with_status status 0 7 A.reply k.0
@@ -103,10 +103,10 @@ bad_project_lem words b a s t status A e name asked =
 
 -- where a store tells what it holds, what was read of it stands there
 told_fault : (b : StoreState) (name : List ℕ) (fault : Fault) → b.tells → HasFault b.tells b.file name fault → HasFault (Unit {0}) b.file name fault
-told_fault b name fault tells h = record { bytes = h.bytes; held = λ u. h.held tells; first = h.first }
+told_fault b name fault tells h = record { bytes = h.bytes; stands = λ u. h.stands tells; first = h.first }
 
-told_project : (b : StoreState) (name : List ℕ) (project : PlainProject) → b.tells → HasProject b.tells b.file name project → HasProject (Unit {0}) b.file name project
-told_project b name project tells h = record { bytes = h.bytes; held = λ u. h.held tells; is_project = h.is_project }
+told_project : (b : StoreState) (name : List ℕ) (project : PlainProject) → b.tells → SaysProject b.tells b.file name project → SaysProject (Unit {0}) b.file name project
+told_project b name project tells h = record { bytes = h.bytes; stands = λ u. h.stands tells; is_project = h.is_project }
 
 -- what the sink took where the status isn't that of a failing sink
 taken_is : (words : List (List ℕ)) (b a : StoreState) (s t : SinkState) (status : ℕ) (A : Answers words b a s t status) → (status ≡ 6 → ⊥) → s.tells → t.taken ≡ s.taken ++ report_of A.reply

@@ -4,3 +4,4 @@ pub mod WordLemmas
 pub mod Promises
 mod AdmitPromises
 mod AdmitLemmas
+mod AdmitSteps

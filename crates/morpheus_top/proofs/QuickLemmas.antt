@@ -1,5 +1,5 @@
 -- The steps of `quick` joined.
-use Rattle.std.proofs.Common.{◌≡◌, inl, inr, ℕ, ◌+◌, List, length, Some, sym, ◌∙◌, ap, subst, Vec}
+use Rattle.std.proofs.Common.{◌≡◌, inl, inr, ℕ, ◌+◌, List, length, Some, None, refl, sym, ◌∙◌, ap, subst, Vec}
 use Rattle.std.specs.String.{string_bytes}
 use Rattle.quick_form.specs.Renaming.{renamed_bytes, token_count}
 use Rattle.quick_form.specs.Quick.{Takes}
@@ -135,3 +135,12 @@ read_and_ran words r bytes before middle after ReadFault a p f h = absurd h
 read_and_ran words r bytes before middle after (BadProject fault) a p f h = absurd h
 read_and_ran words r bytes before middle after (Admits names) a p f h = absurd h
 read_and_ran words r bytes before middle after AdmitsNothing a p f h = absurd h
+
+-- the file wasn't read
+pub read_failed : (words : List (List ℕ)) (r : Renaming) (before after : StoreState) → AsksQuick words r → Kept before after → Rose before.read_faults after.read_faults → (before.tells_room → before.file r.file ≡ None) → (reply : Reply) → reply ≡ ReadFault → Holds words before after reply
+read_failed words r before after a kept rose absent reply is =
+    subst (Holds words before after) (sym is)
+    (record { file = r.file; reads = inl (r, a, refl); rose = rose; kept = kept; absent = absent })
+
+pub memory_ended : (words : List (List ℕ)) (before after : StoreState) → Kept before after → (reply : Reply) → reply ≡ WantOfMemory → Holds words before after reply
+memory_ended words before after kept reply is = subst (Holds words before after) (sym is) kept

@@ -7,7 +7,7 @@ use Rattle.project_file.specs.Projects.{PlainProject}
 use Rattle.project_file.specs.Faults.{Fault, size, not_toml, shape, feature, duplicate, constraint}
 use Rattle.project_file.specs.declared.errors.ProjectError.{ProjectError}
 use Rattle.project_file.specs.declared.errors.ProjectError.TheVariants.{NotToml, Shape, Feature, Constraint, Duplicate, Size, Read, Memory}
-use Rattle.project_store.specs.Projects.{HasProject}
+use Rattle.project_store.specs.Reads.{SaysProject}
 use Rattle.morpheus_top.specs.Replies.{fault_view}
 use Rattle.morpheus_top.specs.declared.replies.Reply.{Reply}
 use Rattle.morpheus_top.specs.declared.replies.Reply.TheVariants.{Renamed, Usage, ReadFault, WriteFault, WantOfMemory, NotQuick, BadProject, Admits, AdmitsNothing}
@@ -25,7 +25,7 @@ names_on on names = names_from 0 on names
 -- The features that are on in the least configuration that the project in the file of this name admits.
 pub record AdmitsLeast (tells : Type 0) (files : Lookup) (name : List ℕ) (names : List (List ℕ)) : Type 0 where
   pub project : PlainProject
-  pub has_project : HasProject tells files name project
+  pub has_project : SaysProject tells files name project
   pub configuration : List Bool
   pub least : IsLeastModel (length project.features) project.model configuration
   pub names_are : names ≡ names_on (has configuration) project.features
@@ -33,7 +33,7 @@ pub record AdmitsLeast (tells : Type 0) (files : Lookup) (name : List ℕ) (name
 -- The project in the file of this name admits no configuration.
 pub record AdmitsNone (tells : Type 0) (files : Lookup) (name : List ℕ) : Type 0 where
   pub project : PlainProject
-  pub has_project : HasProject tells files name project
+  pub has_project : SaysProject tells files name project
   pub none : HasNoModel project.model
 
 -- what was found of a project

@@ -11,7 +11,7 @@ use Rattle.morpheus_top.specs.Words.{Renaming, target, AsksQuick, AsksAdmit, IsU
 use Rattle.morpheus_top.specs.declared.replies.Reply.{Reply}
 use Rattle.morpheus_top.specs.declared.replies.Reply.TheVariants.{Renamed, Usage, ReadFault, WriteFault, WantOfMemory, NotQuick, BadProject, Admits, AdmitsNothing}
 use Rattle.project_file.specs.Faults.{Fault}
-use Rattle.project_store.specs.Projects.{HasFault}
+use Rattle.project_store.specs.Reads.{HasFault}
 use Rattle.morpheus_top.specs.Admit.{AdmitsLeast, AdmitsNone}
 use Rattle.morpheus_top.specs.Replies.{status_of, report_of, fault_view}
 use Rattle.morpheus_top.specs.Sinks.{TookFront}

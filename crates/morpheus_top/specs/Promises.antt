@@ -10,7 +10,7 @@ use Rattle.morpheus_top.specs.declared.replies.Reply.TheVariants.{Renamed}
 use Rattle.morpheus_top.specs.Words.{Renaming, target}
 use Rattle.morpheus_top.specs.Replies.{line, listed, fault_text, report_of}
 use Rattle.project_file.specs.Faults.{Fault}
-use Rattle.project_store.specs.Projects.{HasFault}
+use Rattle.project_store.specs.Reads.{HasFault}
 use Rattle.morpheus_top.specs.Admit.{AdmitsLeast, AdmitsNone}
 use Rattle.morpheus_top.specs.States.{StoreState}
 use Rattle.morpheus_top.specs.Calls.{renamed_file, Holds}

@@ -4,7 +4,7 @@ ghost use Rattle.project_store.specs.Lookup.{SameFiles};
 ghost use Rattle.project_store.specs.Faults.{Rose};
 ghost use Rattle.project_file.specs.Projects.{PlainProject};
 ghost use Rattle.project_file.specs.Faults.{Fault};
-ghost use Rattle.project_store.specs.Projects.{HasProject, HasFault};
+ghost use Rattle.project_store.specs.Reads.{SaysProject, HasFault};
 ghost use Rattle.morpheus_top.specs.Words.{Renaming, AsksQuick, AsksAdmit, IsUsage, Reads};
 ghost use Rattle.morpheus_top.specs.States.{store_state, sink_state};
 ghost use Rattle.morpheus_top.specs.Calls.{Holds, Answers, TakesFile, RefusesFile, WritesFile, WritesPart, LacksRoomFor};
@@ -93,7 +93,7 @@ pub fn morpheus<S: Store, K: Sink>(
         → RefusesFile r (S.file store.old) → (result ≡ 12) ⊎ (result ≡ 7) }
     ensures admits { NoFault (S.read_faults store.old) (S.read_faults store.new) (S.write_faults store.old) (S.write_faults store.new) (K.faults out.old) (K.faults out.new)
         → S.tells store.old → (name : List ℕ) (project : PlainProject) → AsksAdmit (map string_bytes words.now) name
-        → HasProject (S.tells store.old) (S.file store.old) name project → (result ≡ 0) ⊎ (result ≡ 7) }
+        → SaysProject (S.tells store.old) (S.file store.old) name project → (result ≡ 0) ⊎ (result ≡ 7) }
     ensures refuses_project { NoFault (S.read_faults store.old) (S.read_faults store.new) (S.write_faults store.old) (S.write_faults store.new) (K.faults out.old) (K.faults out.new)
         → S.tells store.old → (name : List ℕ) (fault : Fault) → AsksAdmit (map string_bytes words.now) name
         → HasFault (S.tells store.old) (S.file store.old) name fault → (result ≡ 5) ⊎ (result ≡ 7) }

@@ -14,7 +14,7 @@ use Rattle.feature_model.specs.Trees.{Tree}
 use Rattle.feature_model.specs.Constraints.{AreOver}
 use Rattle.project_file.specs.Documents.{IsToml, keys_of, is_listed, strings, AreStrings}
 use Rattle.project_file.specs.Contents.{UnitText, Contents, document_keys, IsUnitTable, IsUnitValue, AreUnitValues, IsContents, SaysContents, files_of, texts_of}
-use Rattle.project_file.specs.Texts.{Spell, IsLawful, IsPresence, IsModelOf}
+use Rattle.project_file.specs.Texts.{Spell, IsLawful, HasPresence, IsModelOf}
 use Rattle.project_file.specs.Projects.{PlainUnit, AllDiffer, AreFeatureNames, NamesOnce, AreUnits}
 use Rattle.project_file.specs.Faults.{size, not_toml, shape, feature, duplicate, constraint, IsShapeFault, unlisted, bad_features, bad_constraints, bad_headers, bad_units, IsFirstUnlawful, IsFirstRepeated, IsDuplicate, IsFirstBadText}
 use Rattle.project_file.specs.Laws.{FaultyFilesSayNoProject}
@@ -136,16 +136,16 @@ module _ (names : List (List ℕ)) (features : List (String Global)) (spelled : 
     lawful_constraints texts trees over.1,
   )
 
-lawful_when : (names : List (List ℕ)) (when : Option (List ℕ)) (unit : PlainUnit) → IsPresence names when unit.when → IsLawful names when
-lawful_when names None unit is = tt
-lawful_when names (Some text) unit is =
+lawful_when : (names : List (List ℕ)) (when : Option (List ℕ)) (condition : Condition) → HasPresence names when condition → IsLawful names when
+lawful_when names None condition is = tt
+lawful_when names (Some text) condition is =
     record { features = is.features; spelled = is.spelled; tree = is.says.tree; over = is.says.over }
 
 lawful_units : (names : List (List ℕ)) (texts : List UnitText) (units : List PlainUnit) → AreUnits names texts units → AllByRecursion (IsLawful names) (map (λ u. u.when) texts)
 lawful_units names [] units are = tt
 lawful_units names (text ∷ texts) [] are = absurd are
 lawful_units names (text ∷ texts) (unit ∷ units) are =
-    (lawful_when names text.when unit are.1, lawful_units names texts units are.2)
+    (lawful_when names text.when unit.when are.1.value_is, lawful_units names texts units are.2)
 
 both_parts : {X : Type 0} (P : X → Type 0) (xs ys : List X) → AllByRecursion P xs → AllByRecursion P ys → AllByRecursion P (xs ++ ys)
 both_parts P [] ys p q = q

@@ -15,5 +15,5 @@ mod units;
 
 pub use errors::ProjectError;
 pub use laws::faulty_files_say_no_project;
-pub use parse::{LONGEST_FILE, parse_project};
+pub use parse::{LONGEST_FILE, oversized, parse_project};
 pub use projects::{Project, Unit};

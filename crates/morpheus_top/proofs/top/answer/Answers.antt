@@ -1,5 +1,6 @@
-use Rattle.std.proofs.Common.{map}
+use Rattle.std.proofs.Common.{map, subst}
 use Rattle.std.specs.String.{string_bytes}
+use Rattle.morpheus_top.specs.Quick.{AsksFor}
 use Rattle.morpheus_top.proofs.WordLemmas.{new_name_is_name}
 use Rattle.morpheus_top.proofs.top.answer.Goals as goal
 
