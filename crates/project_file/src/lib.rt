@@ -13,5 +13,5 @@ mod tests;
 mod units;
 
 pub use errors::ProjectError;
-pub use parse::{LONGEST_FILE, parse_project};
+pub use parse::{LONGEST_FILE, oversized, parse_project};
 pub use projects::{Project, Unit};

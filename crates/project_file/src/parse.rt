@@ -16,7 +16,7 @@ use std::alloc::Global;
 pub const LONGEST_FILE: usize = 16_777_216;
 
 /// The error of a file that is too long, or want of memory.
-fn oversized(alloc: Global, name: &str) -> ProjectError
+pub fn oversized(alloc: Global, name: &str) -> ProjectError
     ensures { Why (λ fault. fault ≡ size name.now) ⊥ result }
 {
     match String::from_str(alloc, name) {
