@@ -113,3 +113,8 @@ module _ {S : Type 0} (tells : S → Type 0) (file : S → Lookup) (read_faults 
       → (tells_room s → tells s) → Alone s t → IsAbsent (tells_room t) (file t) name.now → HasAbsent (tells_room s) (file s) (map text_of names)
   has_absent s t names i name less is told a h =
       record { name = name.now; listed = listed names i name less is; absent = was_absent s t name.now told a h }
+
+pub get_or-self : {X : Type 0} (xs : List X) (i : ℕ) (d : X) → i < length xs → get_or xs i d ≡ get_or xs i (get_or xs i d)
+get_or-self [] i d h = absurd (omega arith)
+get_or-self (x ∷ xs) zero d h = refl
+get_or-self (x ∷ xs) (suc i) d h = get_or-self xs i d (omega arith)
