@@ -1,3 +1,4 @@
 pub mod Counts
 pub mod FirstNamed
 pub mod PackedLemmas
+mod ReadLemmas

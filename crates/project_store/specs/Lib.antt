@@ -11,3 +11,4 @@ pub mod SureSink
 pub mod SureStore
 pub mod Packed
 pub mod PackedFiles
+pub mod Reads

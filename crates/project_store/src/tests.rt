@@ -1,5 +1,6 @@
 use crate::{
-    MemorySink, MemoryStore, Sink, SinkFailed, Store, StoreFault, SureSink, SureStore, WriteFailed,
+    MemorySink, MemoryStore, ProjectError, Sink, SinkFailed, Store, StoreFault, SureSink,
+    SureStore, WriteFailed, read_files, read_project,
 };
 use std::alloc::{AllocError, Global};
 use std::test::Fail;
@@ -82,5 +83,36 @@ fn sure_sink_takes_what_fits(rt: HostRuntime) -> Result<(), Fail> {
     assert_eq!(rt; takes(&mut sink, b"three"), Err(SinkFailed));
     assert_eq!(rt; takes(&mut sink, b""), Ok(0));
     assert_eq!(rt; sink.bytes(), b"onetw".as_slice());
+    Ok(())
+}
+
+fn stored(alloc: Global, name: &str, text: &str) -> Result<SourceFile, AllocError> {
+    Ok(SourceFile {
+        name: String::from_str(alloc, name)?,
+        bytes: Vec::from_slice(alloc, text.as_bytes())?,
+    })
+}
+
+fn project_store(alloc: Global) -> Result<MemoryStore, AllocError> {
+    let mut list = Vec::new(alloc);
+    list.push(stored(alloc, "p", "headers = ['a.h']\n[[unit]]\nfile = 'm.c'\n")?)?;
+    list.push(stored(alloc, "m.c", "int m;")?)?;
+    list.push(stored(alloc, "a.h", "int a;")?)?;
+    Ok(MemoryStore::new(alloc, Files { list }, vec![in alloc; 5]?))
+}
+
+#[test]
+fn a_project_and_its_files_are_read(rt: HostRuntime) -> Result<(), Fail> {
+    let alloc = rt.alloc();
+    let mut store = project_store(alloc)?;
+    let project = read_project(alloc, &mut store, "p")?;
+    let files = read_files(alloc, &mut store, &project)?;
+    assert_eq!(rt; files.list.len(), 2);
+    assert_eq!(rt; files.list[0].name.as_str(), "a.h");
+    assert_eq!(rt; files.list[1].bytes.as_slice(), b"int m;".as_slice());
+    let absent = read_project(alloc, &mut store, "q");
+    assert!(rt; matches!(&absent, Err(ProjectError::Read)));
+    let broken = read_files(alloc, &mut store, &project);
+    assert!(rt; matches!(&broken, Err(ProjectError::Read)));
     Ok(())
 }
