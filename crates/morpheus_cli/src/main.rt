@@ -1,6 +1,9 @@
 //! The program `morpheus`: a command over the current folder and standard output.
 #![tactic(auto)]
 
+ghost use Rattle.std.specs.Prelude.{[], ◌∷◌};
+ghost use Rattle.morpheus_top.specs.Promises.{IsOneOf};
+
 mod folder;
 mod report;
 mod words;
@@ -22,7 +25,9 @@ const WANT_OF_MEMORY: u8 = 7;
 const NO_WORDS: u8 = 13;
 
 /// Reports that memory ended, and answers the status for it.
-fn without_words(rt: &impl Print) -> u8 {
+fn without_words(rt: &impl Print) -> u8
+    ensures { IsOneOf (WANT_OF_MEMORY ∷ SINK_FAULT ∷ []) result }
+{
     match rt.println("want of memory") {
         Ok(()) => WANT_OF_MEMORY,
         Err(_) => SINK_FAULT,
