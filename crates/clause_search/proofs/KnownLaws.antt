@@ -1,10 +1,14 @@
 -- What looking at a clause keeps.
-use Rattle.std.proofs.Common.{◌≡◌, ℕ, ℤ, Bool, List, Option, refl, sym, ap, ◌∙◌, subst}
+use Rattle.std.proofs.Common.{◌≡◌, ℕ, ℤ, Bool, List, [], Option, Some, refl, sym, ap, ◌∙◌, subst}
 use Rattle.refute_check.specs.Steps.{Judgement, false_clause, unit, neither, hint_judgement, clause_at}
 use Rattle.clause_search.specs.declared.trail.Effect.{Effect}
 use Rattle.clause_search.specs.declared.trail.Effect.TheVariants.{Refutes, Extends, Idle}
 use Rattle.clause_search.specs.Known.{Known, HasEffect, AreFollowed, GoesOn, IsRefutedAt, with_literal}
+use Rattle.clause_search.specs.Following.{followed}
 use Rattle.clause_search.proofs.FollowingLaws.{followed-more}
+
+pub AreFollowed-none : (clauses : List (List ℤ)) (start : List (Option Bool)) (known : Known) → known.values ≡ start → known.hints ≡ [] → AreFollowed clauses start known
+AreFollowed-none clauses start known values hints = record { follow = ap (followed clauses start) hints ∙ ap Some (sym values) }
 
 pub GoesOn-same : (clauses : List (List ℤ)) (before after : Known) → after ≡ before → GoesOn clauses before after
 GoesOn-same clauses before after same = record {

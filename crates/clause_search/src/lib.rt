@@ -2,6 +2,7 @@
 #![tactic(auto)]
 
 mod answers;
+mod grounds;
 mod literals;
 mod numbers;
 mod trail;

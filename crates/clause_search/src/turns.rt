@@ -1,9 +1,9 @@
 //! The search: it takes variables as false, one after another, and learns from each conflict.
 
-ghost use Rattle.std.specs.Prelude.{◌≡◌, ◌+◌, ◌-◌, ◌<◌, ◌≤◌, ◌^◌, ℕ, List, length, map, drop, IsTrue, IfOk, OnOk, IsSomeAnd, MatchOption, unwrap_or, slice_get, pos, false, true, [], ◌∷◌, ◌++◌};
+ghost use Rattle.std.specs.Prelude.{None, ◌≡◌, ◌+◌, ◌-◌, ◌<◌, ◌≤◌, ◌^◌, ℕ, List, length, map, drop, IsTrue, IfOk, IfSome, OnOk, IsSomeAnd, MatchOption, unwrap_or, slice_get, pos, false, true, [], ◌∷◌, ◌++◌};
 ghost use Rattle.std.specs.List.{list_all, list_any};
 ghost use Rattle.refute_check.specs.Clauses.{is_clause};
-ghost use Rattle.refute_check.specs.Steps.{all_false};
+ghost use Rattle.refute_check.specs.Steps.{all_false, step_fault};
 ghost use Rattle.clause_search.specs.Answers.{literals_of, IsAnswer};
 ghost use Rattle.clause_search.specs.Known.{known_of, IsRefutedAt};
 ghost use Rattle.clause_search.specs.Following.{numbered};
@@ -11,6 +11,7 @@ ghost use Rattle.clause_search.specs.Searches.{IsSearching, IsKnown, AreValued, 
 ghost use Rattle.clause_search.specs.Answers.{steps_of};
 
 use crate::answers::{Found, Step};
+use crate::grounds::Grounds;
 use crate::literals::are_false;
 use crate::trail::Trail;
 use crate::watched::Watched;
@@ -82,7 +83,7 @@ fn take_turn(
     let conflict = trail.propagate(given, &state.steps, state.watched.numbers())?;
     match conflict {
         Some(number) => {
-            let turn = learn(alloc, given, state, trail, number)?;
+            let turn = learn(alloc, vars, given, state, trail, number)?;
             Ok(turn)
         }
         None => {
@@ -92,32 +93,108 @@ fn take_turn(
     }
 }
 
-// Adds the step that one of the decisions is wrong, since they make the clause with this number false, and takes back the
-// last of them.
+// Adds a step, since the decisions make the clause with this number false.
 fn learn(
     alloc: Global,
+    vars: u32,
     given: &[Vec<i32>],
     state: &mut State,
     trail: Trail,
     number: u32,
 ) -> Result<Turn, NoMemory>
-    ensures { IfOk result (λ turn. (vars : ℕ)
-        → IsTrue (list_all (is_clause vars) (literals_of given.now))
-        → IsSearching vars (literals_of given.now) state.old
-        → IsKnown vars (literals_of given.now) state.old (known_of trail)
-        → IsRefutedAt (numbered (literals_of given.now) (steps_of state.old.steps.items)) (known_of trail) number
-        → HasTurned vars (literals_of given.now) state.new turn) }
+    requires formed { IsTrue (list_all (is_clause vars) (literals_of given.now)) }
+    requires searching { IsSearching vars (literals_of given.now) state.old }
+    requires known { IsKnown vars (literals_of given.now) state.old (known_of trail) }
+    requires refuted { IsRefutedAt (numbered (literals_of given.now) (steps_of state.old.steps.items)) (known_of trail) number }
+    ensures { IfOk result (HasTurned vars (literals_of given.now) state.new) }
+{
+    let grounds = Grounds::new(alloc, given, &state.steps, &state.decisions, &trail, number)?;
+    let found = refuting_hints(
+        alloc,
+        vars,
+        given,
+        &state.steps,
+        &grounds.decisions,
+        &grounds.numbers,
+    )?;
+    match found {
+        Some(hints) => {
+            let turn = add_step(given, state, grounds.decisions, hints)?;
+            Ok(turn)
+        }
+        // What has no part in a conflict isn't needed to find it, so this doesn't come up; but all decisions would do.
+        None => {
+            let decisions = Vec::from_slice(alloc, &state.decisions)?;
+            let hints = with_last(trail, number)?;
+            let turn = add_step(given, state, decisions, hints)?;
+            Ok(turn)
+        }
+    }
+}
+
+// The hints by which these decisions lead to a false clause, if the clauses with these numbers, in this order, suffice.
+fn refuting_hints(
+    alloc: Global,
+    vars: u32,
+    given: &[Vec<i32>],
+    steps: &[Step],
+    decisions: &[i32],
+    numbers: &[u32],
+) -> Result<Option<Vec<u32>>, NoMemory>
+    requires { is_clause vars decisions.now ≡ true }
+    ensures { IfOk result (λ found. IfSome found (λ hints.
+        step_fault vars (numbered (literals_of given.now) (steps_of steps.now)) decisions.now hints.items ≡ None)) }
+{
+    let mut trail = Trail::new(alloc, vars, decisions)?;
+    let conflict = trail.propagate(given, steps, numbers)?;
+    match conflict {
+        Some(number) => {
+            let hints = with_last(trail, number)?;
+            Ok(Some(hints))
+        }
+        None => Ok(None),
+    }
+}
+
+// The hints, with the number of a false clause behind them.
+fn with_last(trail: Trail, number: u32) -> Result<Vec<u32>, NoMemory>
+    ensures { IfOk result (λ hints. hints.items ≡ trail.hints.items ++ number ∷ []) }
 {
     let Trail { mut hints, .. } = trail;
     hints.push(number)?;
-    let clause = Vec::from_slice(alloc, &state.decisions)?;
+    Ok(hints)
+}
+
+// Adds the step that one of some decisions is wrong, and takes back the last of these and those after it.
+fn add_step(
+    given: &[Vec<i32>],
+    state: &mut State,
+    clause: Vec<i32>,
+    hints: Vec<u32>,
+) -> Result<Turn, NoMemory>
+    ensures { IfOk result (λ turn. (vars : ℕ)
+        → IsTrue (list_all (is_clause vars) (literals_of given.now))
+        → IsSearching vars (literals_of given.now) state.old
+        → step_fault vars (numbered (literals_of given.now) (steps_of state.old.steps.items)) clause.items hints.items ≡ None
+        → HasTurned vars (literals_of given.now) state.new turn) }
+{
     let step = number_at(given.len() + state.steps.len())?;
+    let last = clause.last().copied();
     state.steps.push(Step { clause, hints })?;
-    if state.decisions.pop().is_none() {
-        return Ok(Turn::Refuted);
+    match last {
+        None => Ok(Turn::Refuted),
+        Some(literal) => {
+            let count = place_of(&state.decisions, literal);
+            state.decisions.truncate(count);
+            state.watched.take_back(count, step)?;
+            Ok(Turn::Onward)
+        }
     }
-    state.watched.take_back(step)?;
-    Ok(Turn::Onward)
+}
+
+// How many decisions there are before this one.
+fn place_of(decisions: &[i32], literal: i32) -> usize {
+    decisions.iter().position(|decision| *decision == literal).unwrap_or(0)
 }
 
 // Where no clause was found to be false: the next decision, if there is a variable without value.
@@ -140,7 +217,7 @@ fn settle(
             Ok(Turn::Onward)
         }
         None => {
-            let turn = finish(alloc, given, state, trail)?;
+            let turn = finish(alloc, vars, given, state, trail)?;
             Ok(turn)
         }
     }
@@ -161,21 +238,21 @@ fn decide(state: &mut State, variable: usize) -> Result<(), NoMemory>
 // Where all variables have values: they satisfy the clauses, if none of these is false.
 fn finish(
     alloc: Global,
+    vars: u32,
     given: &[Vec<i32>],
     state: &mut State,
     trail: Trail,
 ) -> Result<Turn, NoMemory>
-    ensures { IfOk result (λ turn. (vars : ℕ)
-        → IsTrue (list_all (is_clause vars) (literals_of given.now))
-        → IsSearching vars (literals_of given.now) state.old
-        → IsKnown vars (literals_of given.now) state.old (known_of trail)
-        → AreValued trail.values.items (length trail.values.items)
-        → HasTurned vars (literals_of given.now) state.new turn) }
+    requires formed { IsTrue (list_all (is_clause vars) (literals_of given.now)) }
+    requires searching { IsSearching vars (literals_of given.now) state.old }
+    requires known { IsKnown vars (literals_of given.now) state.old (known_of trail) }
+    requires valued { AreValued trail.values.items (length trail.values.items) }
+    ensures { IfOk result (HasTurned vars (literals_of given.now) state.new) }
 {
     match first_false(&trail.values, given) {
         Some(index) => {
             let number = number_at(index)?;
-            let turn = learn(alloc, given, state, trail, number)?;
+            let turn = learn(alloc, vars, given, state, trail, number)?;
             Ok(turn)
         }
         None => {
