@@ -157,13 +157,16 @@ module _ (vars : ℕ) (values : List (Option Bool)) (sized : length values ≡ v
 -- them, and before the first of these they agree.
 module _ (vars : ℕ) (given : List (List ℤ)) (one other : ℕ → Bool) (one_holds : all_hold one given ≡ true) (other_holds : all_hold other given ≡ true) where
   lesser : (before : List ℤ) (first : ℤ) → IsDue given before first → is_literal vars first ≡ true → clause_holds one before ≡ false → clause_holds other before ≡ false → literal_holds one first ≡ false → literal_holds other first ≡ true → (variable : ℕ) × (variable ≤ vars) × IsLesserAt variable one other
-  lesser before first due is one_off other_off off on =
-      (variable_of first, literal_within vars first is, record {
-        numbered = literal_some vars first is;
-        same = record { each = λ variable some below. due.forced one other one_holds other_holds one_off other_off variable some (let first_some = literal_some vars first is in omega arith) };
-        off = sym (positive_holds one first due.positive) ∙ off;
-        on = sym (positive_holds other first due.positive) ∙ on;
-      })
+  lesser before first due is one_off other_off off on = (
+    variable_of first,
+    literal_within vars first is,
+    record {
+      numbered = literal_some vars first is;
+      same = record { each = λ variable some below. due.forced one other one_holds other_holds one_off other_off variable some (let first_some = literal_some vars first is in omega arith) };
+      off = sym (positive_holds one first due.positive) ∙ off;
+      on = sym (positive_holds other first due.positive) ∙ on;
+    },
+  )
 
   off_or_lesser : (before after : List ℤ) → AreDue given before after → is_clause vars after ≡ true → clause_holds one before ≡ false → clause_holds one after ≡ false → clause_holds other before ≡ false → (clause_holds other after ≡ false) ⊎ ((variable : ℕ) × (variable ≤ vars) × IsLesserAt variable one other)
   off_or_lesser before [] due formed one_off one_later other_off = inl refl
@@ -172,9 +175,9 @@ module _ (vars : ℕ) (given : List (List ℤ)) (one other : ℕ → Bool) (one_
       elim (cases_Bool (literal_holds other first)) [
         | inl on ↦ inr (lesser before first due.0 (first_literal vars first rest formed) one_off other_off one_both.0 on)
         | inr off ↦ elim (off_or_lesser (before ++ first ∷ []) rest due.1 (rest_clause vars first rest formed) (still_off one before first one_off one_both.0) one_both.1 (still_off other before first other_off off)) [
-            | inl later ↦ inl (or_from (literal_holds other first) (clause_holds other rest) off later)
-            | inr at ↦ inr at
-          ]
+          | inl later ↦ inl (or_from (literal_holds other first) (clause_holds other rest) off later)
+          | inr at ↦ inr at
+        ]
       ]
 
 -- all variables have values, and no clause is false
@@ -194,8 +197,8 @@ module _ (vars : ℕ) (given : List (List ℤ)) (steps : List refutations.Step) 
   no_greater : (other : ℕ → Bool) → all_hold other given ≡ true → IsNoGreater vars (assignment (found_values known.values)) other
   no_greater other other_holds = elim (off_or_lesser vars given (assignment (found_values known.values)) other holds other_holds [] decisions searching.due searching.formed refl off refl) [
     | inl other_off ↦ inl (record {
-          each = λ variable some within. sym (agrees_with_known vars given steps decisions known searching follows other other_holds other_off variable (assignment (found_values known.values) variable) (complete vars known.values sized valued variable some within));
-        })
+      each = λ variable some within. sym (agrees_with_known vars given steps decisions known searching follows other other_holds other_off variable (assignment (found_values known.values) variable) (complete vars known.values sized valued variable some within));
+    })
     | inr at ↦ inr at
   ]
 

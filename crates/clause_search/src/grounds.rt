@@ -76,9 +76,8 @@ fn is_needed(
     hint: u32,
 ) -> bool {
     match clause_with(given, steps, hint) {
-        Some(clause) => clause
-            .iter()
-            .any(|literal| value_of(values, *literal) == Some(true) && is_marked(marks, *literal)),
+        Some(clause) => clause.iter().any(|literal| value_of(values, *literal) == Some(true)
+            && is_marked(marks, *literal)),
         None => false,
     }
 }

@@ -194,7 +194,10 @@ fn add_step(
 
 // How many decisions there are before this one.
 fn place_of(decisions: &[i32], literal: i32) -> usize {
-    decisions.iter().position(|decision| *decision == literal).unwrap_or(0)
+    decisions
+        .iter()
+        .position(|decision| *decision == literal)
+        .unwrap_or(0)
 }
 
 // Where no clause was found to be false: the next decision, if there is a variable without value.
@@ -302,33 +305,9 @@ fn first_false(values: &[Option<bool>], clauses: &[Vec<i32>]) -> Option<usize>
 fn values_of(alloc: Global, values: &[Option<bool>]) -> Result<Vec<bool>, NoMemory>
     ensures { IfOk result (λ all. all.items ≡ map (λ value. unwrap_or value false) (drop 1 values.now)) }
 {
-    values.iter().skip(1).map(|value| value.unwrap_or(false)).collect(alloc)
-}
-
-#[cfg(test)]
-mod tests {
-    use super::*;
-    use refute_check::Checker;
-    use std::process::Abort;
-    use std::test::Fail;
-
-    fn clauses_of(alloc: Global, clauses: &[&[i32]]) -> Result<Vec<Vec<i32>>, NoMemory> {
-        let mut all = Vec::new(alloc);
-        for clause in clauses {
-            all.push(Vec::from_slice(alloc, clause)?)?;
-        }
-        Ok(all)
-    }
-
-    #[test]
-    fn the_least_assignment_is_found(rt: HostRuntime) -> Result<(), Fail> {
-        let clauses = clauses_of(rt.alloc(), &[&[1, 2], &[-2, 3], &[-1, -3], &[2, 4]])?;
-        match search(rt.alloc(), 4, &clauses)? {
-            Found::Least(values) => {
-                assert_eq!(rt; values.as_slice(), [false, true, true, false].as_slice())
-            }
-            Found::Refuted(_) => assert!(rt; false),
-        }
-        Ok(())
-    }
+    values
+        .iter()
+        .skip(1)
+        .map(|value| value.unwrap_or(false))
+        .collect(alloc)
 }
