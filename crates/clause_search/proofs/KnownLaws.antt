@@ -2,8 +2,7 @@
 use Rattle.std.proofs.Common.{◌≡◌, ℕ, ℤ, Bool, List, [], Option, Some, refl, sym, ap, ◌∙◌, subst}
 use Rattle.refute_check.specs.Steps.{Judgement, false_clause, unit, neither, hint_judgement, clause_at}
 use Rattle.clause_search.specs.declared.trail.Effect.{Effect}
-use Rattle.clause_search.specs.declared.trail.Effect.TheVariants.{Refutes}
-use Rattle.clause_search.specs.Known.{Known, HasEffect, AreFollowed, GoesOn, IsRefutedAt, with_literal}
+use Rattle.clause_search.specs.Known.{Known, HasEffect, AreFollowed, GoesOn, with_literal}
 use Rattle.clause_search.specs.Following.{followed}
 use Rattle.clause_search.proofs.FollowingLaws.{followed-more}
 

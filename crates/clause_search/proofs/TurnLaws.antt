@@ -1,8 +1,7 @@
 -- What a turn of the search comes to.
-use Rattle.std.proofs.Common.{◌≡◌, ℕ, zero, suc, ◌+◌, ◌-◌, ◌<◌, ◌≤◌, ℤ, pos, negsuc, Bool, true, false, not, ◌&&◌, ◌||◌, ◌⊎◌, leb, List, [], ◌∷◌, ◌++◌, length, get_or, map, take, drop, replicate, Option, None, Some, is_none, unwrap_or, option_to_list, MatchOption, IsSomeAnd, slice_get, refl, sym, ap, ◌∙◌, subst, inl, inr, arith}
-use Rattle.std.proofs.Math.Bool.{not-not}
-use Rattle.std.proofs.lemmas.Bool.{cases_Bool, false≢true, false_from_ne_true, leb-true, le-leb, not-false, or_from, or_parts, or_left, or_right}
-use Rattle.std.proofs.lemmas.List.{map_push, take-append-drop, append-nil, append_assoc, get_or-drop, get_or-map, length-drop, length-map, length-replicate, length-set}
+use Rattle.std.proofs.Common.{◌≡◌, ℕ, zero, suc, ◌+◌, ◌-◌, ◌<◌, ◌≤◌, ℤ, pos, negsuc, Bool, true, false, not, ◌&&◌, ◌||◌, ◌⊎◌, List, [], ◌∷◌, ◌++◌, length, get_or, map, take, drop, Option, None, Some, is_none, unwrap_or, IsSomeAnd, slice_get, refl, sym, ap, ◌∙◌, subst, inl, inr, arith}
+use Rattle.std.proofs.lemmas.Bool.{cases_Bool, false≢true, false_from_ne_true, le-leb, not-false, or_from, or_parts, or_right}
+use Rattle.std.proofs.lemmas.List.{map_push, take-append-drop, get_or-drop, get_or-map, length-drop, length-map, length-replicate, length-set}
 use Rattle.std.proofs.lemmas.List.Folds.{list_any-append}
 use Rattle.std.proofs.lemmas.Option.{none-some, same_Some, slice_get-get_or, slice_get_within}
 use Rattle.std.specs.Cmp.Derive.{both_true}
@@ -12,7 +11,7 @@ use Rattle.refute_check.specs.Refutations as refutations
 use Rattle.refute_check.specs.Refutations.{IsRefutation, has_no_literals, well_checked}
 use Rattle.refute_check.specs.Steps.{Judgement, no_values, literal_of, value_of, is_false, taken_true, taken_false, all_taken_false, all_false, clause_at, hint_judgement, hint_fault, hints_fault, step_fault}
 use Rattle.refute_check.specs.StepLaws.{Agrees, left_true, right_true, all_taken_false-agrees, no_values-agrees, well_checked-append, all_hold-steps}
-use Rattle.clause_search.specs.Least.{assignment, AgreeUpTo, IsLesserAt, IsNoGreater, IsLeast}
+use Rattle.clause_search.specs.Least.{assignment, IsLesserAt, IsNoGreater, IsLeast}
 use Rattle.clause_search.specs.declared.answers.Step.{Step}
 use Rattle.clause_search.specs.Answers.{step_of, steps_of}
 use Rattle.clause_search.specs.Following.{numbered}
@@ -20,7 +19,7 @@ use Rattle.clause_search.specs.Known.{Known, AreFollowed, IsRefutedAt}
 use Rattle.clause_search.specs.Searches.{IsDue, AreDue, IsSearch, AreValued, IsFirstOpen}
 use Rattle.clause_search.proofs.FollowingLaws.{judgement-false, hints_fault-followed, length-followed, followed-agrees, followed-keeps}
 use Rattle.clause_search.proofs.NumberLaws.{clause_at-given}
-use Rattle.clause_search.proofs.DecisionLaws.{all_positive, all_positive-due, literal_some, literal_within, is_clause-push, is_clause-front, named_numbers, decided_false, positive_holds, clause_holds-off, AreDue-push, AreDue-front, first_literal, rest_clause}
+use Rattle.clause_search.proofs.DecisionLaws.{all_positive-due, literal_some, literal_within, is_clause-push, is_clause-front, named_numbers, decided_false, positive_holds, clause_holds-off, AreDue-push, AreDue-front, first_literal, rest_clause}
 
 length-all_taken_false : (values : List (Option Bool)) (clause : List ℤ) → length (all_taken_false values clause) ≡ length values
 length-all_taken_false values [] = refl

@@ -1,11 +1,11 @@
 -- What follows from being the least assignment.
-use Rattle.std.proofs.Common.{◌≡◌, ℕ, zero, suc, ◌+◌, ◌-◌, ◌<◌, ◌≤◌, ℤ, pos, negsuc, Bool, true, false, not, ◌&&◌, ◌||◌, ◌⊎◌, leb, List, [], ◌∷◌, length, get_or, refl, sym, ap, ◌∙◌, inl, inr, arith}
-use Rattle.std.proofs.lemmas.Bool.{false≢true, leb-true, cases_lt, cases_order, both_ways}
+use Rattle.std.proofs.Common.{◌≡◌, ℕ, suc, ◌≤◌, ℤ, pos, negsuc, Bool, true, false, not, ◌&&◌, leb, List, [], ◌∷◌, refl, sym, ap, ◌∙◌, inl, inr, arith}
+use Rattle.std.proofs.lemmas.Bool.{leb-true, cases_lt, cases_order, both_ways}
 use Rattle.std.proofs.lemmas.List.{ext_get_or}
 use Rattle.std.specs.List.{list_all}
 use Rattle.refute_check.specs.Clauses.{variable_of, is_literal, names_variable, is_clause, literal_holds, clause_holds, all_hold}
 use Rattle.refute_check.specs.StepLaws.{left_true, right_true}
-use Rattle.clause_search.specs.Least.{assignment, AgreeUpTo, IsLesserAt, IsNoGreater, IsLeast, LeastOnFirstLaw, OneLeastLaw, VariablesLaw}
+use Rattle.clause_search.specs.Least.{assignment, AgreeUpTo, IsLesserAt, IsNoGreater, LeastOnFirstLaw, OneLeastLaw, VariablesLaw}
 
 no_greater_on_first : (vars count : ℕ) (one other : ℕ → Bool) → count ≤ vars → IsNoGreater vars one other → IsNoGreater count one other
 no_greater_on_first vars count one other within (inl same) = inl (record { each = λ variable some below. same.each variable some (omega arith) })

@@ -1,5 +1,7 @@
 //! Each answer once, and a refutation that the checker accepts.
 
+ghost use Rattle.std.specs.Prelude.{◌<◌};
+
 use crate::{Found, Step, are_clauses, search};
 use cond_formula::NoMemory;
 use refute_check::Checker;

@@ -1,9 +1,8 @@
-use Rattle.std.proofs.Common.{◌≡◌, ℕ, ◌-◌, ℤ, List, [], ◌∷◌, ◌++◌, length, take, slice_get, None, sym, ap, ◌∙◌, subst}
+use Rattle.std.proofs.Common.{◌≡◌, ◌-◌, List, [], ◌∷◌, ◌++◌, length, take, slice_get, None, sym, ◌∙◌, subst}
 use Rattle.refute_check.specs.Refutations as refutations
 use Rattle.refute_check.specs.Refutations.{IsRefutation}
 use Rattle.clause_search.specs.declared.answers.Step.{Step}
 use Rattle.clause_search.specs.Answers.{literals_of, step_of, steps_of}
-use Rattle.clause_search.specs.Searches.{IsSearch}
 use Rattle.clause_search.proofs.TurnLaws.{steps_of-push, no_last, taken_back, refutation}
 use Rattle.clause_search.proofs.turns.add_step.Goals as goal
 

@@ -1,4 +1,4 @@
-use Rattle.std.proofs.Common.{◌≡◌, ℤ, Bool, true, false, List, Option, sym, ap, ◌∙◌, subst, slice_get, IsSomeAnd}
+use Rattle.std.proofs.Common.{◌≡◌, Bool, true, false, List, Option, sym, ap, ◌∙◌, subst, slice_get, IsSomeAnd}
 use Rattle.std.specs.List.{list_any}
 use Rattle.refute_check.specs.Steps.{all_false}
 use Rattle.clause_search.specs.Answers.{literals_of, steps_of}

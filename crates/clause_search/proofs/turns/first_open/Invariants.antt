@@ -1,4 +1,3 @@
-use Rattle.std.proofs.Common.{◌≤◌}
 use Rattle.clause_search.specs.Searches.{AreValued}
 use Rattle.clause_search.proofs.turns.first_open.Given as goal
 

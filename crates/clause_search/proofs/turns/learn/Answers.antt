@@ -1,4 +1,4 @@
-use Rattle.std.proofs.Common.{◌≡◌, ℕ, ℤ, List, [], ◌∷◌, ◌++◌, None, ◌∙◌, ap}
+use Rattle.std.proofs.Common.{◌≡◌, None, ◌∙◌}
 use Rattle.refute_check.specs.Steps.{step_fault}
 use Rattle.clause_search.specs.Answers.{literals_of, steps_of}
 use Rattle.clause_search.specs.Following.{numbered}

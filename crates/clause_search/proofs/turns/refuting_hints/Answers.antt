@@ -1,4 +1,4 @@
-use Rattle.std.proofs.Common.{ℕ, List, Option, Some, IfSome, ap, ◌∙◌, subst}
+use Rattle.std.proofs.Common.{ℕ, List, Option, IfSome, ap, ◌∙◌, subst}
 use Rattle.refute_check.specs.Steps.{no_values, all_taken_false, step_fault}
 use Rattle.clause_search.specs.Answers.{literals_of, steps_of}
 use Rattle.clause_search.specs.Following.{numbered}
