@@ -2,6 +2,7 @@
 #![tactic(auto)]
 
 mod answers;
+mod assignments;
 mod forms;
 mod grounds;
 mod laws;

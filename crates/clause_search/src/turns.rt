@@ -1,18 +1,17 @@
 //! The search: it takes variables as false, one after another, and learns from each conflict.
 
-ghost use Rattle.std.specs.Prelude.{None, ◌≡◌, ◌+◌, ◌-◌, ◌<◌, ◌≤◌, ◌^◌, ℕ, List, length, map, drop, IsTrue, IfOk, IfSome, OnOk, IsSomeAnd, MatchOption, unwrap_or, slice_get, pos, false, true, [], ◌∷◌, ◌++◌};
-ghost use Rattle.std.specs.List.{list_all, list_any};
+ghost use Rattle.std.specs.Prelude.{◌≡◌, ℕ, ◌+◌, ◌<◌, pos, true, [], ◌∷◌, ◌++◌, length, IsTrue, IfOk, OnOk, IfSome};
+ghost use Rattle.std.specs.List.{list_all};
 ghost use Rattle.refute_check.specs.Clauses.{is_clause};
-ghost use Rattle.refute_check.specs.Steps.{all_false, step_fault};
-ghost use Rattle.clause_search.specs.Answers.{literals_of, IsAnswer};
+ghost use Rattle.refute_check.specs.Steps.{step_fault};
+ghost use Rattle.clause_search.specs.Answers.{literals_of, steps_of, IsAnswer};
 ghost use Rattle.clause_search.specs.Known.{known_of, IsRefutedAt};
 ghost use Rattle.clause_search.specs.Following.{numbered};
-ghost use Rattle.clause_search.specs.Searches.{IsSearching, IsKnown, AreValued, IsFirstOpen, HasTurned};
-ghost use Rattle.clause_search.specs.Answers.{steps_of};
+ghost use Rattle.clause_search.specs.Searches.{IsSearching, IsKnown, AreValued, HasTurned};
 
 use crate::answers::{Found, Step};
+use crate::assignments::{first_false, first_open, values_of};
 use crate::grounds::Grounds;
-use crate::literals::are_false;
 use crate::trail::Trail;
 use crate::watched::Watched;
 use cond_formula::NoMemory;
@@ -274,40 +273,4 @@ fn number_at(index: usize) -> Result<u32, NoMemory>
     } else {
         Err(AllocError)
     }
-}
-
-// The first variable without value.
-fn first_open(values: &[Option<bool>]) -> Option<usize>
-    ensures { MatchOption result (AreValued values.now (length values.now)) (IsFirstOpen values.now) }
-{
-    for variable in 1..values.len() {
-        if values[variable].is_none() {
-            return Some(variable);
-        }
-    }
-    None
-}
-
-// The place of the first clause whose literals are all false.
-fn first_false(values: &[Option<bool>], clauses: &[Vec<i32>]) -> Option<usize>
-    ensures { MatchOption result (list_any (all_false values.now) (literals_of clauses.now) ≡ false)
-        (λ index. IsSomeAnd (slice_get (literals_of clauses.now) index) (λ clause. all_false values.now clause ≡ true)) }
-{
-    for (index, clause) in clauses.iter().enumerate() {
-        if are_false(values, clause) {
-            return Some(index);
-        }
-    }
-    None
-}
-
-// The values of the variables in the order of their numbers, without that at the place of number 0.
-fn values_of(alloc: Global, values: &[Option<bool>]) -> Result<Vec<bool>, NoMemory>
-    ensures { IfOk result (λ all. all.items ≡ map (λ value. unwrap_or value false) (drop 1 values.now)) }
-{
-    values
-        .iter()
-        .skip(1)
-        .map(|value| value.unwrap_or(false))
-        .collect(alloc)
 }
