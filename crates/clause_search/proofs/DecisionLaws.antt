@@ -1,7 +1,6 @@
 -- Decisions: they are a clause, each is known to be false, and each was due.
-use Rattle.std.proofs.Common.{◌≡◌, ℕ, zero, suc, ◌+◌, ◌<◌, ◌≤◌, ℤ, pos, negsuc, Bool, true, false, not, ◌&&◌, ◌||◌, eqb, leb, List, [], ◌∷◌, ◌++◌, length, get_or, set, replicate, Option, None, Some, refl, sym, ap, ◌∙◌, subst, inl, inr, ⊎_elim, arith}
-use Rattle.std.proofs.Math.Bool.{and-true, or-false}
-use Rattle.std.proofs.lemmas.Bool.{cases_eq, false≢true, false_from_ne_true, eqb-true, eqb-false, ne_eqb, leb-true, or_cases, or_parts, or_from, or_left, or_right, eq-eqb, not-true}
+use Rattle.std.proofs.Common.{◌≡◌, ℕ, zero, suc, ◌+◌, ◌<◌, ◌≤◌, ℤ, pos, negsuc, Bool, true, false, not, ◌&&◌, ◌||◌, eqb, leb, List, [], ◌∷◌, ◌++◌, length, filter, get_or, set, Option, None, Some, refl, sym, ap, ◌∙◌, subst, inl, inr, arith}
+use Rattle.std.proofs.lemmas.Bool.{false≢true, eqb-true, eqb-false, ne_eqb, leb-true, cond_both, or_cases, or_parts, or_from, or_left, or_right, eq-eqb, not-true}
 use Rattle.std.proofs.lemmas.List.{append-nil, append_assoc, get_or-set_same, length-set, length-replicate}
 use Rattle.std.proofs.lemmas.List.Folds.{list_any-append}
 use Rattle.std.proofs.lemmas.Option.{none-some}
@@ -68,6 +67,20 @@ named_numbers vars (first ∷ rest) variable formed named = elim (or_cases (eqb 
       rw (← eqb-true (variable_of first) variable here) (literal_some vars first is, literal_within vars first is)
   | inr later ↦ named_numbers vars rest variable (rest_clause vars first rest formed) later
 ]
+
+names_variable-filter : (test : ℤ → Bool) (clause : List ℤ) (variable : ℕ) → names_variable clause variable ≡ false → names_variable (filter test clause) variable ≡ false
+names_variable-filter test [] variable unnamed = refl
+names_variable-filter test (first ∷ rest) variable unnamed =
+    let parts = or_parts (eqb (variable_of first) variable) (names_variable rest variable) unnamed in
+    let later = names_variable-filter test rest variable parts.1 in
+    cond_both (test first) (first ∷ filter test rest) (filter test rest) (λ (kept : List ℤ). names_variable kept variable ≡ false) (λ _. or_from (eqb (variable_of first) variable) (names_variable (filter test rest) variable) parts.0 later) (λ _. later)
+
+-- some of the decisions
+pub is_clause-filter : (vars : ℕ) (test : ℤ → Bool) (clause : List ℤ) → is_clause vars clause ≡ true → is_clause vars (filter test clause) ≡ true
+is_clause-filter vars test [] formed = refl
+is_clause-filter vars test (first ∷ rest) formed =
+    let later = is_clause-filter vars test rest (rest_clause vars first rest formed) in
+    cond_both (test first) (first ∷ filter test rest) (filter test rest) (λ (kept : List ℤ). is_clause vars kept ≡ true) (λ _. made_clause vars first (filter test rest) (first_literal vars first rest formed) (names_variable-filter test rest (variable_of first) (named_once vars first rest formed)) later) (λ _. later)
 
 set_false : (values : List (Option Bool)) (i variable : ℕ) → get_or values variable None ≡ Some false → get_or (set values i (Some false)) variable None ≡ Some false
 set_false [] i variable is = absurd (none-some false is)

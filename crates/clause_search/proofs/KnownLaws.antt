@@ -1,10 +1,13 @@
 -- What looking at a clause keeps.
-use Rattle.std.proofs.Common.{◌≡◌, ℕ, ℤ, Bool, List, Option, refl, sym, ap, ◌∙◌, subst}
+use Rattle.std.proofs.Common.{◌≡◌, ℕ, ℤ, Bool, List, [], Option, Some, refl, sym, ap, ◌∙◌, subst}
 use Rattle.refute_check.specs.Steps.{Judgement, false_clause, unit, neither, hint_judgement, clause_at}
 use Rattle.clause_search.specs.declared.trail.Effect.{Effect}
-use Rattle.clause_search.specs.declared.trail.Effect.TheVariants.{Refutes, Extends, Idle}
-use Rattle.clause_search.specs.Known.{Known, HasEffect, AreFollowed, GoesOn, IsRefutedAt, with_literal}
+use Rattle.clause_search.specs.Known.{Known, HasEffect, AreFollowed, GoesOn, with_literal}
+use Rattle.clause_search.specs.Following.{followed}
 use Rattle.clause_search.proofs.FollowingLaws.{followed-more}
+
+pub AreFollowed-none : (clauses : List (List ℤ)) (start : List (Option Bool)) (known : Known) → known.values ≡ start → known.hints ≡ [] → AreFollowed clauses start known
+AreFollowed-none clauses start known values hints = record { follow = ap (followed clauses start) hints ∙ ap Some (sym values) }
 
 pub GoesOn-same : (clauses : List (List ℤ)) (before after : Known) → after ≡ before → GoesOn clauses before after
 GoesOn-same clauses before after same = record {
@@ -26,13 +29,3 @@ module _ (clauses : List (List ℤ)) (number : ℕ) (effect : Effect) (before af
 
   pub goes_on : HasEffect (hint_judgement before.values (clause_at clauses number)) number effect before after → GoesOn clauses before after
   goes_on has = judged_goes_on (hint_judgement before.values (clause_at clauses number)) refl has
-
-  judged_refuted : (judgement : Judgement) → HasEffect judgement number effect before after → effect ≡ Refutes → (judgement ≡ false_clause) × (after ≡ before)
-  judged_refuted false_clause has is = (refl, has.1)
-  judged_refuted (unit literal) has is = let apart : Refutes ≡ Extends = sym is ∙ has.0 in cc
-  judged_refuted neither has is = let apart : Refutes ≡ Idle = sym is ∙ has.0 in cc
-
-  pub refuted : HasEffect (hint_judgement before.values (clause_at clauses number)) number effect before after → effect ≡ Refutes → IsRefutedAt clauses after number
-  refuted has is =
-      let both = judged_refuted (hint_judgement before.values (clause_at clauses number)) has is in
-      subst (λ (known : Known). IsRefutedAt clauses known number) (sym both.1) (record { judged = both.0 })

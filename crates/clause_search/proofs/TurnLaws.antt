@@ -1,10 +1,9 @@
 -- What a turn of the search comes to.
-use Rattle.std.proofs.Common.{◌≡◌, ℕ, zero, suc, ◌+◌, ◌-◌, ◌<◌, ◌≤◌, ℤ, pos, negsuc, Bool, true, false, not, ◌&&◌, ◌||◌, ◌⊎◌, leb, List, [], ◌∷◌, ◌++◌, length, get_or, map, drop, replicate, Option, None, Some, is_none, unwrap_or, option_to_list, MatchOption, IsSomeAnd, slice_get, refl, sym, ap, ◌∙◌, subst, inl, inr, arith}
-use Rattle.std.proofs.Math.Bool.{not-not}
-use Rattle.std.proofs.lemmas.Bool.{cases_Bool, false≢true, false_from_ne_true, leb-true, le-leb, not-false, or_from, or_parts, or_left, or_right}
-use Rattle.std.proofs.lemmas.List.{map_push, append-nil, append_assoc, get_or-drop, get_or-map, length-drop, length-map, length-replicate, length-set}
+use Rattle.std.proofs.Common.{◌≡◌, ℕ, zero, suc, ◌+◌, ◌-◌, ◌<◌, ◌≤◌, ℤ, pos, negsuc, Bool, true, false, not, ◌&&◌, ◌||◌, ◌⊎◌, List, [], ◌∷◌, ◌++◌, length, get_or, map, take, drop, Option, None, Some, is_none, unwrap_or, IsSomeAnd, slice_get, refl, sym, ap, ◌∙◌, subst, inl, inr, arith}
+use Rattle.std.proofs.lemmas.Bool.{cases_Bool, false≢true, false_from_ne_true, le-leb, not-false, or_from, or_parts, or_right}
+use Rattle.std.proofs.lemmas.List.{map_push, take-append-drop, get_or-drop, get_or-map, length-drop, length-map, length-replicate, length-set}
 use Rattle.std.proofs.lemmas.List.Folds.{list_any-append}
-use Rattle.std.proofs.lemmas.Option.{none-some, same_Some, slice_get_within}
+use Rattle.std.proofs.lemmas.Option.{none-some, same_Some, slice_get-get_or, slice_get_within}
 use Rattle.std.specs.Cmp.Derive.{both_true}
 use Rattle.std.specs.List.{list_all, list_any}
 use Rattle.refute_check.specs.Clauses.{variable_of, is_positive, is_literal, names_variable, is_clause, literal_holds, clause_holds, all_hold}
@@ -12,7 +11,7 @@ use Rattle.refute_check.specs.Refutations as refutations
 use Rattle.refute_check.specs.Refutations.{IsRefutation, has_no_literals, well_checked}
 use Rattle.refute_check.specs.Steps.{Judgement, no_values, literal_of, value_of, is_false, taken_true, taken_false, all_taken_false, all_false, clause_at, hint_judgement, hint_fault, hints_fault, step_fault}
 use Rattle.refute_check.specs.StepLaws.{Agrees, left_true, right_true, all_taken_false-agrees, no_values-agrees, well_checked-append, all_hold-steps}
-use Rattle.clause_search.specs.Least.{assignment, AgreeUpTo, IsLesserAt, IsNoGreater, IsLeast}
+use Rattle.clause_search.specs.Least.{assignment, IsLesserAt, IsNoGreater, IsLeast}
 use Rattle.clause_search.specs.declared.answers.Step.{Step}
 use Rattle.clause_search.specs.Answers.{step_of, steps_of}
 use Rattle.clause_search.specs.Following.{numbered}
@@ -20,7 +19,7 @@ use Rattle.clause_search.specs.Known.{Known, AreFollowed, IsRefutedAt}
 use Rattle.clause_search.specs.Searches.{IsDue, AreDue, IsSearch, AreValued, IsFirstOpen}
 use Rattle.clause_search.proofs.FollowingLaws.{judgement-false, hints_fault-followed, length-followed, followed-agrees, followed-keeps}
 use Rattle.clause_search.proofs.NumberLaws.{clause_at-given}
-use Rattle.clause_search.proofs.DecisionLaws.{all_positive, all_positive-due, literal_some, literal_within, is_clause-push, is_clause-front, named_numbers, decided_false, positive_holds, clause_holds-off, AreDue-push, AreDue-front, first_literal, rest_clause}
+use Rattle.clause_search.proofs.DecisionLaws.{all_positive-due, literal_some, literal_within, is_clause-push, is_clause-front, named_numbers, decided_false, positive_holds, clause_holds-off, AreDue-push, AreDue-front, first_literal, rest_clause}
 
 length-all_taken_false : (values : List (Option Bool)) (clause : List ℤ) → length (all_taken_false values clause) ≡ length values
 length-all_taken_false values [] = refl
@@ -46,56 +45,45 @@ still_off : (values : ℕ → Bool) (before : List ℤ) (first : ℤ) → clause
 still_off values before first off here =
     list_any-append (literal_holds values) before (first ∷ []) ∙ or_from (clause_holds values before) (literal_holds values first || false) off (or_from (literal_holds values first) false here refl)
 
--- the step that is found at a conflict
-unfoldable pub learned : List ℤ → Known → ℕ → refutations.Step
-learned decisions known number = record { clause = decisions; hints = known.hints ++ number ∷ [] }
+-- once a step is added
+pub steps_of-push : (before after : List Step) (step : Step) → after ≡ before ++ step ∷ [] → steps_of after ≡ steps_of before ++ step_of step ∷ []
+steps_of-push before after step added = ap steps_of added ∙ map_push step_of before step
 
--- once it is added
-pub steps_of-learned : (before after : List Step) (step : Step) (decisions : List ℤ) (known : Known) (number : ℕ) → after ≡ before ++ step ∷ [] → step.clause.items ≡ decisions → step.hints.items ≡ known.hints ++ number ∷ [] → steps_of after ≡ steps_of before ++ learned decisions known number ∷ []
-unfolding learned
-steps_of-learned before after step decisions known number added clause hints =
-    let same : step_of step ≡ record { clause = decisions; hints = known.hints ++ number ∷ [] } = rw (clause, hints) refl in
-    ap steps_of added ∙ map_push step_of before step ∙ ap (λ (s : refutations.Step). steps_of before ++ s ∷ []) same
+pub no_last : {X : Type 0} (xs : List X) → slice_get xs (length xs - 1) ≡ None → xs ≡ []
+no_last [] none = refl
+no_last (first ∷ rest) none = absurd (none-some (get_or (first ∷ rest) (length (first ∷ rest) - 1) first) (sym none ∙ slice_get-get_or (first ∷ rest) (length (first ∷ rest) - 1) first (omega arith)))
 
--- what was taken off the end
-pub popped_one : (P : Type 0) (all front : List ℤ) (last : Option ℤ) → all ≡ front ++ option_to_list last → is_none last ≡ false → ((literal : ℤ) → all ≡ front ++ literal ∷ [] → P) → P
-popped_one P all front None is some onward = absurd (false≢true (sym some))
-popped_one P all front (Some literal) is some onward = onward literal is
+-- a step for literals that lead to a clause that is false
+pub step_fine : (vars : ℕ) (clauses : List (List ℤ)) (decisions : List ℤ) (known : Known) (number : ℕ) → is_clause vars decisions ≡ true → AreFollowed clauses (all_taken_false (no_values vars) decisions) known → IsRefutedAt clauses known number → step_fault vars clauses decisions (known.hints ++ number ∷ []) ≡ None
+step_fine vars clauses decisions known number formed follows refuted =
+    let passed = hints_fault-followed clauses (all_taken_false (no_values vars) decisions) known.values known.hints (number ∷ []) follows.follow in
+    rw formed (passed ∙ ap (λ (j : Judgement). hint_fault j (λ literal. hints_fault clauses (taken_true known.values literal) []) []) refuted.judged)
 
-pub popped_none : (P : ℤ → Type 0) (count rest : ℕ) (last : Option ℤ) → is_none last ≡ true → MatchOption last ((count ≡ 0) × (rest ≡ 0)) P → count ≡ 0
-popped_none P count rest None none cases = cases.0
-popped_none P count rest (Some literal) none cases = absurd (false≢true none)
+module _ (vars : ℕ) (given : List (List ℤ)) (steps : List refutations.Step) (decisions : List ℤ) (searching : IsSearch vars given steps decisions) (step : refutations.Step) (fine : step_fault vars (numbered given steps) step.clause step.hints ≡ None) where
+  checked_more : well_checked vars given (steps ++ step ∷ []) ≡ true
+  checked_more = well_checked-append vars given steps step ∙ both_true searching.checked (ap is_none fine)
+
+  -- the last decisions are taken back
+  pub taken_back : (count : ℕ) → IsSearch vars given (steps ++ step ∷ []) (take count decisions)
+  taken_back count =
+      let parts : decisions ≡ take count decisions ++ drop count decisions = sym (take-append-drop count decisions) in
+      record {
+        formed = is_clause-front vars (take count decisions) (drop count decisions) (subst (λ (ds : List ℤ). is_clause vars ds ≡ true) parts searching.formed);
+        checked = checked_more;
+        due = AreDue-front given [] (take count decisions) (drop count decisions) (subst (λ (ds : List ℤ). AreDue given [] ds) parts searching.due);
+      }
+
+  -- there are none
+  pub refutation : list_all (is_clause vars) given ≡ true → step.clause ≡ [] → IsRefutation vars given (steps ++ step ∷ [])
+  refutation formed none = record {
+    formed = formed;
+    checked = checked_more;
+    ended =
+        list_any-append (λ (s : refutations.Step). has_no_literals s.clause) steps (step ∷ [])
+        ∙ or_right (list_any (λ (s : refutations.Step). has_no_literals s.clause) steps) (has_no_literals step.clause || false) (rw none refl);
+  }
 
 module _ (vars : ℕ) (given : List (List ℤ)) (steps : List refutations.Step) (decisions : List ℤ) (known : Known) (searching : IsSearch vars given steps decisions) (follows : AreFollowed (numbered given steps) (all_taken_false (no_values vars) decisions) known) where
-  module _ (number : ℕ) (refuted : IsRefutedAt (numbered given steps) known number) where
-    step_fine : step_fault vars (numbered given steps) decisions (known.hints ++ number ∷ []) ≡ None
-    step_fine =
-        let passed = hints_fault-followed (numbered given steps) (all_taken_false (no_values vars) decisions) known.values known.hints (number ∷ []) follows.follow in
-        rw searching.formed (passed ∙ ap (λ (j : Judgement). hint_fault j (λ literal. hints_fault (numbered given steps) (taken_true known.values literal) []) []) refuted.judged)
-
-    checked_more : well_checked vars given (steps ++ learned decisions known number ∷ []) ≡ true
-    unfolding learned
-    checked_more = well_checked-append vars given steps (learned decisions known number) ∙ both_true searching.checked (ap is_none step_fine)
-
-    -- the last decision is taken back
-    pub taken_back : (front : List ℤ) (last : ℤ) → decisions ≡ front ++ last ∷ [] → IsSearch vars given (steps ++ learned decisions known number ∷ []) front
-    taken_back front last is = record {
-      formed = is_clause-front vars front (last ∷ []) (subst (λ (ds : List ℤ). is_clause vars ds ≡ true) is searching.formed);
-      checked = checked_more;
-      due = AreDue-front given [] front (last ∷ []) (subst (λ (ds : List ℤ). AreDue given [] ds) is searching.due);
-    }
-
-    -- there is none
-    pub refutation : list_all (is_clause vars) given ≡ true → decisions ≡ [] → IsRefutation vars given (steps ++ learned decisions known number ∷ [])
-    unfolding learned
-    refutation formed none = record {
-      formed = formed;
-      checked = checked_more;
-      ended =
-          list_any-append (λ (s : refutations.Step). has_no_literals s.clause) steps (learned decisions known number ∷ [])
-          ∙ or_right (list_any (λ (s : refutations.Step). has_no_literals s.clause) steps) (has_no_literals decisions || false) (rw none refl);
-    }
-
   agrees_with_known : (one : ℕ → Bool) → all_hold one given ≡ true → clause_holds one decisions ≡ false → Agrees one known.values
   agrees_with_known one hold off =
       followed-agrees one (numbered given steps) (all_hold-steps one vars given steps hold searching.checked) (all_taken_false (no_values vars) decisions) known.values known.hints (all_taken_false-agrees one (no_values vars) decisions (no_values-agrees one vars) off) follows.follow
@@ -168,13 +156,16 @@ module _ (vars : ℕ) (values : List (Option Bool)) (sized : length values ≡ v
 -- them, and before the first of these they agree.
 module _ (vars : ℕ) (given : List (List ℤ)) (one other : ℕ → Bool) (one_holds : all_hold one given ≡ true) (other_holds : all_hold other given ≡ true) where
   lesser : (before : List ℤ) (first : ℤ) → IsDue given before first → is_literal vars first ≡ true → clause_holds one before ≡ false → clause_holds other before ≡ false → literal_holds one first ≡ false → literal_holds other first ≡ true → (variable : ℕ) × (variable ≤ vars) × IsLesserAt variable one other
-  lesser before first due is one_off other_off off on =
-      (variable_of first, literal_within vars first is, record {
-        numbered = literal_some vars first is;
-        same = record { each = λ variable some below. due.forced one other one_holds other_holds one_off other_off variable some (let first_some = literal_some vars first is in omega arith) };
-        off = sym (positive_holds one first due.positive) ∙ off;
-        on = sym (positive_holds other first due.positive) ∙ on;
-      })
+  lesser before first due is one_off other_off off on = (
+    variable_of first,
+    literal_within vars first is,
+    record {
+      numbered = literal_some vars first is;
+      same = record { each = λ variable some below. due.forced one other one_holds other_holds one_off other_off variable some (let first_some = literal_some vars first is in omega arith) };
+      off = sym (positive_holds one first due.positive) ∙ off;
+      on = sym (positive_holds other first due.positive) ∙ on;
+    },
+  )
 
   off_or_lesser : (before after : List ℤ) → AreDue given before after → is_clause vars after ≡ true → clause_holds one before ≡ false → clause_holds one after ≡ false → clause_holds other before ≡ false → (clause_holds other after ≡ false) ⊎ ((variable : ℕ) × (variable ≤ vars) × IsLesserAt variable one other)
   off_or_lesser before [] due formed one_off one_later other_off = inl refl
@@ -183,9 +174,9 @@ module _ (vars : ℕ) (given : List (List ℤ)) (one other : ℕ → Bool) (one_
       elim (cases_Bool (literal_holds other first)) [
         | inl on ↦ inr (lesser before first due.0 (first_literal vars first rest formed) one_off other_off one_both.0 on)
         | inr off ↦ elim (off_or_lesser (before ++ first ∷ []) rest due.1 (rest_clause vars first rest formed) (still_off one before first one_off one_both.0) one_both.1 (still_off other before first other_off off)) [
-            | inl later ↦ inl (or_from (literal_holds other first) (clause_holds other rest) off later)
-            | inr at ↦ inr at
-          ]
+          | inl later ↦ inl (or_from (literal_holds other first) (clause_holds other rest) off later)
+          | inr at ↦ inr at
+        ]
       ]
 
 -- all variables have values, and no clause is false
@@ -205,8 +196,8 @@ module _ (vars : ℕ) (given : List (List ℤ)) (steps : List refutations.Step) 
   no_greater : (other : ℕ → Bool) → all_hold other given ≡ true → IsNoGreater vars (assignment (found_values known.values)) other
   no_greater other other_holds = elim (off_or_lesser vars given (assignment (found_values known.values)) other holds other_holds [] decisions searching.due searching.formed refl off refl) [
     | inl other_off ↦ inl (record {
-          each = λ variable some within. sym (agrees_with_known vars given steps decisions known searching follows other other_holds other_off variable (assignment (found_values known.values) variable) (complete vars known.values sized valued variable some within));
-        })
+      each = λ variable some within. sym (agrees_with_known vars given steps decisions known searching follows other other_holds other_off variable (assignment (found_values known.values) variable) (complete vars known.values sized valued variable some within));
+    })
     | inr at ↦ inr at
   ]
 

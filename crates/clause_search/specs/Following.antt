@@ -1,5 +1,5 @@
 -- Following hints to the values that they give.
-use Rattle.std.specs.Prelude.{ℕ, ℤ, Bool, List, [], ◌∷◌, ◌++◌, map, Option, None, Some}
+use Rattle.std.specs.Prelude.{◌≡◌, ℕ, ℤ, Bool, List, [], ◌∷◌, ◌++◌, map, filter, Option, None, Some}
 use Rattle.refute_check.specs.Refutations as refutations
 use Rattle.refute_check.specs.Steps.{Judgement, false_clause, unit, neither, hint_judgement, clause_at, taken_true}
 
@@ -18,3 +18,7 @@ abbrev pub followed : List (List ℤ) → List (Option Bool) → List ℕ → Op
 followed clauses values [] = Some values
 followed clauses values (hint ∷ rest) =
     onward (hint_judgement values (clause_at clauses hint)) (λ literal. followed clauses (taken_true values literal) rest)
+
+-- literals that were chosen from others
+abbrev pub AreAmong : List ℤ → List ℤ → Type 0
+AreAmong all chosen = (test : ℤ → Bool) × (chosen ≡ filter test all)

@@ -1,11 +1,11 @@
 -- What is known of the variables in a turn of the search, and what looking at clauses does to it.
-use Rattle.std.specs.Prelude.{◌≡◌, ℕ, ℤ, Bool, List, [], ◌∷◌, ◌++◌, Option, None, Some}
+use Rattle.std.specs.Prelude.{◌≡◌, ℕ, ℤ, Bool, List, [], ◌∷◌, ◌++◌, Option, Some}
 use Rattle.clause_search.specs.declared.trail.Trail.{Trail}
 use Rattle.clause_search.specs.declared.trail.Effect.{Effect}
 use Rattle.clause_search.specs.declared.trail.Effect.TheVariants.{Refutes, Extends, Idle}
 use Rattle.clause_search.specs.declared.trail.Pass.{Pass}
 use Rattle.clause_search.specs.declared.trail.Pass.TheVariants.{Conflict, Changed, Stable}
-use Rattle.refute_check.specs.Steps.{Judgement, false_clause, unit, neither, judgement, hint_judgement, clause_at, taken_true}
+use Rattle.refute_check.specs.Steps.{Judgement, false_clause, unit, neither, hint_judgement, clause_at, taken_true}
 use Rattle.clause_search.specs.Following.{followed}
 
 pub record Known : Type 0 where

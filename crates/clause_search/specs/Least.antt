@@ -1,7 +1,8 @@
 -- The least assignment that satisfies clauses. Of two assignments the lesser is the one that is false at the first variable,
 -- in the order of their numbers, where they differ.
 use Rattle.std.specs.Prelude.{◌≡◌, ℕ, zero, suc, ℤ, ◌-◌, ◌≤◌, ◌⊎◌, Bool, true, false, List, length, slice_index_or}
-use Rattle.refute_check.specs.Clauses.{all_hold}
+use Rattle.std.specs.List.{list_all}
+use Rattle.refute_check.specs.Clauses.{is_clause, all_hold}
 
 -- the assignment that a list of values gives, of which the first is that of variable 1
 abbrev pub assignment : List Bool → ℕ → Bool
@@ -28,3 +29,16 @@ pub record IsLeast (vars : ℕ) (clauses : List (List ℤ)) (values : List Bool)
   pub sized : length values ≡ vars
   pub satisfies : all_hold (assignment values) clauses ≡ true
   pub least : (other : ℕ → Bool) → all_hold other clauses ≡ true → IsNoGreater vars (assignment values) other
+
+-- What is least on all variables is least on the first of them, so what the other variables stand for has no part in it.
+abbrev pub LeastOnFirstLaw : Type 0
+LeastOnFirstLaw =
+    (vars count : ℕ) (clauses : List (List ℤ)) (values : List Bool) → count ≤ vars → IsLeast vars clauses values → (other : ℕ → Bool) → all_hold other clauses ≡ true → IsNoGreater count (assignment values) other
+
+-- There is one least assignment at most.
+abbrev pub OneLeastLaw : Type 0
+OneLeastLaw = (vars : ℕ) (clauses : List (List ℤ)) (values others : List Bool) → IsLeast vars clauses values → IsLeast vars clauses others → values ≡ others
+
+-- Whether clauses hold depends on their variables alone.
+abbrev pub VariablesLaw : Type 0
+VariablesLaw = (vars : ℕ) (clauses : List (List ℤ)) (one other : ℕ → Bool) → list_all (is_clause vars) clauses ≡ true → AgreeUpTo vars one other → all_hold one clauses ≡ all_hold other clauses

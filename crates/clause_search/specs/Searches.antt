@@ -1,13 +1,13 @@
 -- How far a search has come.
-use Rattle.std.specs.Prelude.{◌≡◌, ℕ, ℤ, suc, ◌≤◌, ◌<◌, Bool, true, false, List, [], ◌∷◌, ◌++◌, length, map, Option, None, is_none, slice_index_or, IsTrue}
+use Rattle.std.specs.Prelude.{◌≡◌, ℕ, ℤ, ◌≤◌, ◌<◌, Bool, true, false, List, [], ◌∷◌, ◌++◌, length, Option, None, is_none, slice_index_or}
 use Rattle.refute_check.specs.Clauses.{variable_of, is_positive, is_clause, clause_holds, all_hold}
 use Rattle.refute_check.specs.Refutations as refutations
 use Rattle.refute_check.specs.Refutations.{IsRefutation, well_checked}
-use Rattle.refute_check.specs.Steps.{no_values, all_taken_false, all_false}
+use Rattle.refute_check.specs.Steps.{no_values, all_taken_false}
 use Rattle.clause_search.specs.declared.turns.State.{State}
 use Rattle.clause_search.specs.declared.turns.Turn.{Turn}
 use Rattle.clause_search.specs.declared.turns.Turn.TheVariants.{Onward, Least, Refuted}
-use Rattle.clause_search.specs.Least.{AgreeUpTo, IsLeast}
+use Rattle.clause_search.specs.Least.{IsLeast}
 use Rattle.clause_search.specs.Answers.{steps_of}
 use Rattle.clause_search.specs.Following.{numbered}
 use Rattle.clause_search.specs.Known.{Known, AreFollowed}

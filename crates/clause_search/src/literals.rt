@@ -4,7 +4,8 @@ ghost use Rattle.std.specs.Prelude.{◌≡◌, slice_set};
 ghost use Rattle.refute_check.specs.Clauses.{variable_of, is_positive};
 ghost use Rattle.refute_check.specs.Steps.{value_of, is_false, taken_true, taken_false, all_false};
 
-fn variable_of(literal: i32) -> usize
+/// The number of a literal's variable.
+pub fn variable_of(literal: i32) -> usize
     ensures { result ≡ variable_of literal }
 {
     literal.unsigned_abs() as usize

@@ -82,7 +82,12 @@ impl Trail {
     }
 
     // Looks at each clause once.
-    fn pass(&mut self, given: &[Vec<i32>], steps: &[Step], numbers: &[u32]) -> Result<Pass, NoMemory>
+    fn pass(
+        &mut self,
+        given: &[Vec<i32>],
+        steps: &[Step],
+        numbers: &[u32],
+    ) -> Result<Pass, NoMemory>
         ensures goes_on { IfOk result
             (λ _. GoesOn (numbered (literals_of given.now) (steps_of steps.now)) (known_of self.old) (known_of self.new)) }
         ensures conflict { IfOk result
@@ -99,7 +104,12 @@ impl Trail {
         Ok(if changed { Pass::Changed } else { Pass::Stable })
     }
 
-    fn look_up(&mut self, given: &[Vec<i32>], steps: &[Step], number: u32) -> Result<Effect, NoMemory>
+    fn look_up(
+        &mut self,
+        given: &[Vec<i32>],
+        steps: &[Step],
+        number: u32,
+    ) -> Result<Effect, NoMemory>
         ensures { IfOk result (λ effect. HasEffect
             (hint_judgement self.old.values.items (clause_at (numbered (literals_of given.now) (steps_of steps.now)) number))
             number effect (known_of self.old) (known_of self.new)) }

@@ -1,17 +1,17 @@
 //! The search: it takes variables as false, one after another, and learns from each conflict.
 
-ghost use Rattle.std.specs.Prelude.{◌≡◌, ◌+◌, ◌-◌, ◌<◌, ◌≤◌, ◌^◌, ℕ, List, length, map, drop, IsTrue, IfOk, OnOk, IsSomeAnd, MatchOption, unwrap_or, slice_get, pos, false, true, [], ◌∷◌, ◌++◌};
-ghost use Rattle.std.specs.List.{list_all, list_any};
+ghost use Rattle.std.specs.Prelude.{◌≡◌, ℕ, ◌+◌, ◌<◌, pos, true, [], ◌∷◌, ◌++◌, length, IsTrue, IfOk, OnOk, IfSome};
+ghost use Rattle.std.specs.List.{list_all};
 ghost use Rattle.refute_check.specs.Clauses.{is_clause};
-ghost use Rattle.refute_check.specs.Steps.{all_false};
-ghost use Rattle.clause_search.specs.Answers.{literals_of, IsAnswer};
+ghost use Rattle.refute_check.specs.Steps.{step_fault};
+ghost use Rattle.clause_search.specs.Answers.{literals_of, steps_of, IsAnswer};
 ghost use Rattle.clause_search.specs.Known.{known_of, IsRefutedAt};
 ghost use Rattle.clause_search.specs.Following.{numbered};
-ghost use Rattle.clause_search.specs.Searches.{IsSearching, IsKnown, AreValued, IsFirstOpen, HasTurned};
-ghost use Rattle.clause_search.specs.Answers.{steps_of};
+ghost use Rattle.clause_search.specs.Searches.{IsSearching, IsKnown, AreValued, HasTurned};
 
 use crate::answers::{Found, Step};
-use crate::literals::are_false;
+use crate::assignments::{first_false, first_open, values_of};
+use crate::grounds::Grounds;
 use crate::trail::Trail;
 use crate::watched::Watched;
 use cond_formula::NoMemory;
@@ -82,7 +82,7 @@ fn take_turn(
     let conflict = trail.propagate(given, &state.steps, state.watched.numbers())?;
     match conflict {
         Some(number) => {
-            let turn = learn(alloc, given, state, trail, number)?;
+            let turn = learn(alloc, vars, given, state, trail, number)?;
             Ok(turn)
         }
         None => {
@@ -92,32 +92,111 @@ fn take_turn(
     }
 }
 
-// Adds the step that one of the decisions is wrong, since they make the clause with this number false, and takes back the
-// last of them.
+// Adds a step, since the decisions make the clause with this number false.
 fn learn(
     alloc: Global,
+    vars: u32,
     given: &[Vec<i32>],
     state: &mut State,
     trail: Trail,
     number: u32,
 ) -> Result<Turn, NoMemory>
-    ensures { IfOk result (λ turn. (vars : ℕ)
-        → IsTrue (list_all (is_clause vars) (literals_of given.now))
-        → IsSearching vars (literals_of given.now) state.old
-        → IsKnown vars (literals_of given.now) state.old (known_of trail)
-        → IsRefutedAt (numbered (literals_of given.now) (steps_of state.old.steps.items)) (known_of trail) number
-        → HasTurned vars (literals_of given.now) state.new turn) }
+    requires formed { IsTrue (list_all (is_clause vars) (literals_of given.now)) }
+    requires searching { IsSearching vars (literals_of given.now) state.old }
+    requires known { IsKnown vars (literals_of given.now) state.old (known_of trail) }
+    requires refuted { IsRefutedAt (numbered (literals_of given.now) (steps_of state.old.steps.items)) (known_of trail) number }
+    ensures { IfOk result (HasTurned vars (literals_of given.now) state.new) }
+{
+    let grounds = Grounds::new(alloc, given, &state.steps, &state.decisions, &trail, number)?;
+    let found = refuting_hints(
+        alloc,
+        vars,
+        given,
+        &state.steps,
+        &grounds.decisions,
+        &grounds.numbers,
+    )?;
+    match found {
+        Some(hints) => {
+            let turn = add_step(given, state, grounds.decisions, hints)?;
+            Ok(turn)
+        }
+        // What has no part in a conflict isn't needed to find it, so this doesn't come up; but all decisions would do.
+        None => {
+            let decisions = Vec::from_slice(alloc, &state.decisions)?;
+            let hints = with_last(trail, number)?;
+            let turn = add_step(given, state, decisions, hints)?;
+            Ok(turn)
+        }
+    }
+}
+
+// The hints by which these decisions lead to a false clause, if the clauses with these numbers, in this order, suffice.
+fn refuting_hints(
+    alloc: Global,
+    vars: u32,
+    given: &[Vec<i32>],
+    steps: &[Step],
+    decisions: &[i32],
+    numbers: &[u32],
+) -> Result<Option<Vec<u32>>, NoMemory>
+    requires { is_clause vars decisions.now ≡ true }
+    ensures { IfOk result (λ found. IfSome found (λ hints.
+        step_fault vars (numbered (literals_of given.now) (steps_of steps.now)) decisions.now hints.items ≡ None)) }
+{
+    let mut trail = Trail::new(alloc, vars, decisions)?;
+    let conflict = trail.propagate(given, steps, numbers)?;
+    match conflict {
+        Some(number) => {
+            let hints = with_last(trail, number)?;
+            Ok(Some(hints))
+        }
+        None => Ok(None),
+    }
+}
+
+// The hints, with the number of a false clause behind them.
+fn with_last(trail: Trail, number: u32) -> Result<Vec<u32>, NoMemory>
+    ensures { IfOk result (λ hints. hints.items ≡ trail.hints.items ++ number ∷ []) }
 {
     let Trail { mut hints, .. } = trail;
     hints.push(number)?;
-    let clause = Vec::from_slice(alloc, &state.decisions)?;
+    Ok(hints)
+}
+
+// Adds the step that one of some decisions is wrong, and takes back the last of these and those after it.
+fn add_step(
+    given: &[Vec<i32>],
+    state: &mut State,
+    clause: Vec<i32>,
+    hints: Vec<u32>,
+) -> Result<Turn, NoMemory>
+    ensures { IfOk result (λ turn. (vars : ℕ)
+        → IsTrue (list_all (is_clause vars) (literals_of given.now))
+        → IsSearching vars (literals_of given.now) state.old
+        → step_fault vars (numbered (literals_of given.now) (steps_of state.old.steps.items)) clause.items hints.items ≡ None
+        → HasTurned vars (literals_of given.now) state.new turn) }
+{
     let step = number_at(given.len() + state.steps.len())?;
+    let last = clause.last().copied();
     state.steps.push(Step { clause, hints })?;
-    if state.decisions.pop().is_none() {
-        return Ok(Turn::Refuted);
+    match last {
+        None => Ok(Turn::Refuted),
+        Some(literal) => {
+            let count = place_of(&state.decisions, literal);
+            state.decisions.truncate(count);
+            state.watched.take_back(count, step)?;
+            Ok(Turn::Onward)
+        }
     }
-    state.watched.take_back(step)?;
-    Ok(Turn::Onward)
+}
+
+// How many decisions there are before this one.
+fn place_of(decisions: &[i32], literal: i32) -> usize {
+    decisions
+        .iter()
+        .position(|decision| *decision == literal)
+        .unwrap_or(0)
 }
 
 // Where no clause was found to be false: the next decision, if there is a variable without value.
@@ -140,7 +219,7 @@ fn settle(
             Ok(Turn::Onward)
         }
         None => {
-            let turn = finish(alloc, given, state, trail)?;
+            let turn = finish(alloc, vars, given, state, trail)?;
             Ok(turn)
         }
     }
@@ -161,21 +240,21 @@ fn decide(state: &mut State, variable: usize) -> Result<(), NoMemory>
 // Where all variables have values: they satisfy the clauses, if none of these is false.
 fn finish(
     alloc: Global,
+    vars: u32,
     given: &[Vec<i32>],
     state: &mut State,
     trail: Trail,
 ) -> Result<Turn, NoMemory>
-    ensures { IfOk result (λ turn. (vars : ℕ)
-        → IsTrue (list_all (is_clause vars) (literals_of given.now))
-        → IsSearching vars (literals_of given.now) state.old
-        → IsKnown vars (literals_of given.now) state.old (known_of trail)
-        → AreValued trail.values.items (length trail.values.items)
-        → HasTurned vars (literals_of given.now) state.new turn) }
+    requires formed { IsTrue (list_all (is_clause vars) (literals_of given.now)) }
+    requires searching { IsSearching vars (literals_of given.now) state.old }
+    requires known { IsKnown vars (literals_of given.now) state.old (known_of trail) }
+    requires valued { AreValued trail.values.items (length trail.values.items) }
+    ensures { IfOk result (HasTurned vars (literals_of given.now) state.new) }
 {
     match first_false(&trail.values, given) {
         Some(index) => {
             let number = number_at(index)?;
-            let turn = learn(alloc, given, state, trail, number)?;
+            let turn = learn(alloc, vars, given, state, trail, number)?;
             Ok(turn)
         }
         None => {
@@ -193,65 +272,5 @@ fn number_at(index: usize) -> Result<u32, NoMemory>
         Ok(index as u32 + 1)
     } else {
         Err(AllocError)
-    }
-}
-
-// The first variable without value.
-fn first_open(values: &[Option<bool>]) -> Option<usize>
-    ensures { MatchOption result (AreValued values.now (length values.now)) (IsFirstOpen values.now) }
-{
-    for variable in 1..values.len() {
-        if values[variable].is_none() {
-            return Some(variable);
-        }
-    }
-    None
-}
-
-// The place of the first clause whose literals are all false.
-fn first_false(values: &[Option<bool>], clauses: &[Vec<i32>]) -> Option<usize>
-    ensures { MatchOption result (list_any (all_false values.now) (literals_of clauses.now) ≡ false)
-        (λ index. IsSomeAnd (slice_get (literals_of clauses.now) index) (λ clause. all_false values.now clause ≡ true)) }
-{
-    for (index, clause) in clauses.iter().enumerate() {
-        if are_false(values, clause) {
-            return Some(index);
-        }
-    }
-    None
-}
-
-// The values of the variables in the order of their numbers, without that at the place of number 0.
-fn values_of(alloc: Global, values: &[Option<bool>]) -> Result<Vec<bool>, NoMemory>
-    ensures { IfOk result (λ all. all.items ≡ map (λ value. unwrap_or value false) (drop 1 values.now)) }
-{
-    values.iter().skip(1).map(|value| value.unwrap_or(false)).collect(alloc)
-}
-
-#[cfg(test)]
-mod tests {
-    use super::*;
-    use refute_check::Checker;
-    use std::process::Abort;
-    use std::test::Fail;
-
-    fn clauses_of(alloc: Global, clauses: &[&[i32]]) -> Result<Vec<Vec<i32>>, NoMemory> {
-        let mut all = Vec::new(alloc);
-        for clause in clauses {
-            all.push(Vec::from_slice(alloc, clause)?)?;
-        }
-        Ok(all)
-    }
-
-    #[test]
-    fn the_least_assignment_is_found(rt: HostRuntime) -> Result<(), Fail> {
-        let clauses = clauses_of(rt.alloc(), &[&[1, 2], &[-2, 3], &[-1, -3], &[2, 4]])?;
-        match search(rt.alloc(), 4, &clauses)? {
-            Found::Least(values) => {
-                assert_eq!(rt; values.as_slice(), [false, true, true, false].as_slice())
-            }
-            Found::Refuted(_) => assert!(rt; false),
-        }
-        Ok(())
     }
 }

@@ -3,9 +3,8 @@
 use cond_formula::NoMemory;
 use std::alloc::Global;
 
-/// The numbers of the clauses that are looked at: those that are given, and the steps that no later step makes needless.
-/// A step's clause says that one of the decisions is wrong, so it makes needless each step that was found since the last
-/// of these decisions.
+/// The numbers of the clauses that are looked at: those that are given, and steps. A step tells what follows from the
+/// decisions that stand as it is found, so it can go once one of these is taken back.
 #[derive(Drop)]
 pub struct Watched {
     numbers: Vec<u32>,
@@ -38,11 +37,12 @@ impl Watched {
         Ok(())
     }
 
-    /// Notes that the last decision is taken back, as the step with this number shows that one of them is wrong.
-    pub fn take_back(&mut self, step: u32) -> Result<(), NoMemory> {
-        if let Some(count) = self.counts.pop() {
-            self.numbers.truncate(count);
+    /// Notes that only so many decisions stand, and that there is a step with this number.
+    pub fn take_back(&mut self, decisions: usize, step: u32) -> Result<(), NoMemory> {
+        if let Some(count) = self.counts.get(decisions) {
+            self.numbers.truncate(*count);
         }
+        self.counts.truncate(decisions);
         self.numbers.push(step)?;
         Ok(())
     }

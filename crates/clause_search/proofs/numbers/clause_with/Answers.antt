@@ -1,4 +1,4 @@
-use Rattle.std.proofs.Common.{sym, ap, ◌∙◌}
+use Rattle.std.proofs.Common.{ap, ◌∙◌}
 use Rattle.std.specs.Option.{option_copied}
 use Rattle.clause_search.proofs.NumberLaws.{found_given, found_step, found_none}
 use Rattle.clause_search.proofs.numbers.clause_with.Goals as goal

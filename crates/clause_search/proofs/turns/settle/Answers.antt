@@ -1,7 +1,7 @@
-use Rattle.std.proofs.Common.{◌≡◌, ℤ, pos, Bool, List, ◌∷◌, [], ◌++◌, Option, sym, ap, ◌∙◌, subst, arith}
+use Rattle.std.proofs.Common.{Bool, List, Option, ap, subst, arith}
 use Rattle.clause_search.specs.Answers.{literals_of, steps_of}
 use Rattle.clause_search.specs.Known.{known_of}
-use Rattle.clause_search.specs.Searches.{IsSearch, IsFirstOpen}
+use Rattle.clause_search.specs.Searches.{IsFirstOpen}
 use Rattle.clause_search.proofs.TurnLaws.{decided, next_within}
 use Rattle.clause_search.proofs.turns.settle.Goals as goal
 

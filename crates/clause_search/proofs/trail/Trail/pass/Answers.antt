@@ -3,7 +3,6 @@ use Rattle.clause_search.specs.Following.{numbered}
 use Rattle.clause_search.specs.Known.{known_of}
 use Rattle.std.proofs.Common.{get_or}
 use Rattle.clause_search.proofs.KnownLaws.{GoesOn-further, goes_on}
-use Rattle.clause_search.proofs.DecisionLaws.{AreDue-push}
 use Rattle.clause_search.proofs.trail.Trail.pass.Goals as goal
 
 pub loop-number-preserved : goal.loop-number-preserved
