@@ -3,3 +3,4 @@ mod ShapeLemmas
 mod NameLemmas
 mod TextLemmas
 mod Whys
+mod Exclusion

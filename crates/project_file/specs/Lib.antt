@@ -5,3 +5,4 @@ pub mod Projects
 pub mod Faults
 pub mod View
 pub mod Checks
+pub mod Laws

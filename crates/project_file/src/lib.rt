@@ -4,6 +4,7 @@
 mod contents;
 mod documents;
 mod errors;
+mod laws;
 mod names;
 mod parse;
 mod projects;
@@ -13,5 +14,6 @@ mod tests;
 mod units;
 
 pub use errors::ProjectError;
+pub use laws::projects_have_no_fault;
 pub use parse::{LONGEST_FILE, oversized, parse_project};
 pub use projects::{Project, Unit};

@@ -1,5 +1,5 @@
 //! Small project files.
-use crate::{Project, ProjectError, parse_project};
+use crate::{parse_project, projects_have_no_fault};
 use cond_formula::Config;
 use std::alloc::Global;
 use std::process::Abort;
@@ -38,6 +38,7 @@ fn fault(rt: &impl Abort, alloc: Global, text: &str, want: &str) -> Result<(), F
 
 #[test]
 fn faults_are_found(rt: HostRuntime) -> Result<(), Fail> {
+    projects_have_no_fault();
     let alloc = rt.alloc();
     fault(&rt, alloc, "features", "not toml")?;
     fault(&rt, alloc, "", "shape unit")?;
