@@ -54,7 +54,7 @@ has_units_one project document a b h k =
     units_one project k.values a b (subst (λ vs. AreUnitValues project vs a) same h.are_units) k.are_units
 
 -- a document says one thing
-contents_one : (project : List ℕ) (document : Members) (a b : Contents) → IsContents project document a → IsContents project document b → a ≡ b
+pub contents_one : (project : List ℕ) (document : Members) (a b : Contents) → IsContents project document a → IsContents project document b → a ≡ b
 contents_one project document a b h k =
     let features : a.features ≡ b.features = strings_same (get_member (codes "features") document) a.features b.features h.features.are_strings k.features.are_strings in
     let constraints : a.constraints ≡ b.constraints = strings_same (get_member (codes "constraints") document) a.constraints b.constraints h.constraints k.constraints in
@@ -65,18 +65,18 @@ contents_one project document a b h k =
     ∙ ap (λ x. record { features = b.features; constraints = b.constraints; headers = x; units = a.units }) headers
     ∙ ap (λ x. record { features = b.features; constraints = b.constraints; headers = b.headers; units = x }) units
 
-document_one : (bytes : List ℕ) (a b : Members) → IsToml bytes a → IsToml bytes b → a ≡ b
+pub document_one : (bytes : List ℕ) (a b : Members) → IsToml bytes a → IsToml bytes b → a ≡ b
 document_one bytes a b h k =
     let e : ◌≡◌ {A = Option Members} (Some a) (Some b) = sym h.parsed ∙ k.parsed in cc
 
-says_one : (project bytes : List ℕ) (a b : Contents) → SaysContents project bytes a → SaysContents project bytes b → a ≡ b
+pub says_one : (project bytes : List ℕ) (a b : Contents) → SaysContents project bytes a → SaysContents project bytes b → a ≡ b
 says_one project bytes a b h k =
     contents_one project k.document a b
     (subst (λ d. IsContents project d a) (document_one bytes h.document k.document h.is_toml k.is_toml) h.are_contents)
     k.are_contents
 
 -- an element of a list that is parted at it
-contains_middle : {X : Type 0} (xs before : List X) (x : X) (after : List X) → xs ≡ before ++ x ∷ after → Contains xs x
+pub contains_middle : {X : Type 0} (xs before : List X) (x : X) (after : List X) → xs ≡ before ++ x ∷ after → Contains xs x
 contains_middle {X} xs before x after e = subst (λ ys. Contains ys x) (sym e) (middle before) where
   middle : (front : List X) → Contains (front ++ x ∷ after) x
   middle [] = (0, omega arith, refl)
@@ -93,7 +93,7 @@ at_middle [] x d after = (refl, omega arith)
 at_middle (b ∷ before) x d after = let m = at_middle before x d after in (m.0, omega (arith, m.1))
 
 -- a list with a repeated name isn't one whose names differ
-repeats : (names : List (List ℕ)) (name : List ℕ) → IsFirstRepeated names name → AllDiffer names → ⊥
+pub repeats : (names : List (List ℕ)) (name : List ℕ) → IsFirstRepeated names name → AllDiffer names → ⊥
 repeats names name r differ =
     let c = r.earlier in
     let all : AllDiffer (r.before ++ name ∷ r.after) = subst AllDiffer r.split differ in
@@ -101,24 +101,24 @@ repeats names name r differ =
     let middle = at_middle r.before name name r.after in
     all c.0 (length r.before) name c.1 middle.1 (front.0 ∙ sym middle.0)
 
-no_unlisted : (listed : List (List ℕ)) (document : Members) (key : List ℕ) → AllListed listed document → IsFirstUnlisted listed document key → ⊥
+pub no_unlisted : (listed : List (List ℕ)) (document : Members) (key : List ℕ) → AllListed listed document → IsFirstUnlisted listed document key → ⊥
 no_unlisted listed document key all first =
     both_ways (is_listed listed key) first.unlisted
     (All-contains (λ k. is_listed listed k ≡ true) (keys_of document) key all first.stands)
 
-no_shape_fault : (project : List ℕ) (document : Members) (key : List ℕ) (contents : Contents) → IsContents project document contents → IsShapeFault project document key → ⊥
+pub no_shape_fault : (project : List ℕ) (document : Members) (key : List ℕ) (contents : Contents) → IsContents project document contents → IsShapeFault project document key → ⊥
 no_shape_fault project document key contents h (unlisted first) = no_unlisted document_keys document key h.keys first
 no_shape_fault project document key contents h (bad_features is keys none) = none contents.features h.features
 no_shape_fault project document key contents h (bad_constraints is keys fs f none) = none contents.constraints h.constraints
 no_shape_fault project document key contents h (bad_headers is keys fs f cs c none) = none contents.headers h.headers
 no_shape_fault project document key contents h (bad_units is keys fs f cs c hs g none) = none contents.units h.units
 
-no_unlawful : (names : List (List ℕ)) (name : List ℕ) → AreFeatureNames names → IsFirstUnlawful names name → ⊥
+pub no_unlawful : (names : List (List ℕ)) (name : List ℕ) → AreFeatureNames names → IsFirstUnlawful names name → ⊥
 no_unlawful names name lawful first =
     both_ways (is_new_name name) first.unlawful
     (All-contains (λ n. is_new_name n ≡ true) names name lawful (contains_middle names first.before name first.after first.split))
 
-no_duplicate : (contents : Contents) (name : List ℕ) → NamesOnce contents → IsDuplicate contents name → ⊥
+pub no_duplicate : (contents : Contents) (name : List ℕ) → NamesOnce contents → IsDuplicate contents name → ⊥
 no_duplicate contents name once (inl r) = repeats contents.features name r once.features
 no_duplicate contents name once (inr r) = repeats (files_of contents) name r.1 once.files
 
