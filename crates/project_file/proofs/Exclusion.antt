@@ -1,7 +1,7 @@
 -- A project file's contents are one, and a fault contradicts a project.
-use Rattle.std.proofs.Common.{◌≡◌, ◌≢◌, ℕ, zero, suc, ◌+◌, ◌<◌, Bool, true, false, length, get_or, List, [], ◌∷◌, ◌++◌, map, Option, Some, None, codes, refl, sym, ap, subst, ◌∙◌, inl, inr, arith}
+use Rattle.std.proofs.Common.{◌≡◌, ℕ, zero, suc, ◌<◌, true, length, get_or, List, [], ◌∷◌, ◌++◌, map, Option, Some, None, codes, refl, sym, ap, subst, ◌∙◌, inl, inr, arith}
 use Rattle.std.specs.Prelude.{option_map}
-use Rattle.std.specs.List.{All, AllPairs, Contains}
+use Rattle.std.specs.List.{All, Contains}
 use Rattle.std.proofs.lemmas.Bool.{both_ways}
 use Rattle.std.proofs.lemmas.List.Elements.{All-contains, All-append}
 use Rattle.c_names.specs.Names.{is_new_name}
@@ -9,8 +9,8 @@ use Rattle.toml.specs.Data.{Data, string, integer, float, boolean, datetime, arr
 use Rattle.project_file.specs.Documents.{IsToml, keys_of, is_listed, AllListed, IsFirstUnlisted}
 use Rattle.project_file.specs.Contents.{UnitText, Contents, IsUnitTable, IsUnitValue, AreUnitValues, HasUnits, IsContents, SaysContents, files_of, texts_of, document_keys}
 use Rattle.project_file.specs.Texts.{IsLawful}
-use Rattle.project_file.specs.Projects.{PlainProject, AllDiffer, AreFeatureNames, NamesOnce, IsProjectOf, IsProject}
-use Rattle.project_file.specs.Faults.{Fault, size, not_toml, shape, feature, duplicate, constraint, IsShapeFault, unlisted, bad_features, bad_constraints, bad_headers, bad_units, HasShapeFault, IsFirstUnlawful, IsFirstRepeated, IsDuplicate, IsFirstBadText, FirstFault}
+use Rattle.project_file.specs.Projects.{PlainProject, AllDiffer, AreFeatureNames, NamesOnce, IsProjectOf}
+use Rattle.project_file.specs.Faults.{size, not_toml, shape, feature, duplicate, constraint, IsShapeFault, unlisted, bad_features, bad_constraints, bad_headers, bad_units, IsFirstUnlawful, IsFirstRepeated, IsDuplicate, IsFirstBadText}
 use Rattle.project_file.specs.Laws.{ProjectsHaveNoFault}
 use Rattle.project_file.proofs.ShapeLemmas.{strings_same}
 use Rattle.project_file.proofs.TextLemmas.{lawful_model, lawful_units}
