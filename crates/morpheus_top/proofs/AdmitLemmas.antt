@@ -3,7 +3,7 @@ use Rattle.std.proofs.Common.{◌≡◌, ℕ, suc, ◌+◌, ◌<◌, ◌≤◌, 
 use Rattle.std.specs.String.{string_bytes}
 use Rattle.std.specs.declared.alloc.AllocError.{AllocError}
 use Rattle.std.specs.List.{join_by, flat_map}
-use Rattle.std.proofs.lemmas.List.{drop_more, map-append, append_assoc}
+use Rattle.std.proofs.lemmas.List.{drop_more, drop_all, map-append, append_assoc, append-nil}
 use Rattle.morpheus_top.specs.Replies.{listed}
 use Rattle.morpheus_top.specs.Admit.{names_from}
 
@@ -46,5 +46,10 @@ joined_ok names (Ok text) some is = is ∙ joined_names names some
 joined_ok names (Err e) some is = tt
 
 -- a kind and a name, and then the end of the line
-pub kind_and_name : (front kind name : List ℕ) → front ++ kind ++ 32 ∷ name ++ 10 ∷ [] ≡ front ++ (kind ++ 32 ∷ name) ++ 10 ∷ []
-kind_and_name front kind name = ap (λ xs. front ++ xs) (sym (append_assoc kind (32 ∷ name) (10 ∷ [])))
+pub kind_and_name : (kind name : List ℕ) → kind ++ (32 ∷ (name ++ (10 ∷ []))) ≡ (kind ++ (32 ∷ name)) ++ (10 ∷ [])
+kind_and_name kind name = sym (append_assoc kind (32 ∷ name) (10 ∷ []))
+
+-- no names are left at the end
+pub at_end : (on : ℕ → Bool) (names features : List (String Global)) (i : ℕ) (all : List (List ℕ)) → length features ≤ i → map string_bytes names ++ names_from i on (map string_bytes (drop i features)) ≡ all → map string_bytes names ≡ all
+at_end on names features i all h so_far =
+    sym (append-nil (map string_bytes names)) ∙ (ap (λ rest. map string_bytes names ++ names_from i on (map string_bytes rest)) (sym (drop_all i features h)) ∙ so_far)

@@ -3,7 +3,7 @@ use Rattle.std.proofs.Common.{◌≡◌, ◌⊎◌, inl, inr, ℕ, ◌<◌, ◌�
 use Rattle.std.specs.String.{string_bytes}
 use Rattle.project_file.specs.Projects.{PlainProject, IsProject}
 use Rattle.project_file.specs.Faults.{Fault, FirstFault}
-use Rattle.project_file.specs.Laws.{FaultyFilesSayNoProject}
+use Rattle.project_file.specs.Laws.{ProjectsHaveNoFault}
 use Rattle.project_store.specs.Reads.{SaysProject, HasFault}
 use Rattle.morpheus_top.specs.declared.replies.Reply.{Reply}
 use Rattle.morpheus_top.specs.declared.replies.Reply.TheVariants.{Renamed, Usage, ReadFault, WriteFault, WantOfMemory, NotQuick, BadProject, Admits, AdmitsNothing}
@@ -36,18 +36,18 @@ outcome words b a name asked no_read AdmitsNothing h =
     found h.none.project (subst (λ m. SaysProject b.tells b.file m h.none.project) (one_project words h.project name h.asked asked) h.none.has_project) refl
 
 -- a project file that says a project has no fault
-excluded : FaultyFilesSayNoProject → (b : StoreState) (name : List ℕ) (project : PlainProject) (fault : Fault) → b.tells → SaysProject b.tells b.file name project → HasFault b.tells b.file name fault → ⊥
+excluded : ProjectsHaveNoFault → (b : StoreState) (name : List ℕ) (project : PlainProject) (fault : Fault) → b.tells → SaysProject b.tells b.file name project → HasFault b.tells b.file name fault → ⊥
 excluded law b name project fault tells p f =
     let e : ◌≡◌ {A = Option (List ℕ)} (Some p.bytes) (Some f.bytes) = sym (p.stands tells) ∙ f.stands tells in
     let same : p.bytes ≡ f.bytes = cc in
     law name f.bytes project fault (subst (λ bytes. IsProject name bytes project) same p.is_project) f.first
 
-found_or_ended : FaultyFilesSayNoProject → (b : StoreState) (name : List ℕ) (project : PlainProject) (reply : Reply) → b.tells → SaysProject b.tells b.file name project → Outcome b name reply → (status_of reply ≡ 0) ⊎ (status_of reply ≡ 7)
+found_or_ended : ProjectsHaveNoFault → (b : StoreState) (name : List ℕ) (project : PlainProject) (reply : Reply) → b.tells → SaysProject b.tells b.file name project → Outcome b name reply → (status_of reply ≡ 0) ⊎ (status_of reply ≡ 7)
 found_or_ended law b name project reply tells p (found other h e) = inl e
 found_or_ended law b name project reply tells p (refused fault h e) = absurd (excluded law b name project fault tells p h)
 found_or_ended law b name project reply tells p (ended e) = inr e
 
-refused_or_ended : FaultyFilesSayNoProject → (b : StoreState) (name : List ℕ) (fault : Fault) (reply : Reply) → b.tells → HasFault b.tells b.file name fault → Outcome b name reply → (status_of reply ≡ 5) ⊎ (status_of reply ≡ 7)
+refused_or_ended : ProjectsHaveNoFault → (b : StoreState) (name : List ℕ) (fault : Fault) (reply : Reply) → b.tells → HasFault b.tells b.file name fault → Outcome b name reply → (status_of reply ≡ 5) ⊎ (status_of reply ≡ 7)
 refused_or_ended law b name fault reply tells f (found project h e) = absurd (excluded law b name project fault tells h f)
 refused_or_ended law b name fault reply tells f (refused other h e) = inl e
 refused_or_ended law b name fault reply tells f (ended e) = inr e
@@ -56,7 +56,7 @@ with_status : (status n m : ℕ) (reply : Reply) → status ≡ status_of reply 
 with_status status n m reply e (inl k) = inl (e ∙ k)
 with_status status n m reply e (inr k) = inr (e ∙ k)
 
-pub admits_lem : FaultyFilesSayNoProject → (words : List (List ℕ)) (b a : StoreState) (s t : SinkState) (status : ℕ) → Answers words b a s t status → NoFault b.read_faults a.read_faults b.write_faults a.write_faults s.faults t.faults → b.tells → (name : List ℕ) (project : PlainProject) → AsksAdmit words name → SaysProject b.tells b.file name project → (status ≡ 0) ⊎ (status ≡ 7)
+pub admits_lem : ProjectsHaveNoFault → (words : List (List ℕ)) (b a : StoreState) (s t : SinkState) (status : ℕ) → Answers words b a s t status → NoFault b.read_faults a.read_faults b.write_faults a.write_faults s.faults t.faults → b.tells → (name : List ℕ) (project : PlainProject) → AsksAdmit words name → SaysProject b.tells b.file name project → (status ≡ 0) ⊎ (status ≡ 7)
 admits_lem law words b a s t status A f tells name project asked p =
     elim A.told [
       | inl k ↦ with_status status 0 7 A.reply k.0
@@ -64,7 +64,7 @@ admits_lem law words b a s t status A f tells name project asked p =
       | inr k ↦ absurd (f.report k.1.rose)
     ]
 
-pub refuses_project_lem : FaultyFilesSayNoProject → (words : List (List ℕ)) (b a : StoreState) (s t : SinkState) (status : ℕ) → Answers words b a s t status → NoFault b.read_faults a.read_faults b.write_faults a.write_faults s.faults t.faults → b.tells → (name : List ℕ) (fault : Fault) → AsksAdmit words name → HasFault b.tells b.file name fault → (status ≡ 5) ⊎ (status ≡ 7)
+pub refuses_project_lem : ProjectsHaveNoFault → (words : List (List ℕ)) (b a : StoreState) (s t : SinkState) (status : ℕ) → Answers words b a s t status → NoFault b.read_faults a.read_faults b.write_faults a.write_faults s.faults t.faults → b.tells → (name : List ℕ) (fault : Fault) → AsksAdmit words name → HasFault b.tells b.file name fault → (status ≡ 5) ⊎ (status ≡ 7)
 refuses_project_lem law words b a s t status A f tells name fault asked h =
     elim A.told [
       | inl k ↦ with_status status 5 7 A.reply k.0

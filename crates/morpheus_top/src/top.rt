@@ -16,7 +16,7 @@ use crate::quick::quick;
 use crate::replies::Answer;
 use crate::words::{Command, asked_command};
 use project_store::{Sink, Store};
-use project_file::faulty_files_say_no_project;
+use project_file::projects_have_no_fault;
 use quick_form::renaming_keeps_behaviour;
 use std::alloc::Global;
 
@@ -141,6 +141,6 @@ pub fn morpheus<S: Store, K: Sink>(
 {
     // The laws behind the clauses on behaviour and on projects; they do nothing.
     renaming_keeps_behaviour();
-    faulty_files_say_no_project();
+    projects_have_no_fault();
     serve(alloc, words, store, out)
 }

@@ -4,3 +4,4 @@ mod NameLemmas
 mod TextLemmas
 mod Whys
 mod Exclusion
+mod OneFault

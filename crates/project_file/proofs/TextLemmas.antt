@@ -138,7 +138,7 @@ lawful_presence names None condition h = tt
 lawful_presence names (Some text) condition h =
     record { features = h.features; spelled = h.spelled; tree = h.says.tree; over = h.says.over }
 
-lawful_units : (names : List (List ℕ)) (texts : List UnitText) (units : List PlainUnit) → AreUnits names texts units → All (IsLawful names) (map (λ u. u.when) texts)
+pub lawful_units : (names : List (List ℕ)) (texts : List UnitText) (units : List PlainUnit) → AreUnits names texts units → All (IsLawful names) (map (λ u. u.when) texts)
 lawful_units names [] units h = All-nil (IsLawful names)
 lawful_units names (t ∷ texts) [] h = absurd h
 lawful_units names (t ∷ texts) (u ∷ units) h =

@@ -1,8 +1,12 @@
-//! Laws of the definitions.
-ghost use Rattle.project_file.specs.Laws.{FaultyFilesSayNoProject};
+//! Laws of project files. Each function is its contract alone.
+ghost use Rattle.project_file.specs.Laws.{FirstFaultIsOne, ProjectsHaveNoFault};
 
-/// A project file that says a project has none of the faults. It does nothing.
-pub fn faulty_files_say_no_project()
-    ensures { FaultyFilesSayNoProject }
-{
-}
+/// A file that says a project has no fault, so `parse_project` answers one of the two, or want of memory.
+pub fn projects_have_no_fault()
+    ensures { ProjectsHaveNoFault }
+{}
+
+/// A file has one first fault at most.
+pub fn first_fault_is_one()
+    ensures { FirstFaultIsOne }
+{}

@@ -1,5 +1,5 @@
 //! Small project files.
-use crate::{Project, ProjectError, parse_project};
+use crate::{first_fault_is_one, parse_project, projects_have_no_fault};
 use cond_formula::Config;
 use std::alloc::Global;
 use std::process::Abort;
@@ -38,6 +38,8 @@ fn fault(rt: &impl Abort, alloc: Global, text: &str, want: &str) -> Result<(), F
 
 #[test]
 fn faults_are_found(rt: HostRuntime) -> Result<(), Fail> {
+    projects_have_no_fault();
+    first_fault_is_one();
     let alloc = rt.alloc();
     fault(&rt, alloc, "features", "not toml")?;
     fault(&rt, alloc, "", "shape unit")?;

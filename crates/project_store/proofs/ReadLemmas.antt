@@ -1,6 +1,6 @@
 -- One read after another.
-use Rattle.std.proofs.Common.{◌≡◌, ℕ, zero, suc, ◌+◌, ◌<◌, ◌≤◌, List, [], ◌∷◌, ◌++◌, map, length, take, drop, get_or, Some, None, Bor, refl, sym, ap, subst, ◌∙◌, arith}
-use Rattle.std.specs.List.{All, Contains}
+use Rattle.std.proofs.Common.{◌≡◌, ℕ, zero, suc, ◌+◌, ◌<◌, List, [], ◌∷◌, ◌++◌, map, length, take, drop, get_or, Bor, refl, sym, ap, subst, ◌∙◌, arith}
+use Rattle.std.specs.List.{Contains}
 use Rattle.std.proofs.lemmas.List.{map_more, map-append}
 use Rattle.std.proofs.lemmas.List.Elements.{All-push}
 use Rattle.text_edits.specs.Files.{PlainFile, Lookup}
@@ -8,8 +8,8 @@ use Rattle.project_file.specs.declared.errors.ProjectError.{ProjectError}
 use Rattle.project_file.specs.declared.errors.ProjectError.TheVariants.{NotToml, Shape, Feature, Constraint, Duplicate, Size, Read, Memory}
 use Rattle.project_file.specs.Faults.{Fault, size, not_toml, shape, feature, duplicate, constraint}
 use Rattle.project_file.specs.View.{Why}
-use Rattle.project_store.specs.Faults.{Rose, HasCause}
-use Rattle.project_store.specs.Reads.{IsReadAlone, Stands, IsAbsent, IsRead, AreFilesOf, IsFirstTooLong, IsTooLong, HasAbsent, IsLongFile, IsLong, IsSource}
+use Rattle.project_store.specs.Faults.{HasCause}
+use Rattle.project_store.specs.Reads.{IsReadAlone, Stands, IsAbsent, IsRead, AreFilesOf, IsTooLong, HasAbsent, IsLong, IsSource}
 
 abbrev pub text_of : Bor (List ℕ) → List ℕ
 text_of name = name.now

@@ -1,9 +1,9 @@
 -- What is read from a store: files, and the project that its file says.
-use Rattle.std.specs.Prelude.{◌≡◌, ℕ, ◌<◌, ◌≤◌, List, [], ◌∷◌, ◌++◌, map, length, Some, None, All, Contains}
+use Rattle.std.specs.Prelude.{◌≡◌, ℕ, ◌<◌, ◌≤◌, List, ◌∷◌, ◌++◌, map, length, Some, None, All, Contains}
 use Rattle.text_edits.specs.Files.{PlainFile, Lookup}
 use Rattle.project_file.specs.Contents.{longest_file}
 use Rattle.project_file.specs.Projects.{PlainProject, IsProject}
-use Rattle.project_file.specs.Faults.{Fault, size, not_toml, shape, feature, duplicate, constraint, FirstFault}
+use Rattle.project_file.specs.Faults.{Fault, size, FirstFault}
 use Rattle.project_file.specs.declared.errors.ProjectError.{ProjectError}
 use Rattle.project_file.specs.declared.errors.ProjectError.TheVariants.{Read, Memory}
 use Rattle.project_store.specs.declared.store.StoreFault.{StoreFault}

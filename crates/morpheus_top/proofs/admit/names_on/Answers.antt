@@ -2,7 +2,7 @@ use Rattle.std.proofs.Common.{◌≡◌, ◌∙◌, ◌++◌, ◌+◌, sym, ap, 
 use Rattle.std.specs.String.{string_bytes}
 use Rattle.cond_formula.specs.Features.{has}
 use Rattle.morpheus_top.specs.Admit.{names_from}
-use Rattle.morpheus_top.proofs.AdmitLemmas.{one_more, none_more}
+use Rattle.morpheus_top.proofs.AdmitLemmas.{one_more, none_more, at_end}
 use Rattle.morpheus_top.proofs.admit.names_on.Goals.{then-has+in_ok-clone+in_ok-push, else-has}
 use Rattle.morpheus_top.proofs.admit.names_on.Goals as goal
 
@@ -16,7 +16,7 @@ loop-number-preserved c =
           ap (λ (names : Vec (String Global) Global). map string_bytes names.items ++ names_from (i + 1) on (map string_bytes (drop (i + 1) features))) w.names-is
           ∙ (ap (λ names. map string_bytes names ++ names_from (i + 1) on (map string_bytes (drop (i + 1) features))) w.in_ok-push.ensures.items
           ∙ (one_more on c.loop-number.names.items features i c.index-features-number.result w.in_ok-clone.field-0 c.loop-number-test.true c.index-features-number.is
-              (sym c.has.ensures ∙ w.if-has.true) ? ∙ c.loop-number.invariant))
+              (sym c.has.ensures ∙ w.if-has.true) w.in_ok-clone.ensures.cases ∙ c.loop-number.invariant))
       | else-has w ↦
           ap (λ (names : Vec (String Global) Global). map string_bytes names.items ++ names_from (i + 1) on (map string_bytes (drop (i + 1) features))) w.names-is
           ∙ (none_more on c.loop-number.names.items features i c.index-features-number.result c.loop-number-test.true c.index-features-number.is
@@ -24,4 +24,4 @@ loop-number-preserved c =
     ]
 
 pub returns : goal.returns
-returns c = ?
+returns c = at_end (has c.args.c) c.loop-number.names.items c.args.features.now c.loop-number.number _ c.loop-number-test.false c.loop-number.invariant

@@ -1,4 +1,4 @@
-use Rattle.std.proofs.Common.{◌∙◌, ap, sym, Some}
+use Rattle.std.proofs.Common.{◌∙◌, ap, sym, Some, Err}
 use Rattle.morpheus_top.specs.Quick.{asked}
 use Rattle.morpheus_top.proofs.QuickLemmas.{read_and_ran, read_failed, memory_ended}
 use Rattle.morpheus_top.proofs.quick.quick.Goals as goal
@@ -21,7 +21,7 @@ returns-in-Ok g c = λ words a.
 pub returns-in-Err-Failed : goal.returns-in-Err-Failed
 returns-in-Err-Failed g c = λ words a.
     let e = c.in-Err-Failed.ensures in
-    read_failed words (asked c.args.renaming.now) _ _ a (λ t. e.files t) (e.cause.rose c.in-Err-Failed.field-0-is) (e.absent c.in-Err-Failed.field-0-is) c.read_fault.result.reply c.read_fault.ensures
+    read_failed words (asked c.args.renaming.now) _ _ a (λ t. e.files t) (e.cause.rose (ap Err c.in-Err-Failed.field-0-is)) (e.absent (ap Err c.in-Err-Failed.field-0-is)) c.read_fault.result.reply c.read_fault.ensures
 
 pub returns-in-Err-Memory : goal.returns-in-Err-Memory
 returns-in-Err-Memory g c = λ words a. memory_ended words _ _ (λ t. c.in-Err-Memory.ensures.files t) c.want_of_memory.result.reply c.want_of_memory.ensures

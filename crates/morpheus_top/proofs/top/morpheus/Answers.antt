@@ -58,10 +58,10 @@ pub returns-clause-bad_project : goal.returns-clause-bad_project
 returns-clause-bad_project g c = λ e t. bad_project_lem _ _ _ _ _ _ c.serve.ensures e
 
 pub returns-clause-admits : goal.returns-clause-admits
-returns-clause-admits g c = admits_lem c.faulty_files_say_no_project.ensures _ _ _ _ _ _ c.serve.ensures
+returns-clause-admits g c = admits_lem c.projects_have_no_fault.ensures _ _ _ _ _ _ c.serve.ensures
 
 pub returns-clause-refuses_project : goal.returns-clause-refuses_project
-returns-clause-refuses_project g c = refuses_project_lem c.faulty_files_say_no_project.ensures _ _ _ _ _ _ c.serve.ensures
+returns-clause-refuses_project g c = refuses_project_lem c.projects_have_no_fault.ensures _ _ _ _ _ _ c.serve.ensures
 
 pub returns-clause-prints_least : goal.returns-clause-prints_least
 returns-clause-prints_least g c = prints_least_lem _ _ _ _ _ _ c.serve.ensures
