@@ -1,6 +1,6 @@
 //! The translation of a formula into clauses.
 
-ghost use Rattle.std.specs.Prelude.{◌≡◌, ◌+◌, ◌<◌, ◌≤◌, Bool, true, false, not, ℕ, pos, List, [], ◌∷◌, ◌++◌, map, length, IfOk, OnOk, All};
+ghost use Rattle.std.specs.Prelude.{◌≡◌, ◌+◌, ◌<◌, [], ◌∷◌, ◌++◌, IfOk, OnOk, All};
 ghost use Rattle.cond_formula.specs.Conditions.{condition_of, conditions_of, VarsBelow};
 ghost use Rattle.clause_search.specs.Answers.{literals_of};
 ghost use Rattle.sat_core.specs.Translations.{IsTranslation};
