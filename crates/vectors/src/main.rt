@@ -4,6 +4,8 @@
 //! that differs is printed, and at the end of a file how many of its cases agree.
 #![tactic(auto)]
 
+#[cfg(test)]
+mod admit_rows;
 mod answer;
 mod case;
 mod difference;

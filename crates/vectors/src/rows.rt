@@ -115,20 +115,24 @@ const ROWS: [Row; 7] = [
     SINK_FAILS,
 ];
 
-/// The words of a row's command.
-fn words_of(alloc: Global, row: &Row) -> Result<Vec<String>, AllocError> {
-    let mut words = Vec::new(alloc);
-    for word in ["quick", "q.c", "x", row.new, "out"] {
-        words.push(String::from_str(alloc, word)?)?;
+/// Words of their own.
+pub(crate) fn owned_words(alloc: Global, words: &[&str]) -> Result<Vec<String>, AllocError> {
+    let mut owned = Vec::new(alloc);
+    for word in words {
+        owned.push(String::from_str(alloc, word)?)?;
     }
-    Ok(words)
+    Ok(owned)
 }
 
-/// The files of a row.
-fn files_of(alloc: Global, row: &Row) -> Result<Files, AllocError> {
+/// The one file of a row, if it has one.
+pub(crate) fn files_of(
+    alloc: Global,
+    name: &str,
+    content: Option<&'static str>,
+) -> Result<Files, AllocError> {
     let mut list = Vec::new(alloc);
-    if let Some(content) = row.content {
-        let name = String::from_str(alloc, "q.c")?;
+    if let Some(content) = content {
+        let name = String::from_str(alloc, name)?;
         let bytes = Vec::from_slice(alloc, content.as_bytes())?;
         list.push(SourceFile { name, bytes })?;
     }
@@ -136,7 +140,7 @@ fn files_of(alloc: Global, row: &Row) -> Result<Files, AllocError> {
 }
 
 /// The numbers of the calls that fail.
-fn failing(alloc: Global, number: u32) -> Result<Vec<u32>, AllocError> {
+pub(crate) fn failing(alloc: Global, number: u32) -> Result<Vec<u32>, AllocError> {
     let mut numbers = Vec::new(alloc);
     if number > 0 {
         numbers.push(number)?;
@@ -154,7 +158,7 @@ struct Outcome {
 }
 
 /// Whether the store has these bytes under the name, or nothing where none are wanted.
-fn holds(store: &MemoryStore, name: &str, wanted: Option<&'static str>) -> bool {
+pub(crate) fn holds(store: &MemoryStore, name: &str, wanted: Option<&'static str>) -> bool {
     match (store.get(name), wanted) {
         (Some(bytes), Some(text)) => bytes == text.as_bytes(),
         (None, None) => true,
@@ -164,8 +168,8 @@ fn holds(store: &MemoryStore, name: &str, wanted: Option<&'static str>) -> bool 
 
 /// Carries out a row's command.
 fn carried_out(alloc: Global, row: &Row) -> Result<Outcome, AllocError> {
-    let words = words_of(alloc, row)?;
-    let files = files_of(alloc, row)?;
+    let words = owned_words(alloc, &["quick", "q.c", "x", row.new, "out"])?;
+    let files = files_of(alloc, "q.c", row.content)?;
     let mut store = MemoryStore::new(alloc, files, failing(alloc, row.failing_store)?);
     let mut out = MemorySink::new(alloc, failing(alloc, row.failing_sink)?);
     let status = morpheus(alloc, &words, &mut store, &mut out);
