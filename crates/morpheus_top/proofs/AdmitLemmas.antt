@@ -1,5 +1,5 @@
 -- The names that are on, and how they are listed.
-use Rattle.std.proofs.Common.{◌≡◌, ℕ, suc, ◌+◌, ◌<◌, ◌≤◌, ◌==◌, Bool, true, false, length, get_or, drop, List, [], ◌∷◌, ◌++◌, map, String, Global, Result, Ok, Err, IfOk, codes, refl, sym, ap, ◌∙◌, arith}
+use Rattle.std.proofs.Common.{◌≡◌, ℕ, ◌+◌, ◌<◌, ◌≤◌, ◌==◌, Bool, true, false, length, get_or, drop, List, [], ◌∷◌, ◌++◌, map, String, Global, Result, Ok, Err, IfOk, codes, refl, sym, ap, ◌∙◌}
 use Rattle.std.specs.String.{string_bytes}
 use Rattle.std.specs.declared.alloc.AllocError.{AllocError}
 use Rattle.std.specs.List.{join_by, flat_map}
@@ -25,8 +25,8 @@ module _ (on : ℕ → Bool) where
       ap (λ xs. xs ++ names_from (i + 1) on rest) (map-append string_bytes names (copy ∷ []))
       ∙ (append_assoc (map string_bytes names) (string_bytes copy ∷ []) (names_from (i + 1) on rest)
       ∙ ap (λ xs. map string_bytes names ++ xs)
-          (ap (λ x. x ∷ names_from (i + 1) on rest) same
-          ∙ sym (from_here features i feature h is ∙ with_first i (string_bytes feature) rest is_on)))
+      (ap (λ x. x ∷ names_from (i + 1) on rest) same
+      ∙ sym (from_here features i feature h is ∙ with_first i (string_bytes feature) rest is_on)))
 
   pub none_more : (names features : List (String Global)) (i : ℕ) (feature : String Global) → i < length features → feature ≡ get_or features i feature → on i ≡ false → map string_bytes names ++ names_from (i + 1) on (map string_bytes (drop (i + 1) features)) ≡ map string_bytes names ++ names_from i on (map string_bytes (drop i features))
   none_more names features i feature h is is_off =

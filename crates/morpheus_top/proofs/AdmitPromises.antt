@@ -1,8 +1,8 @@
 -- What follows from a call's answer where the words ask for the least configuration of a project.
-use Rattle.std.proofs.Common.{◌≡◌, ◌⊎◌, inl, inr, ℕ, ◌<◌, ◌≤◌, List, [], ◌∷◌, ◌++◌, length, map, Some, Option, refl, sym, ◌∙◌, ap, subst, arith, codes, lit<, true}
+use Rattle.std.proofs.Common.{◌≡◌, ◌⊎◌, inl, inr, ℕ, List, [], ◌∷◌, ◌++◌, map, Some, Option, refl, sym, ◌∙◌, subst, arith}
 use Rattle.std.specs.String.{string_bytes}
 use Rattle.project_file.specs.Projects.{PlainProject, IsProject}
-use Rattle.project_file.specs.Faults.{Fault, FirstFault}
+use Rattle.project_file.specs.Faults.{Fault}
 use Rattle.project_file.specs.Laws.{ProjectsHaveNoFault}
 use Rattle.project_store.specs.Reads.{SaysProject, HasFault}
 use Rattle.morpheus_top.specs.declared.replies.Reply.{Reply}
@@ -11,7 +11,7 @@ use Rattle.morpheus_top.specs.Words.{AsksAdmit}
 use Rattle.morpheus_top.specs.Replies.{status_of, report_of, fault_view}
 use Rattle.morpheus_top.specs.Admit.{AdmitsLeast, AdmitsNone}
 use Rattle.morpheus_top.specs.States.{StoreState, SinkState, Kept}
-use Rattle.morpheus_top.specs.Calls.{SaysReadFault, SaysWriteFault, Holds, Answers}
+use Rattle.morpheus_top.specs.Calls.{SaysReadFault, Holds, Answers}
 use Rattle.morpheus_top.specs.Promises.{IsOneOf, NoFault, FitsReports, PrintsLeast, PrintsFault}
 use Rattle.morpheus_top.proofs.Promises.{one_command, one_project, settled, first_of_three, second_of_three, third_of_three, no_read_rise, no_read_there}
 

@@ -1,5 +1,5 @@
 -- The steps of `admit` joined.
-use Rattle.std.proofs.Common.{◌≡◌, inr, ℕ, ◌≤◌, List, length, map, None, refl, sym, ap, subst, ◌∙◌, arith}
+use Rattle.std.proofs.Common.{◌≡◌, inr, ℕ, ◌≤◌, List, length, refl, sym, subst}
 use Rattle.std.specs.String.{string_bytes}
 use Rattle.cond_formula.specs.Conditions.{VarsBelow}
 use Rattle.project_file.specs.Projects.{PlainProject, IsProject}
@@ -11,8 +11,7 @@ use Rattle.project_store.specs.Faults.{Rose}
 use Rattle.project_store.specs.Reads.{SaysProject, HasFault, IsAbsent}
 use Rattle.morpheus_top.specs.declared.replies.Reply.{Reply}
 use Rattle.morpheus_top.specs.declared.replies.Reply.TheVariants.{Renamed, Usage, ReadFault, WriteFault, WantOfMemory, NotQuick, BadProject, Admits, AdmitsNothing}
-use Rattle.morpheus_top.specs.Words.{AsksAdmit, Reads}
-use Rattle.morpheus_top.specs.Replies.{fault_view}
+use Rattle.morpheus_top.specs.Words.{AsksAdmit}
 use Rattle.morpheus_top.specs.Admit.{Found, Reports, IsReplyTo}
 use Rattle.morpheus_top.specs.States.{StoreState, Kept}
 use Rattle.morpheus_top.specs.Calls.{Holds}

@@ -14,8 +14,8 @@ ghost use Rattle.morpheus_top.specs.Calls.{Holds};
 use crate::faults::ProjectFault;
 use crate::replies::{Answer, Reply};
 use cond_formula::Config;
-use sat_core::{Answer as Verdict, solve};
 use project_store::{Project, ProjectError, Store, read_project};
+use sat_core::{Answer as Verdict, solve};
 use std::alloc::{AllocError, Global};
 
 /// The names of the features that are on.

@@ -15,8 +15,8 @@ use crate::give::give;
 use crate::quick::quick;
 use crate::replies::Answer;
 use crate::words::{Command, asked_command};
-use project_store::{Sink, Store};
 use project_file::projects_have_no_fault;
+use project_store::{Sink, Store};
 use quick_form::renaming_keeps_behaviour;
 use std::alloc::Global;
 
@@ -134,9 +134,9 @@ pub fn morpheus<S: Store, K: Sink>(
     ensures sure_admit { S.tells_room store.old → K.tells_room out.old → (name bytes : List ℕ) → AsksAdmit (map string_bytes words.now) name
         → S.file store.old name ≡ Some bytes
         → FitsReports (map string_bytes words.now)
-            (store_state S.tells S.file S.read_faults S.write_faults S.tells_room S.names_left S.bytes_left store.old)
-            (store_state S.tells S.file S.read_faults S.write_faults S.tells_room S.names_left S.bytes_left store.new)
-            (K.room out.old)
+        (store_state S.tells S.file S.read_faults S.write_faults S.tells_room S.names_left S.bytes_left store.old)
+        (store_state S.tells S.file S.read_faults S.write_faults S.tells_room S.names_left S.bytes_left store.new)
+        (K.room out.old)
         → IsOneOf (0 ∷ 5 ∷ 7 ∷ []) result }
 {
     // The laws behind the clauses on behaviour and on projects; they do nothing.

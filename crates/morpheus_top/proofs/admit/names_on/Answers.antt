@@ -1,4 +1,4 @@
-use Rattle.std.proofs.Common.{◌≡◌, ◌∙◌, ◌++◌, ◌+◌, sym, ap, map, drop, String, Global, Vec}
+use Rattle.std.proofs.Common.{◌∙◌, ◌++◌, ◌+◌, sym, ap, map, drop, String, Global, Vec}
 use Rattle.std.specs.String.{string_bytes}
 use Rattle.cond_formula.specs.Features.{has}
 use Rattle.morpheus_top.specs.Admit.{names_from}
@@ -16,11 +16,11 @@ loop-number-preserved c =
           ap (λ (names : Vec (String Global) Global). map string_bytes names.items ++ names_from (i + 1) on (map string_bytes (drop (i + 1) features))) w.names-is
           ∙ (ap (λ names. map string_bytes names ++ names_from (i + 1) on (map string_bytes (drop (i + 1) features))) w.in_ok-push.ensures.items
           ∙ (one_more on c.loop-number.names.items features i c.index-features-number.result w.in_ok-clone.field-0 c.loop-number-test.true c.index-features-number.is
-              (sym c.has.ensures ∙ w.if-has.true) w.in_ok-clone.ensures.cases ∙ c.loop-number.invariant))
+          (sym c.has.ensures ∙ w.if-has.true) w.in_ok-clone.ensures.cases ∙ c.loop-number.invariant))
       | else-has w ↦
           ap (λ (names : Vec (String Global) Global). map string_bytes names.items ++ names_from (i + 1) on (map string_bytes (drop (i + 1) features))) w.names-is
           ∙ (none_more on c.loop-number.names.items features i c.index-features-number.result c.loop-number-test.true c.index-features-number.is
-              (sym c.has.ensures ∙ w.if-has.false) ∙ c.loop-number.invariant)
+          (sym c.has.ensures ∙ w.if-has.false) ∙ c.loop-number.invariant)
     ]
 
 pub returns : goal.returns

@@ -1,5 +1,4 @@
-use Rattle.std.proofs.Common.{◌≡◌, ◌∙◌, sym}
-use Rattle.std.specs.String.{string_bytes}
+use Rattle.std.proofs.Common.{◌∙◌, sym}
 use Rattle.morpheus_top.proofs.AdmitLemmas.{joined_ok}
 use Rattle.morpheus_top.proofs.replies.listed.Goals as goal
 
