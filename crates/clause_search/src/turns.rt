@@ -37,7 +37,7 @@ enum Turn {
 /// The least assignment of variables 1 up to `vars` that satisfies the clauses, or a refutation of them.
 ///
 /// It takes the first variable whose value isn't forced as false, and so on. Where that leads to a conflict, a step says
-/// that one of these decisions is wrong, and the last of them is taken back.
+/// that one of the decisions which led there is wrong, and the last of these and those after it are taken back.
 pub fn search(alloc: Global, vars: u32, clauses: &[Vec<i32>]) -> Result<Found, NoMemory>
     requires few { vars < 2147483648 }
     requires formed { IsTrue (list_all (is_clause vars) (literals_of clauses.now)) }
