@@ -1,5 +1,7 @@
 //! Small project files.
-use crate::{first_fault_is_one, parse_project, projects_have_no_fault};
+use crate::{
+    LONGEST_FILE, ProjectError, first_fault_is_one, parse_project, projects_have_no_fault,
+};
 use cond_formula::Config;
 use std::alloc::Global;
 use std::process::Abort;
@@ -76,5 +78,13 @@ fn faults_are_found(rt: HostRuntime) -> Result<(), Fail> {
         "features = ['A']\nconstraints = ['A']\n[[unit]]\nfile = 'm.c'\n[[unit]]\nfile = 'n.c'\nwhen = '('\n",
         "constraint 3",
     )?;
+    Ok(())
+}
+
+#[test]
+fn long_files_are_refused(rt: HostRuntime) -> Result<(), Fail> {
+    let bytes = vec![in rt.alloc(); b' '; LONGEST_FILE + 1]?;
+    let refused = parse_project(rt.alloc(), "p.toml", &bytes);
+    assert!(rt; matches!(&refused, Err(ProjectError::Size(_))));
     Ok(())
 }
