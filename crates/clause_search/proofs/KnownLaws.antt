@@ -1,8 +1,11 @@
 -- What looking at a clause keeps.
-use Rattle.std.proofs.Common.{◌≡◌, ℕ, ℤ, Bool, List, [], Option, Some, refl, sym, ap, ◌∙◌, subst}
+use Rattle.std.proofs.Common.{◌≡◌, ℕ, ◌+◌, ◌<◌, ℤ, Bool, true, List, [], length, get_or, take, Option, Some, refl, sym, ap, ◌∙◌, subst}
+use Rattle.std.proofs.lemmas.Bool.{false≢true}
+use Rattle.std.proofs.lemmas.List.Elements.{All-more}
 use Rattle.refute_check.specs.Steps.{Judgement, false_clause, unit, neither, hint_judgement, clause_at}
 use Rattle.clause_search.specs.declared.trail.Effect.{Effect}
-use Rattle.clause_search.specs.Known.{Known, HasEffect, AreFollowed, GoesOn, with_literal}
+use Rattle.clause_search.specs.declared.trail.Effect.TheVariants.{Refutes, Extends, Idle}
+use Rattle.clause_search.specs.Known.{Known, HasEffect, AreFollowed, GoesOn, IsPassing, with_literal}
 use Rattle.clause_search.specs.Following.{followed}
 use Rattle.clause_search.proofs.FollowingLaws.{followed-more}
 
@@ -29,3 +32,32 @@ module _ (clauses : List (List ℤ)) (number : ℕ) (effect : Effect) (before af
 
   pub goes_on : HasEffect (hint_judgement before.values (clause_at clauses number)) number effect before after → GoesOn clauses before after
   goes_on has = judged_goes_on (hint_judgement before.values (clause_at clauses number)) refl has
+
+  judged_idle : (judgement : Judgement) → HasEffect judgement number effect before after → effect ≡ Idle → (judgement ≡ neither) × (after ≡ before)
+  judged_idle false_clause has is = let apart : Refutes ≡ Idle = sym has.0 ∙ is in cc
+  judged_idle (unit literal) has is = let apart : Extends ≡ Idle = sym has.0 ∙ is in cc
+  judged_idle neither has is = (refl, has.1)
+
+-- one more clause of a pass
+module _ (clauses : List (List ℤ)) (numbers : List ℕ) (index : ℕ) (within : index < length numbers) (effect : Effect) (first before after : Known) (old : Bool) (passing : IsPassing clauses (take index numbers) first before old) (has : HasEffect (hint_judgement before.values (clause_at clauses (get_or numbers index 0))) (get_or numbers index 0) effect before after) where
+  further : GoesOn clauses first after
+  further = GoesOn-further clauses first before after passing.goes_on (goes_on clauses (get_or numbers index 0) effect before after has)
+
+  pub passing-changed : (new : Bool) → new ≡ true → IsPassing clauses (take (index + 1) numbers) first after new
+  passing-changed new is = record {
+    goes_on = further;
+    same = λ not_changed. absurd (false≢true (sym not_changed ∙ is));
+    settled = λ not_changed. absurd (false≢true (sym not_changed ∙ is));
+  }
+
+  pub passing-idle : (new : Bool) → new ≡ old → effect ≡ Idle → IsPassing clauses (take (index + 1) numbers) first after new
+  passing-idle new kept idle =
+      let both = judged_idle clauses (get_or numbers index 0) effect before after (hint_judgement before.values (clause_at clauses (get_or numbers index 0))) has idle in
+      record {
+        goes_on = further;
+        same = λ not_changed. both.1 ∙ passing.same (sym kept ∙ not_changed);
+        settled = λ not_changed.
+            let unchanged = sym kept ∙ not_changed in
+            let here = subst (λ (known : Known). hint_judgement known.values (clause_at clauses (get_or numbers index 0)) ≡ neither) (passing.same unchanged) both.0 in
+            record { each = All-more (λ (n : ℕ). hint_judgement first.values (clause_at clauses n) ≡ neither) numbers index 0 within (passing.settled unchanged).each here };
+      }

@@ -1,5 +1,5 @@
 -- What is known of the variables in a turn of the search, and what looking at clauses does to it.
-use Rattle.std.specs.Prelude.{◌≡◌, ℕ, ℤ, Bool, List, [], ◌∷◌, ◌++◌, Option, Some}
+use Rattle.std.specs.Prelude.{◌≡◌, ℕ, ℤ, Bool, false, List, [], ◌∷◌, ◌++◌, Option, Some, All}
 use Rattle.clause_search.specs.declared.trail.Trail.{Trail}
 use Rattle.clause_search.specs.declared.trail.Effect.{Effect}
 use Rattle.clause_search.specs.declared.trail.Effect.TheVariants.{Refutes, Extends, Idle}
@@ -42,8 +42,18 @@ pub record GoesOn (clauses : List (List ℤ)) (before after : Known) : Type 0 wh
 pub record IsRefutedAt (clauses : List (List ℤ)) (known : Known) (number : ℕ) : Type 0 where
   pub judged : hint_judgement known.values (clause_at clauses number) ≡ false_clause
 
--- a pass that ends in a conflict names a clause that is false
-abbrev pub HasPassed : List (List ℤ) → Known → Pass → Type 0
-HasPassed clauses after (Conflict number) = IsRefutedAt clauses after number
-HasPassed clauses after Changed = Unit {0}
-HasPassed clauses after Stable = Unit {0}
+-- none of the clauses with these numbers is false or makes a literal true
+pub record IsSettled (clauses : List (List ℤ)) (known : Known) (numbers : List ℕ) : Type 0 where
+  pub each : All (λ number. hint_judgement known.values (clause_at clauses number) ≡ neither) numbers
+
+-- what a pass over the clauses with these numbers comes to
+abbrev pub HasPassed : List (List ℤ) → List ℕ → Known → Pass → Type 0
+HasPassed clauses numbers after (Conflict number) = IsRefutedAt clauses after number
+HasPassed clauses numbers after Changed = Unit {0}
+HasPassed clauses numbers after Stable = IsSettled clauses after numbers
+
+-- how far a pass has come: as long as nothing changed, what is known is as before
+pub record IsPassing (clauses : List (List ℤ)) (numbers : List ℕ) (before after : Known) (changed : Bool) : Type 0 where
+  pub goes_on : GoesOn clauses before after
+  pub same : changed ≡ false → after ≡ before
+  pub settled : changed ≡ false → IsSettled clauses before numbers

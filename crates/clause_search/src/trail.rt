@@ -1,6 +1,6 @@
 //! Unit propagation, which keeps the hints by which a step is checked.
 
-ghost use Rattle.std.specs.Prelude.{◌≡◌, ◌+◌, ℕ, false, [], replicate, IfOk, IfSome};
+ghost use Rattle.std.specs.Prelude.{◌≡◌, ◌+◌, ℕ, false, [], replicate, IfOk, IfSome, IfNone};
 ghost use Rattle.refute_check.specs.Steps.{Judgement, value_of, is_false, all_false, judged, judgement, clause_at, hint_judgement, no_values, all_taken_false};
 ghost use Rattle.clause_search.specs.Answers.{literals_of, steps_of};
 ghost use Rattle.clause_search.specs.Following.{numbered};
@@ -9,7 +9,7 @@ use crate::answers::Step;
 use crate::literals::{are_false, is_false_literal, take_false, take_true, value_of};
 use crate::numbers::clause_with;
 use cond_formula::NoMemory;
-use std::alloc::Global;
+use std::alloc::{AllocError, Global};
 
 /// What is known of the variables from some decisions.
 #[derive(Drop)]
@@ -41,7 +41,7 @@ pub enum Pass {
 }
 
 impl Trail {
-    ghost use Rattle.clause_search.specs.Known.{known_of, HasEffect, GoesOn, IsRefutedAt, HasPassed};
+    ghost use Rattle.clause_search.specs.Known.{known_of, HasEffect, GoesOn, IsRefutedAt, IsSettled, HasPassed};
 
     /// What is known before any clause is looked at: the literals of `decisions` are false.
     pub fn new(alloc: Global, vars: u32, decisions: &[i32]) -> Result<Trail, NoMemory>
@@ -70,15 +70,17 @@ impl Trail {
             (λ _. GoesOn (numbered (literals_of given.now) (steps_of steps.now)) (known_of self.old) (known_of self.new)) }
         ensures conflict { IfOk result
             (λ conflict. IfSome conflict (IsRefutedAt (numbered (literals_of given.now) (steps_of steps.now)) (known_of self.new))) }
+        ensures settled { IfOk result
+            (λ conflict. IfNone conflict (IsSettled (numbered (literals_of given.now) (steps_of steps.now)) (known_of self.new) numbers.now)) }
     {
-        for _ in 0..self.values.len() {
+        for _ in 0..u64::MAX {
             match self.pass(given, steps, numbers)? {
                 Pass::Conflict(number) => return Ok(Some(number)),
                 Pass::Changed => {}
                 Pass::Stable => return Ok(None),
             }
         }
-        Ok(None)
+        Err(AllocError)
     }
 
     // Looks at each clause once.
@@ -91,7 +93,7 @@ impl Trail {
         ensures goes_on { IfOk result
             (λ _. GoesOn (numbered (literals_of given.now) (steps_of steps.now)) (known_of self.old) (known_of self.new)) }
         ensures conflict { IfOk result
-            (HasPassed (numbered (literals_of given.now) (steps_of steps.now)) (known_of self.new)) }
+            (HasPassed (numbered (literals_of given.now) (steps_of steps.now)) numbers.now (known_of self.new)) }
     {
         let mut changed = false;
         for number in numbers {
