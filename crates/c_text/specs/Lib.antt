@@ -1,1 +1,5 @@
 pub mod Token
+pub mod Splices
+pub mod Constants
+pub mod Pieces
+pub mod Lines
