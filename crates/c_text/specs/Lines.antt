@@ -1,10 +1,11 @@
 -- The logical lines of a text and their tokens (ISO/IEC 9899:2011, 5.1.1.2, phases 2 and 3).
-use Rattle.std.specs.Prelude.{◌≡◌, ℕ, suc, ◌<◌, Bool, true, false, List, [], ◌∷◌, ◌++◌, length, codes, Option, Some, None}
+use Rattle.std.specs.Prelude.{◌≡◌, ℕ, suc, ◌<◌, Bool, true, false, List, [], ◌∷◌, ◌++◌, length, map, codes, Option, Some, None}
 use Rattle.std.specs.Str.{bytes_eq}
-use Rattle.text_edits.specs.Span.{PlainSpan}
+use Rattle.text_edits.specs.Span.{PlainSpan, plain_span}
 use Rattle.c_text.specs.declared.origin.Place.TheVariants as place
 use Rattle.c_text.specs.declared.token.TokenKind.{TokenKind}
-use Rattle.c_text.specs.Token.{PlainOrigin, PlainToken}
+use Rattle.c_text.specs.declared.line.Line.{Line}
+use Rattle.c_text.specs.Token.{PlainOrigin, PlainToken, plain_token}
 use Rattle.c_text.specs.Splices.{Placed, bytes_of, spliced}
 use Rattle.c_text.specs.Pieces.{PieceKind, space, line_end, token, piece_of}
 
@@ -106,3 +107,7 @@ pub record AreItsLines (file : ℕ) (text : List ℕ) (lines : List PlainLine) :
   pub pieces : List Piece
   pub are_pieces : AreItsPieces (spliced text) pieces
   pub lines_are : lines ≡ lines_of file (runs_of 0 (length text) pieces)
+
+-- a line with its tokens as a list
+abbrev pub plain_line : Line → PlainLine
+plain_line l = record { directive = l.directive; tokens = map plain_token l.tokens.items; span = plain_span l.span }
