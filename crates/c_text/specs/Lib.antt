@@ -3,3 +3,5 @@ pub mod Splices
 pub mod Constants
 pub mod Pieces
 pub mod Lines
+pub mod Directives
+pub mod Macros

@@ -1,5 +1,5 @@
 -- The logical lines of a text and their tokens (ISO/IEC 9899:2011, 5.1.1.2, phases 2 and 3).
-use Rattle.std.specs.Prelude.{◌≡◌, ℕ, suc, ◌<◌, Bool, true, false, List, [], ◌∷◌, ◌++◌, length, map, codes, Option, Some, None}
+use Rattle.std.specs.Prelude.{◌≡◌, ℕ, suc, ◌<◌, Bool, true, false, List, [], ◌∷◌, ◌++◌, length, map, codes, Some, None}
 use Rattle.std.specs.Str.{bytes_eq}
 use Rattle.text_edits.specs.Span.{PlainSpan, plain_span}
 use Rattle.c_text.specs.declared.origin.Place.TheVariants as place
