@@ -5,3 +5,6 @@ pub mod Pieces
 pub mod Lines
 pub mod Directives
 pub mod Macros
+pub mod Expressions
+pub mod Trees
+pub mod Preprocessing
