@@ -8,19 +8,19 @@ use c_names::is_digit;
 pub fn is_octal_digit(byte: u8) -> bool
     ensures { result ≡ spec.is_octal_digit byte }
 {
-    b'0' <= byte && byte <= b'7'
+    matches!(byte, b'0'..=b'7')
 }
 
 fn is_lower_hexadecimal(byte: u8) -> bool
     ensures { result ≡ spec.is_lower_hexadecimal byte }
 {
-    b'a' <= byte && byte <= b'f'
+    matches!(byte, b'a'..=b'f')
 }
 
 fn is_upper_hexadecimal(byte: u8) -> bool
     ensures { result ≡ spec.is_upper_hexadecimal byte }
 {
-    b'A' <= byte && byte <= b'F'
+    matches!(byte, b'A'..=b'F')
 }
 
 fn is_hexadecimal_digit(byte: u8) -> bool
@@ -60,15 +60,16 @@ pub fn digits_len(base: u64, bytes: &[u8]) -> usize
     bytes.len()
 }
 
+/// The value of a digit of any base; of other bytes what the contract says.
 fn digit_value(byte: u8) -> u8
     ensures { result ≡ spec.digit_value byte }
 {
     if is_digit(byte) {
         byte.saturating_sub(b'0')
     } else if is_lower_hexadecimal(byte) {
-        byte.saturating_sub(87)
+        byte.saturating_sub(b'a' - 10)
     } else {
-        byte.saturating_sub(55)
+        byte.saturating_sub(b'A' - 10)
     }
 }
 

@@ -27,11 +27,7 @@ fn numeric_escape(base: u64, digits: &[u8], more: usize) -> Option<Value>
 fn byte_of(value: u64) -> Option<u8>
     ensures { MatchOption result (256 ≤ value) (λ b. b ≡ value) }
 {
-    if value <= 255 {
-        Some(value as u8)
-    } else {
-        None
-    }
+    u8::try_from(value).ok()
 }
 
 fn hexadecimal_escape(digits: &[u8]) -> Option<Value>
@@ -98,7 +94,7 @@ fn escape_at(bytes: &[u8]) -> Option<Value>
 fn is_source_byte(byte: u8) -> bool
     ensures { result ≡ spec.is_source_byte byte }
 {
-    byte == b'\t' || (32 <= byte && byte <= 126) || 128 <= byte
+    matches!(byte, b'\t' | b' '..=b'~' | 128..)
 }
 
 /// The value that begins at a byte, which these bytes follow.

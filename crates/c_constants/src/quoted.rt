@@ -58,8 +58,7 @@ fn values(alloc: Global, bytes: &[u8]) -> Result<Option<Vec<u8>>, NoMemory>
 pub fn quoted_values(alloc: Global, text: &[u8]) -> Result<Option<Vec<u8>>, NoMemory>
     ensures { IfOk result (λ values. option_map (λ v. v.items) values ≡ spec.quoted_values text.now) }
 {
-    let values = values(alloc, inside(text))?;
-    Ok(values)
+    values(alloc, inside(text))
 }
 
 /// Whether a character with its quotes stands for one byte.
