@@ -1,5 +1,5 @@
 //! Integer constants (6.4.4.1): digits of base 8, 10 or 16, and a suffix.
-ghost use Rattle.std.specs.Prelude.{◌≡◌, ◌≤◌, ◌<◌, ◌^◌, [], ◌∷◌, map, length, not, ◌&&◌, ◌==◌, codes, nat_le, MatchOption};
+ghost use Rattle.std.specs.Prelude.{◌≡◌, ◌≤◌, ◌^◌, map, length, not, ◌&&◌, ◌==◌, codes, nat_le, MatchOption};
 ghost use Rattle.std.specs.List.{list_any, list_all};
 ghost use Rattle.std.specs.Str.{bytes_eq};
 ghost use Rattle.c_text.specs.Constants as spec;

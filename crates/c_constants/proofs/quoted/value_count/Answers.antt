@@ -3,7 +3,7 @@ use Rattle.std.proofs.lemmas.List.{take_rest}
 use Rattle.c_text.specs.Constants.{Escape, values_from}
 use Rattle.c_constants.specs.View.{value_view}
 use Rattle.c_constants.specs.Values.{value_at}
-use Rattle.c_constants.proofs.ValueLemmas.{counted, counted-skip, counted-some}
+use Rattle.c_constants.proofs.ValueLemmas.{values_from-skip, values_from-begin, counted, counted-more}
 use Rattle.c_constants.proofs.quoted.value_count.Goals as goal
 use Rattle.c_constants.proofs.quoted.value_count.Goals.{then-more-gt0, else-more-gt0+in_ok-more}
 
@@ -17,7 +17,7 @@ loop-i-preserved c =
         omega arith,
         ap (λ n. counted n (values_from c.if-more-gt0.more rest)) w.count-is
             ∙ ap (λ m. counted c.loop-i.count (values_from m rest)) w.more-is
-            ∙ counted-skip bs i c.loop-i.more c.loop-i.count (omega arith) (omega arith) ∙ c.loop-i.invariant.1,
+            ∙ ap (counted c.loop-i.count) (values_from-skip bs i c.loop-i.more (omega arith) (omega arith)) ∙ c.loop-i.invariant.1,
       )
       | else-more-gt0+in_ok-more w ↦
           let e : Escape = value_view w.in_ok-more.field-0 in
@@ -25,6 +25,7 @@ loop-i-preserved c =
             omega arith,
             ap (λ n. counted n (values_from c.if-more-gt0.more rest)) w.count-is
                 ∙ ap (λ m. counted (c.loop-i.count + 1) (values_from m rest)) w.more-is
-                ∙ counted-some bs i c.loop-i.more c.loop-i.count e (omega arith) (omega arith) is ∙ c.loop-i.invariant.1,
+                ∙ counted-more c.loop-i.count e.value (values_from e.length rest)
+                ∙ ap (counted c.loop-i.count) (values_from-begin bs i c.loop-i.more e (omega arith) (omega arith) is) ∙ c.loop-i.invariant.1,
           )
     ]

@@ -3,7 +3,7 @@ use Rattle.std.proofs.lemmas.List.{take_rest}
 use Rattle.c_text.specs.Constants.{Escape, values_from}
 use Rattle.c_constants.specs.View.{value_view}
 use Rattle.c_constants.specs.Values.{value_at}
-use Rattle.c_constants.proofs.ValueLemmas.{collected, collected-skip, collected-some}
+use Rattle.c_constants.proofs.ValueLemmas.{values_from-skip, values_from-begin, collected, collected-more}
 use Rattle.c_constants.proofs.quoted.values.Goals as goal
 use Rattle.c_constants.proofs.quoted.values.Goals.{then-more-gt0, else-more-gt0+in-Some+in_ok-push}
 
@@ -16,7 +16,7 @@ loop-i-preserved c =
       | then-more-gt0 w ↦
           ap (λ v. collected v.items (values_from c.if-more-gt0.more rest)) w.values-is
           ∙ ap (λ m. collected c.loop-i.values.items (values_from m rest)) w.more-is
-          ∙ collected-skip bs i c.loop-i.more c.loop-i.values.items (omega arith) (omega arith) ∙ c.loop-i.invariant
+          ∙ ap (collected c.loop-i.values.items) (values_from-skip bs i c.loop-i.more (omega arith) (omega arith)) ∙ c.loop-i.invariant
       | else-more-gt0+in-Some+in_ok-push w ↦
           let e : Escape = value_view w.in-Some.value in
           let is : Some e ≡ value_at (get_or bs i 0) rest = w.in-Some.ensures ∙ ap (value_at (get_or bs i 0)) (take_rest bs (i + 1)) in
@@ -24,5 +24,6 @@ loop-i-preserved c =
           ap (λ v. collected v.items (values_from c.if-more-gt0.more rest)) w.values-is
           ∙ ap (λ xs. collected xs (values_from c.if-more-gt0.more rest)) w.in_ok-push.ensures.items
           ∙ ap (λ m. collected items (values_from m rest)) w.more-is
-          ∙ collected-some bs i c.loop-i.more c.loop-i.values.items e (omega arith) (omega arith) is ∙ c.loop-i.invariant
+          ∙ collected-more c.loop-i.values.items e.value (values_from e.length rest)
+          ∙ ap (collected c.loop-i.values.items) (values_from-begin bs i c.loop-i.more e (omega arith) (omega arith) is) ∙ c.loop-i.invariant
     ]
