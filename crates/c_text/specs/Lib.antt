@@ -5,3 +5,4 @@ pub mod Pieces
 pub mod Lines
 pub mod Directives
 pub mod Macros
+pub mod PlainMacros
