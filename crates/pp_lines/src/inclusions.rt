@@ -1,8 +1,7 @@
-//! The tokens of an `#include` line.
-ghost use Rattle.std.specs.Prelude.{◌≡◌, map};
+//! The tokens of an `#include` line (6.10.2).
+ghost use Rattle.std.specs.Prelude.{◌≡◌, map, if◌then◌else◌};
 ghost use Rattle.c_text.specs.Token.{plain_token};
 ghost use Rattle.c_text.specs.Directives as spec;
-ghost use Rattle.pp_lines.specs.Inclusions.{is_inclusion};
 
 use crate::words::is_spelled;
 use c_text::{Token, TokenKind};
@@ -15,7 +14,7 @@ fn ends_with_angle(tokens: &[Token]) -> bool
 
 /// Whether the tokens are one text alone, or `<`, tokens and a last `>`.
 pub fn is_inclusion(tokens: &[Token]) -> bool
-    ensures { result ≡ is_inclusion (map plain_token tokens.now) }
+    ensures { spec.inclusion (map plain_token tokens.now) ≡ (if result then spec.include_line (map plain_token tokens.now) else spec.malformed) }
 {
     match tokens {
         [] => false,

@@ -5,8 +5,10 @@
 mod copies;
 mod definitions;
 mod directives;
+mod forms;
 mod inclusions;
 mod parameters;
 mod words;
 
-pub use directives::{Directive, directive};
+pub use directives::directive;
+pub use forms::Directive;
