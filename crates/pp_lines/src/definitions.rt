@@ -33,7 +33,11 @@ fn macro_line(
     }))
 }
 
-fn with_parameters(alloc: Global, name: &Token, parameters: Parameters<'_>) -> Result<Directive, NoMemory>
+fn with_parameters(
+    alloc: Global,
+    name: &Token,
+    parameters: Parameters<'_>,
+) -> Result<Directive, NoMemory>
     ensures { IfOk result (λ d. plain_directive d ≡ spec.function_like (plain_token name.now) (Some (plain_parameters parameters.entry))) }
 {
     let bad = parameters.variadic || has_repetition(parameters.names.as_slice());

@@ -105,11 +105,11 @@ mod tests {
     }
 
     fn kind_of(word: &[u8]) -> TokenKind {
-        match word.first() {
-            Some(b'"') => TokenKind::Text,
-            Some(b'0'..=b'9') => TokenKind::Number,
-            Some(b'a'..=b'z' | b'A'..=b'Z' | b'_') if word == b"int" => TokenKind::Keyword,
-            Some(b'a'..=b'z' | b'A'..=b'Z' | b'_') => TokenKind::Name,
+        match word {
+            b"int" => TokenKind::Keyword,
+            [b'"', ..] => TokenKind::Text,
+            [b'0'..=b'9', ..] => TokenKind::Number,
+            [b'a'..=b'z' | b'A'..=b'Z' | b'_', ..] => TokenKind::Name,
             _ => TokenKind::Punctuator,
         }
     }
@@ -184,7 +184,12 @@ mod tests {
         assert!(rt; matches!(include, Directive::Include(_)));
         assert!(rt; matches!(directive(alloc, &line(alloc, b"#")?)?, Directive::Null));
         assert!(rt; matches!(directive(alloc, &line(alloc, b"# if")?)?, Directive::If(_)));
-        assert!(rt; matches!(directive(alloc, &line(alloc, b"# ifdef int")?)?, Directive::Ifdef(_)));
+        assert!(rt;
+            matches!(
+                directive(alloc, &line(alloc, b"# ifdef int")?)?,
+                Directive::Ifdef(_)
+            )
+        );
         Ok(())
     }
 }

@@ -43,7 +43,10 @@ pub struct Reader {
 fn may_close(place: Place) -> bool
     ensures { result ≡ may_close place }
 {
-    matches!(place, Place::Beginning | Place::BehindName | Place::BehindDots)
+    matches!(
+        place,
+        Place::Beginning | Place::BehindName | Place::BehindDots
+    )
 }
 
 fn is_behind_dots(place: Place) -> bool
@@ -75,7 +78,8 @@ impl Reader {
         if is_spelled(b"...", token) {
             self.place = Place::BehindDots;
         } else if is_word(token) {
-            self.names.push(Vec::from_slice(alloc, token.text.as_slice())?)?;
+            self.names
+                .push(Vec::from_slice(alloc, token.text.as_slice())?)?;
             self.place = Place::BehindName;
         } else {
             self.place = Place::Nowhere;

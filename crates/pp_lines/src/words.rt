@@ -39,7 +39,9 @@ fn is_macro_of_implementation(token: &Token) -> bool
 pub fn is_fixed_name(token: &Token) -> bool
     ensures { result ≡ spec.is_fixed_name (plain_token token.now) }
 {
-    token.kind == TokenKind::Keyword || is_spelled(b"defined", token) || is_macro_of_implementation(token)
+    token.kind == TokenKind::Keyword
+        || is_spelled(b"defined", token)
+        || is_macro_of_implementation(token)
 }
 
 fn is_barred(token: &Token) -> bool
