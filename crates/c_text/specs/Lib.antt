@@ -8,3 +8,4 @@ pub mod Macros
 pub mod Expressions
 pub mod Trees
 pub mod Preprocessing
+pub mod PlainMacros

@@ -2,9 +2,11 @@
 #![tactic(auto)]
 
 mod line;
+mod macros;
 mod origin;
 mod token;
 
 pub use line::Line;
+pub use macros::Macro;
 pub use origin::{BUILT_IN_FILE, Origin, Place};
 pub use token::{BadKind, Token, TokenKind};

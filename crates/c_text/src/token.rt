@@ -1,7 +1,8 @@
-ghost use Rattle.std.specs.Prelude.{◌↔◌, IsTrue};
+ghost use Rattle.std.specs.Prelude.{◌≡◌, ◌↔◌, IsTrue, IfOk};
 ghost use Rattle.c_text.specs.Token.{plain_token, SameSpelling};
 
 use crate::origin::Origin;
+use std::alloc::{AllocError, Global};
 
 /// Why a piece of text is no lawful token.
 #[derive(Clone, Copy, Debug, PartialEq, Eq)]
@@ -54,13 +55,24 @@ impl Token {
     {
         self.kind == other.kind && self.text.as_slice() == other.text.as_slice()
     }
+
+    /// The same token once more, with the same origin.
+    pub fn try_clone(&self, alloc: Global) -> Result<Token, AllocError>
+        ensures { IfOk result (λ t. plain_token t ≡ plain_token self.now) }
+    {
+        Ok(Token {
+            kind: self.kind,
+            text: Vec::from_slice(alloc, self.text.as_slice())?,
+            joined: self.joined,
+            origin: self.origin,
+        })
+    }
 }
 
 #[cfg(test)]
 mod tests {
     use super::*;
     use crate::origin::Place;
-    use std::alloc::{AllocError, Global};
     use std::test::Fail;
     use text_edits::Span;
 
@@ -91,6 +103,14 @@ mod tests {
         assert!(rt; !name.same_spelling(&token(rt.alloc(), TokenKind::Name, b"y", 0)?));
         let bad = TokenKind::Bad(BadKind::BadByte);
         assert!(rt; !name.same_spelling(&token(rt.alloc(), bad, b"x", 0)?));
+        Ok(())
+    }
+
+    #[test]
+    fn copies_keep_the_origin(rt: HostRuntime) -> Result<(), Fail> {
+        let name = token(rt.alloc(), TokenKind::Name, b"x", 7)?;
+        let copy = name.try_clone(rt.alloc())?;
+        assert!(rt; copy.same_spelling(&name) && copy.origin == name.origin);
         Ok(())
     }
 }

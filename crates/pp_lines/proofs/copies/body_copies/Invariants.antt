@@ -1,0 +1,8 @@
+use Rattle.std.proofs.Common.{◌≡◌, map, take}
+use Rattle.c_text.specs.Token.{plain_token}
+use Rattle.c_text.specs.Directives.{in_body}
+use Rattle.pp_lines.proofs.copies.body_copies.Given as goal
+
+abbrev pub invariant-loop-token : goal.invariant-loop-token
+invariant-loop-token l =
+    map plain_token l.copies.items ≡ map in_body (map plain_token (take l.token-index l.tokens))

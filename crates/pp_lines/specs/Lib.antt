@@ -1,0 +1,2 @@
+pub mod PlainDirectives
+pub mod ParameterPlaces
