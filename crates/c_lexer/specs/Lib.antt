@@ -1,2 +1,4 @@
 pub mod Longest
 pub mod Scans
+pub mod Ends
+pub mod Cuts

@@ -2,6 +2,7 @@
 ghost use Rattle.std.specs.Prelude.{◌≡◌, ◌==◌, ◌≤◌, not, length, false};
 ghost use Rattle.std.specs.List.{prefix_len};
 ghost use Rattle.c_names.specs.Names as names;
+ghost use Rattle.c_lexer.specs.Ends.{place_of};
 ghost use Rattle.c_lexer.specs.Scans as spec;
 
 use c_names::is_word_byte;
@@ -17,7 +18,8 @@ pub enum End {
 
 /// How many letters, digits and `_` a text begins with.
 pub fn word_len(text: &[u8]) -> usize
-    ensures { result ≡ prefix_len names.is_word_byte text.now }
+    ensures run { result ≡ prefix_len names.is_word_byte text.now }
+    ensures within { result ≤ length text.now }
 {
     for (i, byte) in text.iter().enumerate() {
         if !is_word_byte(*byte) {
@@ -29,7 +31,8 @@ pub fn word_len(text: &[u8]) -> usize
 
 /// How many bytes stand before the first newline.
 pub fn line_len(text: &[u8]) -> usize
-    ensures { result ≡ prefix_len (λ b. not (b == 10)) text.now }
+    ensures run { result ≡ prefix_len (λ b. not (b == 10)) text.now }
+    ensures within { result ≤ length text.now }
 {
     for (i, byte) in text.iter().enumerate() {
         if *byte == b'\n' {
@@ -50,7 +53,8 @@ fn go_on(last: u8, byte: u8) -> bool
 
 /// How many bytes of a text go on with a number, whose byte before the text is given.
 pub fn number_len(first: u8, text: &[u8]) -> usize
-    ensures { result ≡ spec.number_from first 0 text.now }
+    ensures run { result ≡ spec.number_from first 0 text.now }
+    ensures within { result ≤ length text.now }
 {
     let mut last = first;
     for (i, byte) in text.iter().enumerate() {
@@ -64,7 +68,8 @@ pub fn number_len(first: u8, text: &[u8]) -> usize
 
 /// The end of a comment, in the text behind its `/*`.
 pub fn comment_end(text: &[u8]) -> End
-    ensures { result ≡ spec.comment_from false 0 text.now }
+    ensures run { result ≡ spec.comment_from false 0 text.now }
+    ensures within { place_of result ≤ length text.now }
 {
     let mut star = false;
     for (i, byte) in text.iter().enumerate() {
@@ -78,7 +83,8 @@ pub fn comment_end(text: &[u8]) -> End
 
 /// The end of a quoted piece, in the text behind its first quote.
 pub fn quote_end(quote: u8, text: &[u8]) -> End
-    ensures { result ≡ spec.quote_from quote false 0 text.now }
+    ensures run { result ≡ spec.quote_from quote false 0 text.now }
+    ensures within { place_of result ≤ length text.now }
 {
     let mut escaped = false;
     for (i, byte) in text.iter().enumerate() {
