@@ -1,5 +1,5 @@
 -- The lengths of pieces, from their first bytes and what the scans find behind them.
-use Rattle.std.proofs.Common.{◌≡◌, ◌≢◌, ℕ, zero, suc, ◌+◌, ◌-◌, ◌<◌, ◌≤◌, ◌==◌, Bool, true, false, not, cond, ◌&&◌, ◌||◌, List, [], ◌∷◌, length, get_or, take, drop, map, refl, sym, ap, subst, ◌∙◌, ⊎_elim, arith}
+use Rattle.std.proofs.Common.{◌≡◌, ◌≢◌, ℕ, zero, suc, ◌+◌, ◌-◌, ◌<◌, ◌≤◌, ◌==◌, Bool, true, false, not, ◌&&◌, ◌||◌, List, [], ◌∷◌, length, get_or, take, drop, map, refl, sym, ap, subst, ◌∙◌, ⊎_elim, arith}
 use Rattle.std.specs.Prelude.{nat_le, nat_eq}
 use Rattle.std.specs.List.{prefix_len, list_all, list_any, starts_with}
 use Rattle.std.specs.Str.{bytes_eq}
@@ -9,16 +9,16 @@ use Rattle.std.proofs.lemmas.List.{length-take-le, take_all}
 use Rattle.std.proofs.lemmas.Slice.Eq.{bytes_eq-Decides}
 use Rattle.c_names.specs.Names.{is_nondigit, is_digit, is_word_byte, is_identifier}
 use Rattle.c_text.specs.Constants.{continue_number, begin_with_digit, is_number, is_closed, is_unclosed, is_quoted, is_open_quoted}
-use Rattle.c_text.specs.Pieces.{is_newline, is_blank, is_line_comment, is_block_comment, is_open_comment, punctuators, is_punctuator}
+use Rattle.c_text.specs.Pieces.{is_line_comment, is_block_comment, is_open_comment, punctuators, is_punctuator}
 use Rattle.c_lexer.specs.declared.scans.End.{End}
 use Rattle.c_lexer.specs.declared.scans.End.TheVariants.{Closed, Open}
 use Rattle.c_lexer.specs.declared.lengths.Lengths.{Lengths}
-use Rattle.c_lexer.specs.Longest.{IsLongestAt, IsNever, IsLongestOf}
+use Rattle.c_lexer.specs.Longest.{IsNever, IsLongestOf}
 use Rattle.c_lexer.specs.Scans.{number_from, comment_from, quote_from}
 use Rattle.c_lexer.specs.Cuts.{AreLengths}
 use Rattle.c_lexer.specs.Ends.{shifted}
-use Rattle.c_lexer.proofs.LongestLemmas.{at-cons, never-cons, never-first, never-end, of-at, of-never, of-cons, run-at, EndsAt, IsClosedAt, IsOpenTo, ends-cons}
-use Rattle.c_lexer.proofs.ScanLemmas.{NumberEnds, number-ends, comment-ends, quote-ends, ends_behind, open_behind}
+use Rattle.c_lexer.proofs.LongestLemmas.{at-cons, never-cons, never-first, of-at, of-never, of-cons, run-at, EndsAt, ends-cons}
+use Rattle.c_lexer.proofs.ScanLemmas.{number-ends, comment-ends, quote-ends, ends_behind, open_behind}
 
 -- what stands behind the first k bytes
 pub rest-is : (k : ℕ) (text : List ℕ) → take (length text - k) (drop k text) ≡ drop k text
@@ -87,13 +87,15 @@ ends-shift closed open_part i xs (Open n) h = record { before = h.before; never 
 pub lengths-of : (closed open_part : List ℕ → Bool) (text : List ℕ) (end : End) (l : Lengths) → EndsAt closed open_part 0 text end → AreLengths end l → IsLongestOf closed text l.closed × IsLongestOf open_part text l.unclosed
 lengths-of closed open_part text (Closed n) l h a =
     let whole : suc h.before ≡ l.closed = omega (arith, h.place, a.0) in
-    let part : h.before ≡ l.unclosed = omega (arith, h.place, a.1) in
-    (subst (λ k. IsLongestOf closed text k) whole (of-at closed text (suc h.before) h.is_closed),
-     subst (λ k. IsLongestOf open_part text k) part (of-at open_part text h.before h.is_open))
+    let part : h.before ≡ l.unclosed = omega (arith, h.place, a.1) in (
+      subst (λ k. IsLongestOf closed text k) whole (of-at closed text (suc h.before) h.is_closed),
+      subst (λ k. IsLongestOf open_part text k) part (of-at open_part text h.before h.is_open),
+    )
 lengths-of closed open_part text (Open n) l h a =
-    let part : h.before ≡ l.unclosed = omega (arith, h.place, a.1) in
-    (subst (λ k. IsLongestOf closed text k) (sym a.0) (of-never closed text h.never),
-     subst (λ k. IsLongestOf open_part text k) part (of-at open_part text h.before h.is_open))
+    let part : h.before ≡ l.unclosed = omega (arith, h.place, a.1) in (
+      subst (λ k. IsLongestOf closed text k) (sym a.0) (of-never closed text h.never),
+      subst (λ k. IsLongestOf open_part text k) part (of-at open_part text h.before h.is_open),
+    )
 
 -- comments
 block_from : (rest : List ℕ) → EndsAt is_block_comment is_open_comment 0 (47 ∷ 42 ∷ rest) (shifted 2 (comment_from false 0 rest))

@@ -1,3 +1,4 @@
 pub mod LongestLemmas
 pub mod ScanLemmas
 pub mod LengthLemmas
+pub mod BestLemmas

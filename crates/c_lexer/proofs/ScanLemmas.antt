@@ -1,11 +1,10 @@
 -- The scans find the longest numbers, comments and quoted pieces.
-use Rattle.std.proofs.Common.{◌≡◌, ℕ, zero, suc, ◌+◌, ◌==◌, ◌≢◌, Bool, true, false, not, cond, ◌&&◌, ◌||◌, List, [], ◌∷◌, length, take, refl, sym, ap, subst, ◌∙◌, arith}
-use Rattle.std.proofs.lemmas.Bool.{both_ways, ne_eqb, eqb-true, eqb-false, and_parts, and_right, or_parts}
+use Rattle.std.proofs.Common.{◌≡◌, ℕ, suc, ◌+◌, ◌==◌, Bool, true, false, not, cond, ◌&&◌, ◌||◌, List, [], ◌∷◌, length, refl, sym, ap, ◌∙◌, arith}
+use Rattle.std.proofs.lemmas.Bool.{both_ways, ne_eqb, eqb-true, eqb-false, and_right}
 use Rattle.c_text.specs.Constants.{continue_number, is_closed, is_closed_behind, is_unclosed, is_unclosed_behind}
 use Rattle.c_text.specs.Pieces.{has_end, ends_first}
 use Rattle.c_lexer.specs.Longest.{IsLongestAt}
 use Rattle.c_lexer.specs.Scans.{go_on, number_from, comment_from, quote_from}
-use Rattle.c_lexer.specs.declared.scans.End.{End}
 use Rattle.c_lexer.specs.declared.scans.End.TheVariants.{Closed, Open}
 use Rattle.c_lexer.proofs.LongestLemmas.{at-cons, at-stop, at-end, EndsAt, ends-cons, ends-close, ends-stop, ends-end}
 

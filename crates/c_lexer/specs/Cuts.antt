@@ -1,5 +1,5 @@
 -- The lengths of pieces from where they end.
-use Rattle.std.specs.Prelude.{◌≡◌, ℕ, ◌-◌}
+use Rattle.std.specs.Prelude.{◌≡◌, ◌-◌}
 use Rattle.c_lexer.specs.declared.scans.End.{End}
 use Rattle.c_lexer.specs.declared.scans.End.TheVariants.{Closed, Open}
 use Rattle.c_lexer.specs.declared.lengths.Lengths.{Lengths}

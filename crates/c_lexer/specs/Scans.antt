@@ -1,5 +1,5 @@
 -- How far numbers, comments and quoted pieces go on, behind their first bytes.
-use Rattle.std.specs.Prelude.{ℕ, ◌+◌, ◌==◌, Bool, true, false, not, ◌&&◌, ◌||◌, List, [], ◌∷◌, codes, if◌then◌else◌}
+use Rattle.std.specs.Prelude.{ℕ, ◌+◌, ◌==◌, Bool, not, ◌&&◌, ◌||◌, List, [], ◌∷◌, codes, if◌then◌else◌}
 use Rattle.c_names.specs.Names.{is_word_byte}
 use Rattle.c_text.specs.Constants.{is_one_of}
 use Rattle.c_lexer.specs.declared.scans.End.{End}

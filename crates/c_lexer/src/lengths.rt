@@ -25,13 +25,7 @@ pub fn newline_length(text: &[u8]) -> usize
 {
     match text {
         [] => 0,
-        [first, ..] => {
-            if *first == b'\n' {
-                1
-            } else {
-                0
-            }
-        }
+        [first, ..] => { if *first == b'\n' { 1 } else { 0 } }
     }
 }
 
@@ -47,13 +41,7 @@ pub fn blank_length(text: &[u8]) -> usize
 {
     match text {
         [] => 0,
-        [first, ..] => {
-            if is_blank(*first) {
-                1
-            } else {
-                0
-            }
-        }
+        [first, ..] => { if is_blank(*first) { 1 } else { 0 } }
     }
 }
 
@@ -186,10 +174,10 @@ fn punctuators() -> &'static [&'static [u8]]
     ensures { map (λ p. p.now) result.now ≡ spec.punctuators }
 {
     &[
-        b"[", b"]", b"(", b")", b"{", b"}", b".", b"->", b"++", b"--", b"&", b"*", b"+", b"-", b"~",
-        b"!", b"/", b"%", b"<<", b">>", b"<", b">", b"<=", b">=", b"==", b"!=", b"^", b"|", b"&&",
-        b"||", b"?", b":", b";", b"=", b"*=", b"/=", b"%=", b"+=", b"-=", b"<<=", b">>=", b"&=",
-        b"^=", b"|=", b",", b"#", b"##", b"...",
+        b"[", b"]", b"(", b")", b"{", b"}", b".", b"->", b"++", b"--", b"&", b"*", b"+", b"-",
+        b"~", b"!", b"/", b"%", b"<<", b">>", b"<", b">", b"<=", b">=", b"==", b"!=", b"^", b"|",
+        b"&&", b"||", b"?", b":", b";", b"=", b"*=", b"/=", b"%=", b"+=", b"-=", b"<<=", b">>=",
+        b"&=", b"^=", b"|=", b",", b"#", b"##", b"...",
     ]
 }
 
