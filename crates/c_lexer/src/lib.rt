@@ -5,8 +5,10 @@ mod classes;
 mod lengths;
 mod pieces;
 mod scans;
+mod splices;
 
 pub use pieces::{Piece, PieceKind, longest_piece};
+pub use splices::{TextBytes, spliced};
 
 #[cfg(test)]
 mod tests;

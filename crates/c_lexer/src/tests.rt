@@ -1,5 +1,6 @@
-use crate::{Piece, PieceKind, longest_piece};
+use crate::{Piece, PieceKind, longest_piece, spliced};
 use c_text::{BadKind, TokenKind};
+use std::test::Fail;
 
 fn piece(length: usize, kind: TokenKind) -> Option<Piece> {
     Some(Piece {
@@ -42,4 +43,12 @@ fn spaces(rt: HostRuntime) {
     });
     assert!(rt; longest_piece(b"\n\n") == end);
     assert!(rt; longest_piece(b"").is_none());
+}
+
+#[test]
+fn splices_go(rt: HostRuntime) -> Result<(), Fail> {
+    let text = spliced(rt.alloc(), b"a\\\nb\\\r\nc\\")?;
+    assert!(rt; text.bytes.as_slice() == b"abc\\".as_slice());
+    assert!(rt; text.places.as_slice() == [0, 3, 7, 8].as_slice());
+    Ok(())
 }
