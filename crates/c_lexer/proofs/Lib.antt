@@ -1,0 +1,5 @@
+pub mod LongestLemmas
+pub mod ScanLemmas
+pub mod LengthLemmas
+pub mod BestLemmas
+pub mod SpliceLemmas

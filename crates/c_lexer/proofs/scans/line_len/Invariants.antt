@@ -1,0 +1,6 @@
+use Rattle.std.proofs.Common.{◌≡◌, ◌+◌, ◌==◌, not, drop}
+use Rattle.std.specs.List.{prefix_len}
+use Rattle.c_lexer.proofs.scans.line_len.Given as goal
+
+abbrev pub invariant-loop-i : goal.invariant-loop-i
+invariant-loop-i l = l.i + prefix_len (λ b. not (b == 10)) (drop l.i l.text) ≡ prefix_len (λ b. not (b == 10)) l.text
