@@ -4,3 +4,4 @@ pub mod Answers
 pub mod Following
 pub mod Known
 pub mod Searches
+pub mod WatchedNumbers
