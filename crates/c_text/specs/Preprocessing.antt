@@ -1,8 +1,9 @@
 -- Preprocessing of one unit in one configuration (ISO/IEC 9899:2011, 6.10): the tokens that it gives, or the first refusal.
 use Rattle.std.specs.Prelude.{◌≡◌, ◌↔◌, ◌<◌, ℕ, zero, suc, ◌-◌, ◌==◌, Bool, true, false, not, ◌&&◌, nat_lt, ℤ, List, [], ◌∷◌, ◌++◌, map, length, take, drop, reverse, codes, if◌then◌else◌, Option, Some, None, is_some, option_map, slice_index_or}
-use Rattle.std.specs.List.{slice_split, flat_map}
+use Rattle.std.specs.List.{slice_split, flat_map, list_any}
 use Rattle.std.specs.Str.{bytes_eq}
 use Rattle.text_edits.specs.Span.{PlainSpan}
+use Rattle.text_edits.specs.Files.{PlainFile}
 use Rattle.c_text.specs.declared.origin.Place.TheVariants as place
 use Rattle.c_text.specs.declared.token.BadKind.{BadKind}
 use Rattle.c_text.specs.declared.token.BadKind.TheVariants.{OpenComment}
@@ -352,68 +353,45 @@ module _ (s : Setting) where
 
 -- ---- units
 
--- a project in one configuration, with its files as parts
-pub record Project : Type 0 where
-  pub value_of : List PlainToken → Option ℤ
-  -- whether a name is a feature's, and whether that is on
-  pub is_feature : List ℕ → Bool
-  pub is_on : List ℕ → Bool
+-- a project in one configuration: its files in their order, headers first, its features, and those that are on
+pub record Sources : Type 0 where
+  pub files : List PlainFile
   pub headers : List (List ℕ)
-  pub name_of : ℕ → List ℕ
+  pub features : List (List ℕ)
+  pub on_features : List (List ℕ)
+
+-- how its expressions and files are read: the values, the files as parts, and the refusals where they break
+pub record Syntax : Type 0 where
+  pub value_of : List PlainToken → Option ℤ
   pub part_of : Source → Part
   pub broken_in : Source → Refusal
-  -- the token that replaces a feature that is on
-  pub one : PlainToken
 
-abbrev pub source_name : Project → Source → List ℕ
-source_name p (project_file number) = p.name_of number
-source_name p stdio = []
-source_name p stdlib = []
+abbrev pub file_at : Sources → ℕ → PlainFile
+file_at s number = slice_index_or s.files number (record { name = []; bytes = [] })
 
-abbrev pub setting : Project → Source → Option (Source → Reading → Flow) → Setting
-setting p source deeper = record {
-  value_of = p.value_of;
-  is_feature = p.is_feature;
-  headers = p.headers;
-  name = source_name p source;
-  broken = p.broken_in source;
+abbrev pub source_name : Sources → Source → List ℕ
+source_name s (project_file number) = (file_at s number).name
+source_name s stdio = []
+source_name s stdlib = []
+
+abbrev pub setting : Sources → Syntax → Source → Option (Source → Reading → Flow) → Setting
+setting s x source deeper = record {
+  value_of = x.value_of;
+  is_feature = λ name. list_any (bytes_eq name) s.features;
+  headers = s.headers;
+  name = source_name s source;
+  broken = x.broken_in source;
   deeper = deeper;
 }
 
 -- a file that so many more may be nested in
-abbrev pub read_source : Project → ℕ → Source → Reading → Flow
-read_source p zero source r = read_part (setting p source None) r (p.part_of source)
-read_source p (suc more) source r = read_part (setting p source (Some (read_source p more))) r (p.part_of source)
+abbrev pub read_source : Sources → Syntax → ℕ → Source → Reading → Flow
+read_source s x zero source r = read_part (setting s x source None) r (x.part_of source)
+read_source s x (suc more) source r = read_part (setting s x source (Some (read_source s x more))) r (x.part_of source)
 
 -- how deep files may be nested in a unit
 abbrev pub most_nested : ℕ
 most_nested = 16
-
-abbrev pub at_start : Project → Reading
-at_start p = record {
-  table = λ name. if p.is_feature name && p.is_on name then Some (feature p.one) else None;
-  tokens = [];
-}
-
--- a unit, by its file's number
-abbrev pub preprocessed : Project → ℕ → Flow
-preprocessed p unit = read_source p most_nested (project_file unit) (at_start p)
-
--- the `#` of a line
-abbrev pub span_of_hash : List PlainToken → PlainSpan → PlainSpan
-span_of_hash [] other = other
-span_of_hash (hash ∷ rest) other = hash.origin.span
-
--- where a file with these lines breaks: at the `#` of the misplaced line, or at the end of the file
-abbrev pub span_of_break : ℕ → {lines : List PlainLine} {part : Part} → IsRead lines part → PlainSpan
-span_of_break length (whole_file formed are) = record { start = length; end = length }
-span_of_break length (open_at_end formed open_ are) = record { start = length; end = length }
-span_of_break length (broken_at line rest formed are misplaced) = span_of_hash line.tokens line.span
-
--- The part is that of lines of a file, and this is the refusal where it breaks.
-pub record IsFile (file length : ℕ) (lines : List PlainLine) (part : Part) (broken : Refusal) : Type 0 where
-  pub is_read : IsRead lines part
-  pub broken_is : broken ≡ record { kind = unbalanced; file = file; span = span_of_break length is_read }
 
 -- the text of the built-in headers, `<stdio.h>` in its first five lines
 abbrev pub built_in_text : List ℕ
@@ -439,20 +417,54 @@ feature_token = record {
   };
 }
 
--- The project's files are these texts, by their numbers: headers first, and then units.
-pub record IsProjectOf (texts : List (List ℕ)) (p : Project) : Type 0 where
-  pub values : (tokens : List PlainToken) (z : ℤ) → (p.value_of tokens ≡ Some z) ↔ HasValue tokens z
+abbrev pub at_start : Sources → Reading
+at_start s = record {
+  table = λ name. if list_any (bytes_eq name) s.on_features then Some (feature feature_token) else None;
+  tokens = [];
+}
+
+-- the unit in the file with this number
+abbrev pub preprocessed : Sources → Syntax → ℕ → Flow
+preprocessed s x number = read_source s x most_nested (project_file number) (at_start s)
+
+-- the `#` of a line
+abbrev pub span_of_hash : List PlainToken → PlainSpan → PlainSpan
+span_of_hash [] other = other
+span_of_hash (hash ∷ rest) other = hash.origin.span
+
+-- where a file with these lines breaks: at the `#` of the misplaced line, or at the end of the file
+abbrev pub span_of_break : ℕ → {lines : List PlainLine} {part : Part} → IsRead lines part → PlainSpan
+span_of_break length (whole_file formed are) = record { start = length; end = length }
+span_of_break length (open_at_end formed open_ are) = record { start = length; end = length }
+span_of_break length (broken_at line rest formed are misplaced) = span_of_hash line.tokens line.span
+
+-- The part is that of lines of a file, and this is the refusal where it breaks.
+pub record IsFile (file length : ℕ) (lines : List PlainLine) (part : Part) (broken : Refusal) : Type 0 where
+  pub is_read : IsRead lines part
+  pub broken_is : broken ≡ record { kind = unbalanced; file = file; span = span_of_break length is_read }
+
+-- This is how the project's expressions and files are read.
+pub record IsSyntaxOf (s : Sources) (x : Syntax) : Type 0 where
+  pub values : (tokens : List PlainToken) (z : ℤ) → (x.value_of tokens ≡ Some z) ↔ HasValue tokens z
   pub lines : ℕ → List PlainLine
-  pub are_lines : (number : ℕ) → number < length texts → AreItsLines number (slice_index_or texts number []) (lines number)
+  pub are_lines : (number : ℕ) → number < length s.files → AreItsLines number (file_at s number).bytes (lines number)
   pub are_files :
-      (number : ℕ) → number < length texts
-      → IsFile number (length (slice_index_or texts number [])) (lines number) (p.part_of (project_file number)) (p.broken_in (project_file number))
+      (number : ℕ) → number < length s.files
+      → IsFile number (length (file_at s number).bytes) (lines number) (x.part_of (project_file number)) (x.broken_in (project_file number))
   pub built_in_lines : List PlainLine
   pub are_built_in : AreItsLines built_in_file built_in_text built_in_lines
-  pub stdio_is : IsRead (take 5 built_in_lines) (p.part_of stdio)
-  pub stdlib_is : IsRead (drop 5 built_in_lines) (p.part_of stdlib)
-  pub one_is : p.one ≡ feature_token
+  pub stdio_is : IsFile built_in_file (length built_in_text) (take 5 built_in_lines) (x.part_of stdio) (x.broken_in stdio)
+  pub stdlib_is : IsFile built_in_file (length built_in_text) (drop 5 built_in_lines) (x.part_of stdlib) (x.broken_in stdlib)
 
--- What a unit gives in one configuration: the tokens of its reading, or its first refusal.
-abbrev pub IsPreprocessed : List (List ℕ) → Project → ℕ → Flow → Type 0
-IsPreprocessed texts p unit flow = IsProjectOf texts p × (flow ≡ preprocessed p unit)
+-- what becomes of a unit
+pub data Outcome : Type 0 where
+  gives : List PlainToken → Outcome
+  is_refused : Refusal → Outcome
+
+abbrev pub outcome_of : Flow → Outcome
+outcome_of (on r) = gives r.tokens
+outcome_of (refused why) = is_refused why
+
+-- What becomes of the unit in the file with this number: it gives these tokens, or this is its first refusal.
+abbrev pub IsPreprocessed : Sources → ℕ → Outcome → Type 0
+IsPreprocessed s number outcome = (x : Syntax) → IsSyntaxOf s x → outcome_of (preprocessed s x number) ≡ outcome

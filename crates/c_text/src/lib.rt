@@ -8,5 +8,5 @@ mod token;
 
 pub use line::Line;
 pub use macros::Macro;
-pub use origin::{BUILT_IN_FILE, Origin, Place};
+pub use origin::{BUILT_IN_FILE, FileToken, Origin, Place};
 pub use token::{BadKind, Token, TokenKind};

@@ -17,6 +17,13 @@ pub enum Place {
     MacroBody,
 }
 
+/// A token of a file's text, or a place there where its span is empty.
+#[derive(Clone, Copy, Debug, PartialEq, Eq)]
+pub struct FileToken {
+    pub file: u32,
+    pub span: Span,
+}
+
 /// Where a preprocessed token comes from.
 #[derive(Clone, Copy, Debug, PartialEq, Eq)]
 pub struct Origin {
