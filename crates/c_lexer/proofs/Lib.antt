@@ -3,3 +3,7 @@ pub mod ScanLemmas
 pub mod LengthLemmas
 pub mod BestLemmas
 pub mod SpliceLemmas
+pub mod PlaceLemmas
+pub mod PieceLemmas
+pub mod ReadingLemmas
+pub mod LexLemmas

@@ -5,3 +5,6 @@ pub mod Cuts
 pub mod Classes
 pub mod Best
 pub mod View
+pub mod Reading
+pub mod Reader
+pub mod Laws
