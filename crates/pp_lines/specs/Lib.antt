@@ -1,2 +1,5 @@
 pub mod PlainDirectives
 pub mod ParameterPlaces
+pub mod ExpressionReading
+pub mod ExpressionView
+pub mod Laws

@@ -1,0 +1,5 @@
+use Rattle.pp_lines.proofs.ExpressionValues.{values_are_decided}
+use Rattle.pp_lines.proofs.laws.values_are_decided.Goals as goal
+
+pub returns : goal.returns
+returns c = values_are_decided
