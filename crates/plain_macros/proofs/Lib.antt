@@ -1,0 +1,4 @@
+pub mod ItemLemmas
+pub mod TableLemmas
+pub mod MeaningLemmas
+pub mod RunLemmas
