@@ -5,3 +5,4 @@ mod TextLemmas
 mod Whys
 mod Exclusion
 mod OneFault
+mod OneProject

@@ -37,7 +37,7 @@ position-map : {X Y : Type 0} (p : Y → Bool) (f : X → Y) (xs : List X) → p
 position-map p f xs = rw (position_or_len-map p f xs, length-map f xs)
 
 -- a name's number depends on the spelling of the features alone
-number_spelled : (a b : List (String Global)) (name : List ℕ) → map string_bytes a ≡ map string_bytes b → feature_number a name ≡ feature_number b name
+pub number_spelled : (a b : List (String Global)) (name : List ℕ) → map string_bytes a ≡ map string_bytes b → feature_number a name ≡ feature_number b name
 number_spelled a b name e =
     position-map (λ f. bytes_eq f name) string_bytes a ∙ ap (λ names. position (λ f. bytes_eq f name) names) e
     ∙ sym (position-map (λ f. bytes_eq f name) string_bytes b)

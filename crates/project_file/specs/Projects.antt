@@ -1,5 +1,5 @@
 -- Projects, and which files say them.
-use Rattle.std.specs.Prelude.{◌≡◌, ◌≢◌, ℕ, true, List, [], ◌∷◌, All, AllPairs, ⊤}
+use Rattle.std.specs.Prelude.{◌≡◌, ◌≢◌, ℕ, ◌+◌, Bool, true, List, [], ◌∷◌, if◌then◌else◌, All, AllPairs, ⊤}
 use Rattle.c_names.specs.Names.{is_new_name}
 use Rattle.cond_formula.specs.Conditions.{Condition}
 use Rattle.project_file.specs.Contents.{UnitText, Contents, SaysContents, files_of}
@@ -17,6 +17,15 @@ pub record PlainProject : Type 0 where
   pub model : Condition
   pub headers : List (List ℕ)
   pub units : List PlainUnit
+
+-- the features that are on, in the project's order; this is the number of the first of them
+abbrev pub names_from : ℕ → (ℕ → Bool) → List (List ℕ) → List (List ℕ)
+names_from number on [] = []
+names_from number on (name ∷ names) =
+    if on number then name ∷ names_from (number + 1) on names else names_from (number + 1) on names
+
+abbrev pub names_on : (ℕ → Bool) → List (List ℕ) → List (List ℕ)
+names_on on names = names_from 0 on names
 
 -- no two names are the same
 abbrev pub AllDiffer : List (List ℕ) → Type 0

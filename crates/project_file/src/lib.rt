@@ -14,6 +14,6 @@ mod tests;
 mod units;
 
 pub use errors::ProjectError;
-pub use laws::{first_fault_is_one, projects_have_no_fault};
+pub use laws::{first_fault_is_one, projects_are_alike, projects_have_no_fault};
 pub use parse::{LONGEST_FILE, oversized, parse_project};
 pub use projects::{Project, Unit};

@@ -1,6 +1,7 @@
 //! Small project files.
 use crate::{
-    LONGEST_FILE, ProjectError, first_fault_is_one, parse_project, projects_have_no_fault,
+    LONGEST_FILE, ProjectError, first_fault_is_one, parse_project, projects_are_alike,
+    projects_have_no_fault,
 };
 use cond_formula::Config;
 use std::alloc::Global;
@@ -12,6 +13,7 @@ const WHOLE: &str =
 
 #[test]
 fn projects_are_read(rt: HostRuntime) -> Result<(), Fail> {
+    projects_are_alike();
     let project = parse_project(rt.alloc(), "p.toml", WHOLE.as_bytes())?;
     assert_eq!(rt; project.name.as_str(), "p.toml");
     assert_eq!(rt; project.features.len(), 2);

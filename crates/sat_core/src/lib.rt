@@ -11,6 +11,7 @@ mod translation;
 
 pub use answers::{Answer, Proof};
 pub use clause_search::Step;
+pub use configs::config_of;
 pub use laws::{
     refutations_are_accepted, refuted_formulas_have_no_model, translations_are_equisatisfiable,
 };
