@@ -1,0 +1,214 @@
+//! Directive lines that belong to no group.
+ghost use Rattle.std.specs.Prelude.{◌≡◌, ◌<◌, ◌^◌, ℕ, List, map, length, drop, Option, Some, None, MatchResult, IfOk, IfSome, true, if◌then◌else◌};
+ghost use Rattle.std.specs.Option.{option_map};
+ghost use Rattle.std.specs.List.{list_any};
+ghost use Rattle.std.specs.Str.{bytes_eq};
+ghost use Rattle.std.specs.String.{string_bytes};
+ghost use Rattle.c_text.specs.Token.{plain_token};
+ghost use Rattle.c_text.specs.PlainMacros.{plain_macro};
+ghost use Rattle.c_text.specs.Preprocessing as spec;
+ghost use Rattle.c_text.specs.Preprocessing.{on, refused, unless, redefined};
+ghost use Rattle.plain_macros.specs.PlainMeanings.{plain_meaning};
+ghost use Rattle.plain_macros.specs.PlainTables.{table_of};
+ghost use Rattle.pp_lines.specs.PlainDirectives.{plain_directive};
+ghost use Rattle.plain_pp.specs.Inclusions.{plain_source};
+ghost use Rattle.plain_pp.specs.Refusals.{plain_refusal};
+ghost use Rattle.plain_pp.specs.Results.{Says};
+ghost use Rattle.plain_pp.specs.Readings.{plain_reading, Follows, Directs, IsSettingOf, MayEnter};
+
+use crate::bad_tokens::{behind, refused_ignored, refused_token};
+use crate::inclusions::{Source, source_of};
+use crate::readings::Reading;
+use crate::refusals::{PpError, PpKind, Refusal, check, refusal_at};
+use c_text::{Line, Macro, Token};
+use plain_macros::Meaning;
+use pp_lines::{Directive, directive};
+use std::alloc::Global;
+
+/// What the reading of a file stands on.
+#[derive(Clone, Copy)]
+pub struct Surroundings<'a> {
+    /// The names of the project's features, of which no macro may be made.
+    pub features: &'a [String],
+    /// The names of the headers, which are the first files of the project.
+    pub headers: &'a [String],
+    /// The name of the file, by which names in its folder are found.
+    pub name: &'a [u8],
+    /// Whether a file may still be included.
+    pub may_include: bool,
+}
+
+fn is_feature(features: &[String], name: &[u8]) -> bool
+    ensures { result ≡ list_any (bytes_eq name.now) (map string_bytes features.now) }
+{
+    for feature in features {
+        if name == feature.as_bytes() {
+            return true;
+        }
+    }
+    false
+}
+
+/// Whether a second definition of the name is the same, if there is a first.
+fn is_same(reading: &Reading, name: &[u8], meaning: &Meaning) -> Option<bool>
+    ensures { result ≡ option_map (λ old. spec.same_meaning old (plain_meaning meaning.now)) (table_of reading.now.table name.now) }
+{
+    match reading.table.get(name) {
+        Some(old) => Some(old.same_as(meaning)),
+        None => None,
+    }
+}
+
+/// Lets a name stand for this, unless it stands for something else. The first definition stays.
+fn redefine(
+    reading: &mut Reading,
+    hash: &Token,
+    found: Option<Refusal>,
+    name: Vec<u8>,
+    meaning: Meaning,
+) -> Result<(), PpError>
+    ensures { Follows result (spec.redefined (plain_reading reading.old) (plain_token hash.now) (option_map plain_refusal found) name.items (table_of reading.old.table name.items) (plain_meaning meaning)) (plain_reading reading.new) }
+{
+    match is_same(reading, name.as_slice(), &meaning) {
+        None => {
+            check(found)?;
+            reading.define(name, meaning)?;
+            Ok(())
+        }
+        Some(true) => {
+            check(found)?;
+            Ok(())
+        }
+        Some(false) => Err(refusal_at(PpKind::BadMacro, hash).error()),
+    }
+}
+
+/// A `#define` line with these tokens.
+fn define(
+    alloc: Global,
+    features: &[String],
+    reading: &mut Reading,
+    hash: &Token,
+    tokens: &[Token],
+    definition: Macro,
+) -> Result<(), PpError>
+    ensures { let m = plain_macro definition in
+        Follows result
+        (if list_any (bytes_eq m.name) (map string_bytes features.now)
+        then refused (spec.refusal_at spec.bad_macro (plain_token hash.now))
+        else redefined (plain_reading reading.old) (plain_token hash.now)
+        (spec.refused_token (drop 2 (map plain_token tokens.now))) m.name (table_of reading.old.table m.name) (spec.meaning m m.params))
+        (plain_reading reading.new) }
+{
+    if is_feature(features, definition.name.as_slice()) {
+        return Err(refusal_at(PpKind::BadMacro, hash).error());
+    }
+    let name = Vec::from_slice(alloc, definition.name.as_slice())?;
+    let meaning = Meaning::of(definition);
+    redefine(
+        reading,
+        hash,
+        refused_token(behind(tokens, 2)),
+        name,
+        meaning,
+    )?;
+    Ok(())
+}
+
+/// An `#undef` line with these tokens.
+fn undefine(
+    features: &[String],
+    reading: &mut Reading,
+    hash: &Token,
+    tokens: &[Token],
+    name: &Token,
+) -> Result<(), PpError>
+    ensures { let text = (plain_token name.now).text in
+        Follows result
+        (if list_any (bytes_eq text) (map string_bytes features.now)
+        then refused (spec.refusal_at spec.bad_macro (plain_token hash.now))
+        else unless (spec.refused_ignored (drop 3 (map plain_token tokens.now)))
+        (on (record (plain_reading reading.old) { table = spec.put (table_of reading.old.table) text None })))
+        (plain_reading reading.new) }
+{
+    if is_feature(features, name.text.as_slice()) {
+        return Err(refusal_at(PpKind::BadMacro, hash).error());
+    }
+    check(refused_ignored(behind(tokens, 3)))?;
+    reading.undefine(name.text.as_slice());
+    Ok(())
+}
+
+/// An `#include` line with these tokens behind its name: what is read next.
+fn include(
+    alloc: Global,
+    place: &Surroundings<'_>,
+    hash: &Token,
+    names: &[Token],
+) -> Result<Option<Source>, PpError>
+    requires { length place.now.headers.now < 2 ^ 32 }
+    ensures finds { IfOk result (λ found. IfSome found (λ source. MayEnter place.now source)) }
+    ensures flow { (s : spec.Setting) → IsSettingOf place.now s → (r : spec.Reading)
+        → Directs result (spec.included s r (plain_token hash.now) (map plain_token names.now) s.deeper (spec.source_of s.headers s.name (map plain_token names.now))) s.deeper r }
+{
+    let Some(source) = source_of(alloc, place.headers, place.name, names)? else {
+        return Err(refusal_at(PpKind::NoFile, hash).error());
+    };
+    if !place.may_include {
+        return Err(refusal_at(PpKind::IncludeDepth, hash).error());
+    }
+    check(refused_token(names))?;
+    Ok(Some(source))
+}
+
+/// A line that says this, whose tokens these are.
+fn directed(
+    alloc: Global,
+    place: &Surroundings<'_>,
+    reading: &mut Reading,
+    hash: &Token,
+    tokens: &[Token],
+    says: Directive,
+) -> Result<Option<Source>, PpError>
+    requires { length place.now.headers.now < 2 ^ 32 }
+    ensures finds { IfOk result (λ found. IfSome found (λ source. MayEnter place.now source)) }
+    ensures flow { (s : spec.Setting) → IsSettingOf place.now s
+        → Directs result (spec.directed s (plain_reading reading.old) (plain_token hash.now) (map plain_token tokens.now) (plain_directive says)) s.deeper (plain_reading reading.new) }
+{
+    match says {
+        Directive::Define(definition) => {
+            define(alloc, place.features, reading, hash, tokens, definition)?;
+            Ok(None)
+        }
+        Directive::Undef(name) => {
+            undefine(place.features, reading, hash, tokens, &name)?;
+            Ok(None)
+        }
+        Directive::Include(names) => Ok(include(alloc, place, hash, names.as_slice())?),
+        Directive::BadDefine => Err(refusal_at(PpKind::BadMacro, hash).error()),
+        Directive::Error => Err(refusal_at(PpKind::ErrorDirective, hash).error()),
+        Directive::Null => Ok(None),
+        _ => Err(refusal_at(PpKind::BadDirective, hash).error()),
+    }
+}
+
+/// Reads a directive line that belongs to no group, and answers which file is read next, if any.
+pub fn read_directive(
+    alloc: Global,
+    place: &Surroundings<'_>,
+    reading: &mut Reading,
+    line: &Line,
+) -> Result<Option<Source>, PpError>
+    requires { length place.now.headers.now < 2 ^ 32 }
+    ensures finds { IfOk result (λ found. IfSome found (λ source. MayEnter place.now source)) }
+    ensures flow { (s : spec.Setting) → IsSettingOf place.now s
+        → Directs result (spec.read_directive s (plain_reading reading.old) (map plain_token line.now.tokens.items)) s.deeper (plain_reading reading.new) }
+{
+    match line.tokens.as_slice() {
+        [] => Ok(None),
+        tokens @ [hash, ..] => {
+            let says = directive(alloc, line)?;
+            Ok(directed(alloc, place, reading, hash, tokens, says)?)
+        }
+    }
+}

@@ -1,0 +1,80 @@
+//! The features that are on, as macros.
+ghost use Rattle.std.specs.Prelude.{◌≡◌, ℕ, map, IfOk, OnOk, if◌then◌else◌};
+ghost use Rattle.std.specs.String.{string_bytes};
+ghost use Rattle.cond_formula.specs.Features.{has};
+ghost use Rattle.c_text.specs.Token.{plain_token};
+ghost use Rattle.c_text.specs.Preprocessing as spec;
+ghost use Rattle.project_file.specs.Projects.{names_on};
+ghost use Rattle.plain_pp.specs.Readings.{plain_reading};
+ghost use Rattle.plain_pp.specs.SourceFiles.{with_feature, started};
+
+use crate::readings::Reading;
+use crate::sources::built_in_length;
+use c_text::{BUILT_IN_FILE, Origin, Place, Token, TokenKind};
+use cond_formula::{Config, NoMemory};
+use plain_macros::Meaning;
+use std::alloc::Global;
+use text_edits::Span;
+
+/// Whether the feature with this number is on: none but the first 128 is.
+fn is_on(c: Config, number: usize) -> bool
+    ensures { result ≡ has c number }
+{
+    number < 128 && c.has(number as u8)
+}
+
+/// The token that replaces a feature that is on. It stands at the end of the built-in file.
+fn feature_token(alloc: Global) -> Result<Token, NoMemory>
+    ensures { IfOk result (λ token. plain_token token ≡ spec.feature_token) }
+{
+    let end = built_in_length();
+    let span = Span { start: end, end };
+    Ok(Token {
+        kind: TokenKind::Number,
+        text: Vec::from_slice(alloc, b"1")?,
+        joined: false,
+        origin: Origin {
+            file: BUILT_IN_FILE,
+            span,
+            place: Place::MacroBody,
+            site: span,
+            site_file: BUILT_IN_FILE,
+        },
+    })
+}
+
+fn add_feature(alloc: Global, reading: &mut Reading, name: &[u8]) -> Result<(), NoMemory>
+    ensures { OnOk result (plain_reading reading.new ≡ with_feature name.now (plain_reading reading.old)) }
+{
+    let token = feature_token(alloc)?;
+    let name = Vec::from_slice(alloc, name)?;
+    reading.define(name, Meaning::Feature(token))?;
+    Ok(())
+}
+
+/// Adds the feature with this number if it is on.
+fn take_feature(
+    alloc: Global,
+    reading: &mut Reading,
+    c: Config,
+    number: usize,
+    name: &[u8],
+) -> Result<(), NoMemory>
+    ensures { OnOk result (plain_reading reading.new ≡ (if has c number then with_feature name.now (plain_reading reading.old) else plain_reading reading.old)) }
+{
+    if is_on(c, number) {
+        add_feature(alloc, reading, name)?;
+    }
+    Ok(())
+}
+
+/// Where the reading of a unit begins.
+pub fn at_start(alloc: Global, features: &[String], c: Config) -> Result<Reading, NoMemory>
+    ensures { IfOk result (λ reading. plain_reading reading ≡ started (names_on (has c) (map string_bytes features.now))) }
+{
+    let mut reading = Reading::new(alloc);
+    for (number, feature) in features.iter().enumerate() {
+        take_feature(alloc, &mut reading, c, number, feature.as_bytes())?;
+    }
+    Ok(reading)
+}

@@ -1,0 +1,80 @@
+//! The reading of a unit.
+ghost use Rattle.std.specs.Prelude.{◌≡◌, ◌<◌, ◌≤◌, ◌^◌, ℕ, length, map, nat_lt, IfSome, option_map};
+ghost use Rattle.c_text.specs.Preprocessing as spec;
+ghost use Rattle.c_text.specs.Preprocessing.{IsSyntaxOf};
+ghost use Rattle.plain_pp.specs.Inclusions.{plain_source};
+ghost use Rattle.plain_pp.specs.Readings.{IsAmong, IsSettingOf, Follows, entered, plain_reading};
+ghost use Rattle.plain_pp.specs.SourceFiles.{AreSources, AreSmall, deeper_of};
+
+use crate::directives::Surroundings;
+use crate::inclusions::Source;
+use crate::readings::Reading;
+use crate::refusals::PpError;
+use crate::sources::{Sources, its_lines, number_of};
+use crate::walk::Walker;
+use c_lexer::{lex, lines_are_one};
+use std::alloc::Global;
+
+/// What the reading of a source stands on, where so many files more may be nested.
+fn place_of<'a>(sources: &Sources<'a>, source: Source, more: u32) -> Surroundings<'a>
+    requires { IsAmong (length sources.now.files.now) source }
+    ensures setting { (s : spec.Sources) (x : spec.Syntax) → AreSources sources.now s → IsSyntaxOf s x
+        → IsSettingOf result (spec.setting s x (plain_source source) (deeper_of s x more)) }
+    ensures headers { result.headers.now ≡ sources.now.headers.now }
+    ensures deeper { result.may_include ≡ nat_lt 0 more }
+{
+    Surroundings {
+        features: sources.features,
+        headers: sources.headers,
+        name: sources.name_of(source),
+        may_include: more > 0,
+    }
+}
+
+/// Reads the file that a line includes, if it does.
+#[cycle(files)]
+fn enter(
+    alloc: Global,
+    sources: &Sources<'_>,
+    found: Option<Source>,
+    more: u32,
+    reading: &mut Reading,
+) -> Result<(), PpError>
+    requires there { IfSome found (λ source. (0 < more) × IsAmong (length sources.now.headers.now) source) }
+    requires small { AreSmall sources.now }
+    ensures { (s : spec.Sources) (x : spec.Syntax) → AreSources sources.now s → IsSyntaxOf s x
+        → Follows result (entered (deeper_of s x more) (option_map plain_source found) (plain_reading reading.old)) (plain_reading reading.new) }
+{
+    match found {
+        Some(source) => read_source(alloc, sources, source, more - 1, reading),
+        None => Ok(()),
+    }
+}
+
+/// Reads a source, in which so many files more may be nested.
+#[cycle(files)]
+pub fn read_source(
+    alloc: Global,
+    sources: &Sources<'_>,
+    source: Source,
+    more: u32,
+    reading: &mut Reading,
+) -> Result<(), PpError>
+    requires there { IsAmong (length sources.now.files.now) source }
+    requires small { AreSmall sources.now }
+    ensures { (s : spec.Sources) (x : spec.Syntax) → AreSources sources.now s → IsSyntaxOf s x
+        → Follows result (spec.read_source s x more (plain_source source) (plain_reading reading.old)) (plain_reading reading.new) }
+{
+    lines_are_one();
+    let text = sources.text_of(source);
+    let file = number_of(source);
+    let all = lex(alloc, file, text)?;
+    let lines = its_lines(source, all.as_slice());
+    let place = place_of(sources, source, more);
+    let mut walker = Walker::new(alloc);
+    for line in lines {
+        let found = walker.read_line(alloc, &place, file, reading, line)?;
+        enter(alloc, sources, found, more, reading)?;
+    }
+    walker.finish(alloc, file, text.len() as u32, reading)
+}
