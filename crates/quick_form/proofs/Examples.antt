@@ -1,7 +1,8 @@
 -- Examples of the definitions, by computing.
-use Rattle.std.proofs.Common.{◌≡◌, ℕ, true, false, List, [], ◌∷◌, ◌++◌, codes, refl}
+use Rattle.std.proofs.Common.{◌≡◌, ℕ, true, false, Some, None, List, [], ◌∷◌, ◌++◌, codes, refl}
 use Rattle.quick_form.specs.Words.{is_name, is_number}
 use Rattle.quick_form.specs.Symbols.{Int, Void, Return, Putchar, Main, Name, Number, Mark, Ifdef, Endif, Malformed, line_symbols, symbols_of}
+use Rattle.quick_form.specs.Places.{first_mention, first_tested}
 use Rattle.quick_form.specs.Renaming.{renamed_bytes}
 
 -- a line of a text, with its newline
@@ -54,3 +55,22 @@ past_largest_number = refl
 
 keyword_is_no_name : is_name (codes "_Bool") ≡ false
 keyword_is_no_name = refl
+
+-- where names stand first
+new_name_at : first_mention (codes "y") (file (codes "x")) ≡ Some 25
+new_name_at = refl
+
+tested_name_at : first_mention (codes "A") (file (codes "x")) ≡ Some 19
+tested_name_at = refl
+
+no_such_name : first_mention (codes "z") (file (codes "x")) ≡ None
+no_such_name = refl
+
+directive_word_is_no_name : first_mention (codes "ifdef") (file (codes "x")) ≡ None
+directive_word_is_no_name = refl
+
+tested_outside : first_tested (line (codes "#ifdef x") ++ line (codes "#endif") ++ codes "int x;") ≡ Some 20
+tested_outside = refl
+
+tested_apart : first_tested (file (codes "x")) ≡ None
+tested_apart = refl

@@ -48,7 +48,7 @@ ArePieces-pieces_of (b ∷ bs) h =
     ArePieces-cons b (pieces_of bs) (is_word_byte b) refl h.0 (ArePieces-pieces_of bs h.1)
 
 -- and from their bytes it gives them again
-with_letter-first : (b : ℕ) (ps : List Piece) → NoWordFirst ps → with_letter b ps ≡ Word (b ∷ []) ∷ ps
+pub with_letter-first : (b : ℕ) (ps : List Piece) → NoWordFirst ps → with_letter b ps ≡ Word (b ∷ []) ∷ ps
 with_letter-first b [] n = refl
 with_letter-first b (Word w ∷ ps) n = absurd n
 with_letter-first b (Other c ∷ ps) n = refl
@@ -95,20 +95,20 @@ bytes-renamed old new (Word w ∷ ps) = ap (λ bs. renamed_word old new w ++ bs)
 bytes-renamed old new (Other b ∷ ps) = ap (λ bs. b ∷ bs) (bytes-renamed old new ps)
 
 -- the bytes of pieces are one line
-not_newline : (b : ℕ) → is_word_byte b ≡ true → (b == 10) ≡ false
+pub not_newline : (b : ℕ) → is_word_byte b ≡ true → (b == 10) ≡ false
 not_newline b h = ne_eqb b 10 (λ e. true≢false (sym h ∙ ap is_word_byte e))
 
-IsOneLine-append : (bs cs : List ℕ) → IsOneLine bs → IsOneLine cs → IsOneLine (bs ++ cs)
+pub IsOneLine-append : (bs cs : List ℕ) → IsOneLine bs → IsOneLine cs → IsOneLine (bs ++ cs)
 IsOneLine-append [] cs h k = k
 IsOneLine-append (b ∷ bs) cs h k = (h.0, IsOneLine-append bs cs h.1 k)
 
-IsOneLine-word_bytes : (w : List ℕ) → list_all is_word_byte w ≡ true → IsOneLine w
+pub IsOneLine-word_bytes : (w : List ℕ) → list_all is_word_byte w ≡ true → IsOneLine w
 IsOneLine-word_bytes [] h = tt
 IsOneLine-word_bytes (b ∷ w) h =
     let p = and_parts (is_word_byte b) (list_all is_word_byte w) h in
     (not_newline b p.0, IsOneLine-word_bytes w p.1)
 
-IsOneLine-word : (w : List ℕ) → IsWord w → IsOneLine w
+pub IsOneLine-word : (w : List ℕ) → IsWord w → IsOneLine w
 IsOneLine-word [] h = absurd h
 IsOneLine-word (b ∷ w) h = (not_newline b h.0, IsOneLine-word_bytes w h.1)
 

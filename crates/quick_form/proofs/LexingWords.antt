@@ -9,7 +9,7 @@ use Rattle.quick_form.specs.Symbols.{Symbol, Int, Void, While, Return, Putchar, 
 use Rattle.quick_form.specs.Renaming.{renamed_word, renamed_symbol}
 use Rattle.quick_form.proofs.LexingPieces.{IsWord}
 
-IsWord-identifier : (w : List ℕ) → is_identifier w ≡ true → IsWord w
+pub IsWord-identifier : (w : List ℕ) → is_identifier w ≡ true → IsWord w
 IsWord-identifier [] h = absurd (both_ways false refl h)
 IsWord-identifier (b ∷ w) h =
     let p = and_parts (is_nondigit b) (list_all is_word_byte w) h in

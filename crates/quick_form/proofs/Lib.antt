@@ -1,6 +1,6 @@
 mod Examples
 pub mod LexingPieces
-mod LexingWords
+pub mod LexingWords
 mod LexingLines
 mod LexingItems
 pub mod Reading
@@ -9,3 +9,6 @@ pub mod Changed
 pub mod ChangedRun
 pub mod Behaviour
 pub mod Growth
+pub mod PlaceLemmas
+pub mod UntakenPlaces
+pub mod CutLines

@@ -6,3 +6,4 @@ pub mod Program
 pub mod Run
 pub mod Quick
 pub mod Growth
+pub mod Places

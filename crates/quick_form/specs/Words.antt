@@ -8,6 +8,11 @@ pub use Rattle.c_names.specs.Names.{is_digit, is_nondigit, is_word_byte, is_iden
 abbrev pub is_blank : ℕ → Bool
 is_blank b = b == 32 || b == 9
 
+-- whether bytes begin with a letter, a digit or `_`
+abbrev pub begins_in_word : List ℕ → Bool
+begins_in_word [] = false
+begins_in_word (b ∷ bs) = is_word_byte b
+
 -- a NAME of the quick form: an identifier, but no keyword, nor `putchar`, nor `main`
 abbrev pub is_name : List ℕ → Bool
 is_name w =

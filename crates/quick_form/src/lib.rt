@@ -3,6 +3,7 @@
 #![tactic(auto)]
 
 ghost use Rattle.quick_form.specs.Growth.{RunsGrow};
+ghost use Rattle.quick_form.specs.Places.{PlacesAreOne, TakenHasNoPlace, PlacedSymbolsAreSpelled};
 ghost use Rattle.quick_form.specs.Quick.{OneReading, RenamedSymbols, RenamedReads, RenamingKeepsBehaviour};
 
 /// A file reads as one list of items at most, so it has one program at most in a configuration.
@@ -33,4 +34,19 @@ pub fn renaming_keeps_behaviour()
 /// output of one that the bound cut off.
 pub fn runs_grow()
     ensures { RunsGrow }
+{}
+
+/// A file that isn't taken for a renaming has one place of its fault at most.
+pub fn places_are_one()
+    ensures { PlacesAreOne }
+{}
+
+/// A file that is taken for a renaming has no place of a fault.
+pub fn taken_has_no_place()
+    ensures { TakenHasNoPlace }
+{}
+
+/// The symbols whose places are told are those that the file spells.
+pub fn placed_symbols_are_spelled()
+    ensures { PlacedSymbolsAreSpelled }
 {}

@@ -1,3 +1,3 @@
-mod WordLemmas
-mod PieceLemmas
+pub mod WordLemmas
+pub mod PieceLemmas
 mod RenamingLemmas

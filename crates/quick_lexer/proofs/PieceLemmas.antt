@@ -2,9 +2,9 @@
 use Rattle.std.proofs.Common.{◌≡◌, ℕ, suc, ◌+◌, ◌<◌, ◌==◌, Bool, true, false, not, cond, List, [], ◌∷◌, ◌++◌, length, get_or, take, drop, refl, sym, ap, ◌∙◌, subst, ⊎_elim, arith}
 use Rattle.std.specs.List.{prefix_len, filter, flat_map, list_all}
 use Rattle.std.proofs.lemmas.Bool.{cond-true, cond-false, and_from, both_ways, eqb-true, or_cases, not_from_true, not_from_false}
-use Rattle.quick_form.specs.Words.{is_word_byte, is_blank}
+use Rattle.quick_form.specs.Words.{is_word_byte, begins_in_word, is_blank}
 use Rattle.quick_form.specs.Symbols.{Symbol, Mark, Piece, Word, Other, piece_bytes, with_letter, pieces_of, piece_symbols, is_blank_piece, solid_pieces}
-use Rattle.quick_lexer.specs.Lines.{begins_with_blank, BeginsWith}
+use Rattle.quick_lexer.specs.Lines.{begins_with_blank, IsPiece, BeginsWith}
 
 -- how many letters, digits and `_` the bytes begin with
 abbrev run : List ℕ → ℕ
@@ -38,11 +38,11 @@ pieces_of-run (b ∷ bs) n some e is =
     (cond-true (is_word_byte b) (with_letter b (pieces_of bs)) (Other b ∷ pieces_of bs) e ∙ letter_before b bs)
 
 -- Blanks and tabs at the front change no solid piece.
-blank_is_no_letter : (b : ℕ) → is_blank b ≡ true → is_word_byte b ≡ false
+pub blank_is_no_letter : (b : ℕ) → is_blank b ≡ true → is_word_byte b ≡ false
 blank_is_no_letter b h =
     ⊎_elim (λ e. ap is_word_byte (eqb-true b 32 e)) (λ e. ap is_word_byte (eqb-true b 9 e)) (or_cases (b == 32) (b == 9) h)
 
-solid_pieces-blank : (b : ℕ) (bs : List ℕ) → is_blank b ≡ true → solid_pieces (b ∷ bs) ≡ solid_pieces bs
+pub solid_pieces-blank : (b : ℕ) (bs : List ℕ) → is_blank b ≡ true → solid_pieces (b ∷ bs) ≡ solid_pieces bs
 solid_pieces-blank b bs h =
     ap (filter (λ p. not (is_blank_piece p)))
     (cond-false (is_word_byte b) (with_letter b (pieces_of bs)) (Other b ∷ pieces_of bs) (blank_is_no_letter b h))
@@ -104,21 +104,43 @@ token_symbols-some line rest p s e one =
     ∙ ap (λ ks. ks ++ flat_map piece_symbols (solid_pieces rest)) one
     ∙ ap (λ ks. s ∷ ks) (sym (token_symbols-solid rest))
 
-take-blanks_as : (b : ℕ) (bs : List ℕ) (t : Bool) → is_blank b ≡ t → list_all is_blank (take (prefix_len is_blank bs) bs) ≡ true → list_all is_blank (take (cond t (1 + prefix_len is_blank bs) 0) (b ∷ bs)) ≡ true
-take-blanks_as b bs true e h =
-    let one : suc (prefix_len is_blank bs) ≡ 1 + prefix_len is_blank bs = omega arith in
-    let Is : ℕ → Type 0 = λ n. list_all is_blank (take n (b ∷ bs)) ≡ true in
-    subst Is one (and_from (is_blank b) (list_all is_blank (take (prefix_len is_blank bs) bs)) e h)
-take-blanks_as b bs false e h = refl
+take-run_as : (p : ℕ → Bool) (b : ℕ) (bs : List ℕ) (t : Bool) → p b ≡ t → list_all p (take (prefix_len p bs) bs) ≡ true → list_all p (take (cond t (1 + prefix_len p bs) 0) (b ∷ bs)) ≡ true
+take-run_as p b bs true e h =
+    let one : suc (prefix_len p bs) ≡ 1 + prefix_len p bs = omega arith in
+    let Is : ℕ → Type 0 = λ n. list_all p (take n (b ∷ bs)) ≡ true in
+    subst Is one (and_from (p b) (list_all p (take (prefix_len p bs) bs)) e h)
+take-run_as p b bs false e h = refl
 
-take-blanks : (line : List ℕ) → list_all is_blank (take (prefix_len is_blank line) line) ≡ true
-take-blanks [] = refl
-take-blanks (b ∷ bs) = take-blanks_as b bs (is_blank b) refl (take-blanks bs)
+take-run : (p : ℕ → Bool) (line : List ℕ) → list_all p (take (prefix_len p line) line) ≡ true
+take-run p [] = refl
+take-run p (b ∷ bs) = take-run_as p b bs (p b) refl (take-run p bs)
+
+begins_in_word-drop_as : (b : ℕ) (bs : List ℕ) (t : Bool) → is_word_byte b ≡ t → begins_in_word (drop (run bs) bs) ≡ false → begins_in_word (drop (cond t (1 + run bs) 0) (b ∷ bs)) ≡ false
+begins_in_word-drop_as b bs true e h =
+    let one : suc (run bs) ≡ 1 + run bs = omega arith in
+    let Is : ℕ → Type 0 = λ n. begins_in_word (drop n (b ∷ bs)) ≡ false in
+    subst Is one h
+begins_in_word-drop_as b bs false e h = e
+
+begins_in_word-drop : (line : List ℕ) → begins_in_word (drop (run line) line) ≡ false
+begins_in_word-drop [] = refl
+begins_in_word-drop (b ∷ bs) = begins_in_word-drop_as b bs (is_word_byte b) refl (begins_in_word-drop bs)
+
+-- the longest run of letters, digits and `_` is a whole word
+pub IsPiece-run : (line : List ℕ) (n : ℕ) → 0 < length line → is_word_byte (get_or line 0 0) ≡ true → n ≡ prefix_len is_word_byte line → IsPiece (Word (take n line)) (drop n line)
+IsPiece-run [] n some e is = absurd (omega arith)
+IsPiece-run (b ∷ bs) n some e is =
+    let one : suc (run bs) ≡ n = let c = cond-true (is_word_byte b) (1 + run bs) 0 e in omega arith in
+    let Begins : ℕ → Type 0 = λ m. begins_in_word (take m (b ∷ bs)) ≡ true in
+    let All_of : ℕ → Type 0 = λ m. list_all is_word_byte (take m (b ∷ bs)) ≡ true in
+    let Ends : ℕ → Type 0 = λ m. begins_in_word (drop m (b ∷ bs)) ≡ false in
+    (subst Begins one e, subst All_of (sym is) (take-run is_word_byte (b ∷ bs)), subst Ends (sym is) (begins_in_word-drop (b ∷ bs)))
 
 -- a line begins with what it begins with behind its blanks and tabs
-pub BeginsWith-blanks : (line visible rest : List ℕ) (p : Piece) → line ≡ take (prefix_len is_blank line) line ++ visible → visible ≡ piece_bytes p ++ rest → BeginsWith line p rest
-BeginsWith-blanks line visible rest p blanks first = record {
+pub BeginsWith-blanks : (line visible rest : List ℕ) (p : Piece) → line ≡ take (prefix_len is_blank line) line ++ visible → visible ≡ piece_bytes p ++ rest → IsPiece p rest → BeginsWith line p rest
+BeginsWith-blanks line visible rest p blanks first cut = record {
   blanks = take (prefix_len is_blank line) line;
-  are_blank = take-blanks line;
+  are_blank = take-run is_blank line;
   joined = blanks ∙ ap (λ bs. take (prefix_len is_blank line) line ++ bs) first;
+  cut = cut;
 }

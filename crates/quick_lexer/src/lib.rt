@@ -12,7 +12,7 @@ pub use lines::{directive, first_symbol};
 pub use pieces::{Piece, first_piece, first_solid_piece};
 pub use renaming::{push_renamed_line, renamed};
 pub use symbols::{Symbol, word_symbol};
-pub use words::{is_name, is_number};
+pub use words::{is_blank, is_name, is_number};
 
 #[cfg(test)]
 mod tests;

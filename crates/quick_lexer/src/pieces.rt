@@ -3,7 +3,7 @@ ghost use Rattle.std.specs.Prelude.{◌≡◌, ◌↔◌, ◌<◌, ◌≤◌, �
 ghost use Rattle.std.specs.List.{prefix_len};
 ghost use Rattle.quick_form.specs.Words as spec;
 ghost use Rattle.quick_form.specs.Symbols.{piece_bytes, pieces_of, is_blank_piece, solid_pieces};
-ghost use Rattle.quick_lexer.specs.Lines.{begins_with_blank, BeginsWith};
+ghost use Rattle.quick_lexer.specs.Lines.{begins_with_blank, IsPiece, BeginsWith};
 ghost use Rattle.quick_lexer.specs.View.{piece_view};
 
 use crate::words::is_blank;
@@ -57,6 +57,7 @@ pub fn first_piece<'a>(line: &'a [u8]) -> Option<(Piece<'a>, &'a [u8])>
     ensures none { IsNone result ↔ (line.now ≡ []) }
     ensures some { IfSome result (λ r. pieces_of line.now ≡ piece_view r.0 ∷ pieces_of r.1.now) }
     ensures bytes { IfSome result (λ r. line.now ≡ piece_bytes (piece_view r.0) ++ r.1.now) }
+    ensures cut { IfSome result (λ r. IsPiece (piece_view r.0) r.1.now) }
     ensures shorter { IfSome result (λ r. length r.1.now < length line.now) }
 {
     match line {

@@ -1,11 +1,12 @@
 use crate::{
-    Piece, Symbol, directive, first_piece, first_solid_piece, first_symbol, is_name, is_number,
-    push_renamed_line, renamed, word_symbol,
+    Piece, Symbol, directive, first_piece, first_solid_piece, first_symbol, is_blank, is_name,
+    is_number, push_renamed_line, renamed, word_symbol,
 };
 use std::test::Fail;
 
 #[test]
 fn words(rt: HostRuntime) {
+    assert!(rt; is_blank(b'\t') && !is_blank(b'\n'));
     assert!(rt; is_name(b"total_2"));
     assert!(rt; is_number(b"2147483647"));
     assert!(rt; word_symbol(b"while") == Symbol::While);

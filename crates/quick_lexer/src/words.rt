@@ -8,6 +8,7 @@ use c_names::{is_digit, is_identifier, is_keyword};
 /// The largest value of an `int` of 32 bits.
 const INT_MAX: u64 = 2_147_483_647;
 
+/// Whether a byte is a blank or a tab.
 pub fn is_blank(byte: u8) -> bool
     ensures { result ≡ spec.is_blank byte }
 {

@@ -5,7 +5,7 @@ ghost use Rattle.std.specs.Str.{bytes_eq};
 ghost use Rattle.quick_parser.specs.declared.spots.Move.TheVariants.{Enter};
 ghost use Rattle.quick_parser.specs.declared.spots.Frame.TheVariants.{Group};
 ghost use Rattle.quick_parser.specs.Spots.{moved, spot_move};
-ghost use Rattle.quick_parser.specs.Steps.{start, with_test, noted, step, is_complete};
+ghost use Rattle.quick_parser.specs.Steps.{start, with_test, noted, step, is_entry, is_complete};
 ghost use Rattle.quick_lexer.specs.View.{symbol_view};
 
 use crate::frames::OpenFrames;
@@ -136,6 +136,13 @@ impl Parser {
             self.make(next)?;
         }
         Ok(true)
+    }
+
+    /// Whether an entry of a list may begin here, or a directive stand.
+    pub fn is_at_entry(&self) -> bool
+        ensures { result ≡ is_entry self.now.spot.place }
+    {
+        self.place == Place::Entry
     }
 
     /// Whether the symbols so far are all of a file.

@@ -52,6 +52,7 @@ fn a_file_is_read(rt: HostRuntime) -> Result<(), Fail> {
     assert_eq!(rt; outcome(rt.alloc(), &file)?, (25, true));
     assert_eq!(rt; outcome(rt.alloc(), &file[..24])?, (24, false));
     assert_eq!(rt; outcome(rt.alloc(), &[])?, (0, true));
+    assert!(rt; Parser::new(rt.alloc()).is_at_entry());
     Ok(())
 }
 

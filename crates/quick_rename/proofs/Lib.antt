@@ -1,6 +1,13 @@
+pub mod Cutting
 pub mod Walk
 pub mod FormLemmas
 pub mod ScanLemmas
 pub mod Counting
 pub mod RenameLemmas
 pub mod Decided
+pub mod FormFaults
+pub mod LineFaults
+pub mod WordFaults
+pub mod DirectiveFaults
+pub mod FrontLengths
+pub mod Stops

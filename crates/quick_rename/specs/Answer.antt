@@ -2,6 +2,7 @@
 use Rattle.std.specs.Prelude.{◌≡◌, ℕ, List}
 use Rattle.quick_form.specs.Renaming.{renamed_bytes, token_count}
 use Rattle.quick_form.specs.Quick.{Takes}
+use Rattle.quick_form.specs.Places.{IsFaultOfForm, IsPlace}
 use Rattle.quick_rename.specs.declared.Answer.{Answer}
 use Rattle.quick_rename.specs.declared.Answer.TheVariants.{Renamed, NotQuick}
 
@@ -15,3 +16,13 @@ pub record IsRenamed (old new bytes renamed : List ℕ) (tokens : ℕ) : Type 0 
 abbrev pub IsAnswer : List ℕ → List ℕ → List ℕ → Answer → Type 0
 IsAnswer old new bytes (Renamed renamed tokens) = IsRenamed old new bytes renamed.items tokens
 IsAnswer old new bytes (NotQuick offset) = Takes old new bytes → ⊥
+
+-- where the file isn't taken, the offset is the place of its fault
+abbrev pub HasPlace : List ℕ → List ℕ → List ℕ → Answer → Type 0
+HasPlace old new bytes (Renamed renamed tokens) = Unit {0}
+HasPlace old new bytes (NotQuick offset) = IsPlace old new bytes offset
+
+-- the answer to a file with too many bytes
+abbrev pub IsTooLong : List ℕ → Answer → Type 0
+IsTooLong bytes (Renamed renamed tokens) = ⊥
+IsTooLong bytes (NotQuick offset) = IsFaultOfForm bytes offset

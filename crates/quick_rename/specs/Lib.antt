@@ -1,4 +1,6 @@
 pub mod Answer
+pub mod Cuts
+pub mod Fronts
 pub mod Visits
 pub mod Readings
 pub mod Scans

@@ -1,19 +1,22 @@
 //! The reading of a file by the quick form's grammar.
 ghost use Rattle.std.specs.Prelude.{◌≡◌, [], true, Some, None, IfOk};
-ghost use Rattle.quick_form.specs.Symbols.{symbols_of};
 ghost use Rattle.quick_parser.specs.Steps.{after};
 ghost use Rattle.quick_rename.specs.Readings.{IsReading};
+ghost use Rattle.quick_rename.specs.Visits.{spelled};
 
-use crate::fault::fault_offset;
+use crate::fault::fault_len;
 use crate::visit::{Visitor, visit};
 use quick_lexer::Symbol;
-use quick_parser::{Parser, complete_is_written, one_step_more, refusals_end};
+use quick_parser::{
+    Parser, complete_is_written, one_step_more, refusals_end, refused_is_unwritten,
+    states_complete, tests_are_kept,
+};
 use std::alloc::{AllocError, Global};
 
 impl Visitor for Parser {
-    ghost took = { λ parser symbols. after symbols ≡ Some parser };
+    ghost took = { λ parser symbols. after (spelled symbols) ≡ Some parser };
 
-    ghost refuses = { λ symbols. after symbols ≡ None };
+    ghost refuses = { λ symbols. after (spelled symbols) ≡ None };
 
     ghost words = { λ _. [] };
 
@@ -35,14 +38,18 @@ pub(crate) enum Reading {
 
 /// Reads a file by the grammar, and by the limits on blocks and tested names.
 pub(crate) fn read(alloc: Global, bytes: &[u8]) -> Result<Reading, AllocError>
-    ensures { IfOk result (IsReading (symbols_of bytes.now)) }
+    ensures { IfOk result (IsReading bytes.now) }
 {
     refusals_end();
     complete_is_written();
+    states_complete();
+    refused_is_unwritten();
+    one_step_more();
+    tests_are_kept();
     let mut parser = Parser::new(alloc);
     match visit(&mut parser, bytes)? {
         Some(stop) => Ok(Reading::Fault {
-            offset: fault_offset(&parser, &stop),
+            offset: stop.at + fault_len(&parser, stop.text, stop.is_directive),
         }),
         None => {
             if parser.is_complete() {

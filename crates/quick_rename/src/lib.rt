@@ -1,10 +1,10 @@
 //! The renaming of one name in a file of the quick form.
 #![tactic(auto)]
 
-ghost use Rattle.std.specs.Prelude.{◌≡◌, ◌≤◌, ℕ, true, length, IfOk};
+ghost use Rattle.std.specs.Prelude.{◌≡◌, ◌<◌, ◌≤◌, true, length, IfOk};
 ghost use Rattle.quick_form.specs.Words.{is_name};
 ghost use Rattle.quick_form.specs.Symbols.{symbols_of};
-ghost use Rattle.quick_rename.specs.Answer.{IsAnswer};
+ghost use Rattle.quick_rename.specs.Answer.{IsAnswer, HasPlace, IsTooLong};
 ghost use Rattle.quick_rename.specs.Laws.{TakingIsDecided};
 ghost use Rattle.quick_rename.specs.Readings.{IsWhole};
 
@@ -49,7 +49,8 @@ fn rename_read(
 ) -> Result<Answer, AllocError>
     requires whole { IsWhole (symbols_of bytes.now) parser.now }
     requires size { length bytes.now ≤ 16777216 }
-    ensures { IfOk result (IsAnswer old.now new.now bytes.now) }
+    ensures answer { IfOk result (IsAnswer old.now new.now bytes.now) }
+    ensures place { IfOk result (HasPlace old.now new.now bytes.now) }
 {
     tests_are_kept();
     declared_behind_int();
@@ -67,11 +68,11 @@ fn rename_read(
 /// Renames one name in a file of the quick form.
 pub fn rename(alloc: Global, bytes: &[u8], old: &[u8], new: &[u8]) -> Result<Answer, AllocError>
     requires { is_name new.now ≡ true }
-    ensures { IfOk result (IsAnswer old.now new.now bytes.now) }
+    ensures answer { IfOk result (IsAnswer old.now new.now bytes.now) }
+    ensures place { IfOk result (HasPlace old.now new.now bytes.now) }
 {
     if bytes.len() > MOST_BYTES {
-        let (front, _) = bytes.split_at(MOST_BYTES);
-        return too_long(alloc, front);
+        return too_long(alloc, bytes);
     }
     match read(alloc, bytes)? {
         Reading::Fault { offset } => Ok(Answer::NotQuick { offset }),
@@ -79,10 +80,12 @@ pub fn rename(alloc: Global, bytes: &[u8], old: &[u8], new: &[u8]) -> Result<Ans
     }
 }
 
-/// The fault of a file that has more bytes than these.
-fn too_long(alloc: Global, front: &[u8]) -> Result<Answer, AllocError>
-    ensures { IfOk result (λ answer. (offset : ℕ) × (answer ≡ Answer.NotQuick offset)) }
+/// The fault of a file that has too many bytes.
+fn too_long(alloc: Global, bytes: &[u8]) -> Result<Answer, AllocError>
+    requires { 16777216 < length bytes.now }
+    ensures { IfOk result (IsTooLong bytes.now) }
 {
+    let (front, _) = bytes.split_at(MOST_BYTES);
     let offset = match read(alloc, front)? {
         Reading::Fault { offset } => offset.min(MOST_BYTES),
         Reading::Whole(_) => MOST_BYTES,

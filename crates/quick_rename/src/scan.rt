@@ -1,5 +1,6 @@
 //! What a file of the form says of the two names of a renaming.
-ghost use Rattle.std.specs.Prelude.{◌≡◌, ◌+◌, ◌-◌, ◌^◌, ◌||◌, ◌&&◌, not, min, [], ◌∷◌, is_some, if◌then◌else◌};
+ghost use Rattle.std.specs.Prelude.{◌≡◌, ◌+◌, ◌-◌, ◌^◌, ◌||◌, ◌&&◌, not, min, [], ◌∷◌, length, is_some, if◌then◌else◌};
+ghost use Rattle.quick_form.specs.Places.{name_of};
 ghost use Rattle.quick_form.specs.Symbols as spec;
 ghost use Rattle.quick_lexer.specs.View.{symbol_view};
 ghost use Rattle.quick_rename.specs.Scans as spec_scan;
@@ -46,7 +47,9 @@ fn is_tested(symbol: &Symbol, parser: &Parser) -> bool
 }
 
 /// The offset of a symbol's name, which ends at `end`.
-fn name_start(symbol: &Symbol, end: usize) -> usize {
+fn name_start(symbol: &Symbol, end: usize) -> usize
+    ensures { result ≡ end - length (name_of (symbol_view symbol.now)) }
+{
     match symbol {
         Symbol::Name(name) | Symbol::Ifdef(name) => end.saturating_sub(name.len()),
         _ => end,
@@ -55,7 +58,7 @@ fn name_start(symbol: &Symbol, end: usize) -> usize {
 
 /// The first place, where it may be here.
 fn first_of(earlier: Option<usize>, is_here: bool, here: usize) -> Option<usize>
-    ensures { is_some result ≡ (is_some earlier || is_here) }
+    ensures { result ≡ spec_scan.first_of earlier is_here here }
 {
     match earlier {
         Some(place) => Some(place),
@@ -101,7 +104,7 @@ pub(crate) struct Scan<'a> {
 impl<'a> Scan<'a> {
     /// A walk that has taken nothing yet.
     pub(crate) fn new(old: &'a [u8], new: &'a [u8], parser: &'a Parser) -> Scan<'a>
-        ensures nothing { spec_scan.Scanned result [] }
+        ensures nothing { spec_scan.ScannedPlaces result [] }
         ensures words { spec_scan.scan_words result ≡ old.now ∷ new.now ∷ parser.now.tested_names }
     {
         Scan {
@@ -127,7 +130,8 @@ impl<'a> Scan<'a> {
     /// name, of the first tested name outside directive lines, or the end where the old name isn't
     /// declared.
     pub(crate) fn fault(&self, len: usize) -> Option<usize>
-        ensures { is_some result ≡ (is_some self.now.first_new || is_some self.now.first_tested || not self.now.declares_old) }
+        ensures some { is_some result ≡ (is_some self.now.first_new || is_some self.now.first_tested || not self.now.declares_old) }
+        ensures place { result ≡ spec_scan.first_fault self.now.first_new self.now.first_tested self.now.declares_old len }
     {
         if self.first_new.is_some() {
             self.first_new
@@ -142,7 +146,7 @@ impl<'a> Scan<'a> {
 }
 
 impl Visitor for Scan<'_> {
-    ghost took = { spec_scan.Scanned };
+    ghost took = { spec_scan.ScannedPlaces };
 
     ghost refuses = { λ _. ⊥ };
 

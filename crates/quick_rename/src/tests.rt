@@ -1,6 +1,8 @@
 //! The example, renamed.
 use crate::{Answer, rename, taking_is_decided};
-use quick_form::{renamed_symbols, runs_grow};
+use quick_form::{
+    placed_symbols_are_spelled, places_are_one, renamed_symbols, runs_grow, taken_has_no_place,
+};
 use std::test::Fail;
 
 const EXAMPLE: &[u8] =
@@ -15,6 +17,9 @@ fn a_name_is_renamed(rt: HostRuntime) -> Result<(), Fail> {
     taking_is_decided();
     renamed_symbols();
     runs_grow();
+    places_are_one();
+    taken_has_no_place();
+    placed_symbols_are_spelled();
     match rename(rt.alloc(), EXAMPLE, b"x", b"z")? {
         Answer::Renamed { bytes, tokens } => {
             assert_eq!(rt; bytes.as_slice(), RENAMED);
@@ -34,6 +39,25 @@ fn a_fault_has_its_offset(rt: HostRuntime) -> Result<(), Fail> {
     ];
     for (file, new, wanted) in cases {
         match rename(rt.alloc(), file, b"x", new)? {
+            Answer::NotQuick { offset } => assert_eq!(rt; offset, wanted),
+            Answer::Renamed { tokens, .. } => assert!(rt; false, "renamed {tokens} tokens"),
+        }
+    }
+    Ok(())
+}
+
+#[test]
+fn a_fault_of_the_form_has_its_offset(rt: HostRuntime) -> Result<(), Fail> {
+    let cases: [(&[u8], usize); 6] = [
+        (b"int x", 5),
+        (b"int x = 07;", 9),
+        (b"int main(void) { int y; }", 20),
+        (b"int main(void) { whilex = 1; }", 30),
+        (b"# else\n", 2),
+        (b"#ifdef A B\n#endif\n", 9),
+    ];
+    for (file, wanted) in cases {
+        match rename(rt.alloc(), file, b"x", b"z")? {
             Answer::NotQuick { offset } => assert_eq!(rt; offset, wanted),
             Answer::Renamed { tokens, .. } => assert!(rt; false, "renamed {tokens} tokens"),
         }

@@ -1,19 +1,21 @@
 //! A walk over the symbols of a file, one after another.
-ghost use Rattle.std.specs.Prelude.{◌≡◌, ◌==◌, ◌<◌, ◌≤◌, ℕ, List, [], ◌∷◌, ◌++◌, true, false, length, take, slice_index, All, IfOk, OnOk, IfNone, IfSome, MatchOption};
-ghost use Rattle.quick_form.specs.Symbols.{Symbol as Spelled, symbols_of, line_symbols, lines_of};
-ghost use Rattle.quick_lexer.specs.View.{symbol_view, token_symbols};
-ghost use Rattle.quick_rename.specs.Visits.{lines_in, Visits};
+ghost use Rattle.std.specs.Prelude.{◌≡◌, ◌==◌, ◌<◌, ◌≤◌, ◌-◌, ℕ, List, [], ◌∷◌, ◌++◌, true, false, length, take, slice_index, All, IfOk, OnOk, IfNone, IfSome};
+ghost use Rattle.quick_form.specs.Places.{Placed, placed_pieces, placed_line, placed_symbols, solid_length};
+ghost use Rattle.quick_form.specs.Symbols.{pieces_of, lines_of, solid_pieces, is_directive_line};
+ghost use Rattle.quick_lexer.specs.View.{symbol_view};
+ghost use Rattle.quick_rename.specs.Cuts.{IsOneLine};
+ghost use Rattle.quick_rename.specs.Visits.{placed, lines_in, Visits, StopsInLine, StopsInFile};
 
-use quick_lexer::{Symbol, directive, first_symbol};
+use quick_lexer::{Symbol, directive, first_symbol, is_blank};
 use std::alloc::AllocError;
 
 /// What goes over the symbols of a file, and may refuse one.
 pub(crate) trait Visitor {
-    /// Holds where these are the symbols that it has taken.
-    ghost took: { Self → List Spelled → Type 0 };
+    /// Holds where these are the symbols that it has taken, with their places.
+    ghost took: { Self → List Placed → Type 0 };
 
     /// Holds where it takes no such symbols.
-    ghost refuses: { List Spelled → Type 0 };
+    ghost refuses: { List Placed → Type 0 };
 
     /// The words that it goes by, which stay.
     ghost words: { Self → List (List ℕ) };
@@ -21,8 +23,9 @@ pub(crate) trait Visitor {
     /// Takes a symbol, whose last byte stands before the offset `end`. `false` where it refuses it.
     fn take(&mut self, symbol: &Symbol, end: usize) -> Result<bool, AllocError>
         ensures words { OnOk result (words self.new ≡ words self.old) }
-        ensures taken { IfOk result (λ yes. yes ≡ true → (ks : List Spelled) → took self.old ks → took self.new (ks ++ symbol_view symbol.now ∷ [])) }
-        ensures refused { IfOk result (λ yes. yes ≡ false → (ks : List Spelled) → took self.old ks → refuses (ks ++ symbol_view symbol.now ∷ [])) };
+        ensures taken { IfOk result (λ yes. yes ≡ true → (ks : List Placed) → took self.old ks → took self.new (ks ++ placed (symbol_view symbol.now) end ∷ [])) }
+        ensures stays { IfOk result (λ yes. yes ≡ false → (ks : List Placed) → took self.old ks → took self.new ks) }
+        ensures refused { IfOk result (λ yes. yes ≡ false → (ks : List Placed) → took self.old ks → refuses (ks ++ placed (symbol_view symbol.now) end ∷ [])) };
 }
 
 /// Where a visitor refused a symbol: it is the first of the text, which begins at the offset.
@@ -46,8 +49,9 @@ fn newline_at(text: &[u8]) -> Option<usize>
 /// The first line of a text, and the text after its newline.
 fn first_line<'a>(text: &'a [u8]) -> (&'a [u8], Option<&'a [u8]>)
     ensures lines { lines_of text.now ≡ result.0.now ∷ lines_in result.1 }
-    ensures shorter { length result.0.now ≤ length text.now }
-    ensures more { MatchOption result.1 (Unit {0}) (λ more. length more.now < length text.now) }
+    ensures one_line { IsOneLine result.0.now }
+    ensures last { IfNone result.1 (text.now ≡ result.0.now) }
+    ensures more { IfSome result.1 (λ more. text.now ≡ result.0.now ++ 10 ∷ more.now) }
 {
     match newline_at(text) {
         Some(i) => (&text[..i], Some(&text[i + 1..])),
@@ -57,15 +61,16 @@ fn first_line<'a>(text: &'a [u8]) -> (&'a [u8], Option<&'a [u8]>)
 
 /// The length of a line without the blanks and tabs at its end.
 fn solid_len(line: &[u8]) -> usize
-    ensures { result ≤ length line.now }
+    ensures len { result ≡ solid_length line.now }
+    ensures within { result ≤ length line.now }
 {
-    match line
-        .iter()
-        .rposition(|byte| *byte != b' ' && *byte != b'\t')
-    {
-        Some(i) => i + 1,
-        None => 0,
+    let mut len = 0;
+    for (i, byte) in line.iter().enumerate() {
+        if !is_blank(*byte) {
+            len = i + 1;
+        }
     }
+    len
 }
 
 /// Visits the tokens of a line that is no directive line, and that ends at the offset `end`.
@@ -74,9 +79,11 @@ fn visit_tokens<'a, V: Visitor>(
     line: &'a [u8],
     end: usize,
 ) -> Result<Option<Stop<'a>>, AllocError>
-    requires { length line.now ≤ end }
+    requires within { length line.now ≤ end }
+    requires tokens { is_directive_line (solid_pieces line.now) ≡ false }
     ensures words { OnOk result (V.words visitor.new ≡ V.words visitor.old) }
-    ensures visits { IfOk result (λ stop. Visits V.took V.refuses visitor.old visitor.new (token_symbols line.now) stop) }
+    ensures visits { IfOk result (λ stop. Visits V.took V.refuses (StopsInLine line.now (end - length line.now)) visitor.old visitor.new
+        (placed_pieces (end - length line.now) (pieces_of line.now)) stop) }
 {
     let mut rest = line;
     while let Some((symbol, next)) = first_symbol(rest) {
@@ -100,7 +107,8 @@ fn visit_line<'a, V: Visitor>(
 ) -> Result<Option<Stop<'a>>, AllocError>
     requires { length line.now ≤ end }
     ensures words { OnOk result (V.words visitor.new ≡ V.words visitor.old) }
-    ensures visits { IfOk result (λ stop. Visits V.took V.refuses visitor.old visitor.new (line_symbols line.now) stop) }
+    ensures visits { IfOk result (λ stop. Visits V.took V.refuses (StopsInLine line.now (end - length line.now)) visitor.old visitor.new
+        (placed_line (end - length line.now) line.now) stop) }
 {
     match directive(line) {
         None => visit_tokens(visitor, line, end),
@@ -125,7 +133,7 @@ pub(crate) fn visit<'a, V: Visitor>(
     bytes: &'a [u8],
 ) -> Result<Option<Stop<'a>>, AllocError>
     ensures words { OnOk result (V.words visitor.new ≡ V.words visitor.old) }
-    ensures visits { IfOk result (λ stop. Visits V.took V.refuses visitor.old visitor.new (symbols_of bytes.now) stop) }
+    ensures visits { IfOk result (λ stop. Visits V.took V.refuses (StopsInFile bytes.now) visitor.old visitor.new (placed_symbols bytes.now) stop) }
 {
     let mut text = Some(bytes);
     while let Some(rest) = text {

@@ -1,13 +1,12 @@
 use Rattle.std.proofs.Common.{◌≡◌, ◌≤◌, length}
-use Rattle.quick_lexer.specs.View.{token_symbols}
-use Rattle.quick_rename.proofs.Walk.{Goes}
+use Rattle.quick_rename.proofs.Walk.{InTokens}
 use Rattle.quick_rename.proofs.visit.visit_tokens.Given as goal
 
 abbrev pub invariant-loop-symbol : goal.invariant-loop-symbol
 invariant-loop-symbol g l =
     record {
       words : g.V.Visitor.words l.visitor ≡ g.V.Visitor.words l.fn.visitor;
-      goes : Goes g.V.Visitor.took l.fn.visitor l.visitor (token_symbols l.line) (token_symbols l.rest);
+      tokens : InTokens g.V.Visitor.took l.fn.visitor l.visitor l.line l.rest l.end;
       within : length l.rest ≤ l.end;
     }
 
