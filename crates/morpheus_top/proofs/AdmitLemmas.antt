@@ -5,7 +5,7 @@ use Rattle.std.specs.declared.alloc.AllocError.{AllocError}
 use Rattle.std.specs.List.{join_by, flat_map}
 use Rattle.std.proofs.lemmas.List.{drop_more, drop_all, map-append, append_assoc, append-nil}
 use Rattle.morpheus_top.specs.Replies.{listed}
-use Rattle.morpheus_top.specs.Admit.{names_from}
+use Rattle.project_file.specs.Projects.{names_from}
 
 module _ (on : ℕ → Bool) where
   -- the names that are on from this one on

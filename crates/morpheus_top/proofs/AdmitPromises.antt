@@ -6,14 +6,24 @@ use Rattle.project_file.specs.Faults.{Fault}
 use Rattle.project_file.specs.Laws.{ProjectsHaveNoFault}
 use Rattle.project_store.specs.Reads.{SaysProject, HasFault}
 use Rattle.morpheus_top.specs.declared.replies.Reply.{Reply}
-use Rattle.morpheus_top.specs.declared.replies.Reply.TheVariants.{Renamed, Usage, ReadFault, WriteFault, WantOfMemory, NotQuick, BadProject, Admits, AdmitsNothing}
+use Rattle.morpheus_top.specs.declared.replies.Reply.TheVariants.{Renamed, Usage, ReadFault, WriteFault, WantOfMemory, NotQuick, BadProject, Admits, AdmitsNothing, Tokens}
+use Rattle.text_edits.specs.Files.{Lookup}
 use Rattle.morpheus_top.specs.Words.{AsksAdmit}
 use Rattle.morpheus_top.specs.Replies.{status_of, report_of, fault_view}
 use Rattle.morpheus_top.specs.Admit.{AdmitsLeast, AdmitsNone}
-use Rattle.morpheus_top.specs.States.{StoreState, SinkState, Kept}
-use Rattle.morpheus_top.specs.Calls.{SaysReadFault, Holds, Answers}
+use Rattle.morpheus_top.specs.States.{StoreState, SinkState}
+use Rattle.morpheus_top.specs.Calls.{SaysReadFault, IsUsageIn, HasFaultIn, Holds, Answers}
 use Rattle.morpheus_top.specs.Promises.{IsOneOf, NoFault, FitsReports, PrintsLeast, PrintsFault}
-use Rattle.morpheus_top.proofs.Promises.{one_command, one_project, settled, first_of_three, second_of_three, third_of_three, no_read_rise, no_read_there}
+use Rattle.morpheus_top.proofs.Promises.{one_command, one_project, no_tokens_for_admit, is_not, settled, first_of_three, second_of_three, third_of_three, no_read_rise, no_read_there, taken_is}
+
+-- words that ask for a project are of use, and what they ask for is its first fault
+no_usage_for_admit : (words : List (List ℕ)) (told : Type 0) (files : Lookup) (name : List ℕ) → AsksAdmit words name → IsUsageIn words told files → ⊥
+no_usage_for_admit words told files name a (inl u) = u.no_admit name a
+no_usage_for_admit words told files name a (inr x) = no_tokens_for_admit words name x.0 a x.1
+
+fault_for_admit : (words : List (List ℕ)) (told : Type 0) (files : Lookup) (name : List ℕ) (fault : Fault) → AsksAdmit words name → HasFaultIn words told files fault → HasFault told files name fault
+fault_for_admit words told files name fault a (inl x) = subst (λ n. HasFault told files n fault) (one_project words x.0 name x.1 a) x.2
+fault_for_admit words told files name fault a (inr x) = absurd (no_tokens_for_admit words name x.0 a x.1)
 
 -- what a reply to words that ask for a project comes to, where no read failed
 data Outcome (b : StoreState) (name : List ℕ) (reply : Reply) : Type 0 where
@@ -23,20 +33,21 @@ data Outcome (b : StoreState) (name : List ℕ) (reply : Reply) : Type 0 where
 
 outcome : (words : List (List ℕ)) (b a : StoreState) (name : List ℕ) → AsksAdmit words name → (SaysReadFault words b a → ⊥) → (reply : Reply) → Holds words b a reply → Outcome b name reply
 outcome words b a name asked no_read (Renamed n) h = absurd (one_command words h.renaming name h.asked asked)
-outcome words b a name asked no_read Usage h = absurd (h.0.no_admit name asked)
+outcome words b a name asked no_read Usage h = absurd (no_usage_for_admit words b.tells b.file name asked h.0)
 outcome words b a name asked no_read ReadFault h = absurd (no_read h)
 outcome words b a name asked no_read WriteFault h = absurd (one_command words h.renaming name h.asked asked)
 outcome words b a name asked no_read WantOfMemory h = ended refl
 outcome words b a name asked no_read (NotQuick o) h = absurd (one_command words h.renaming name h.asked asked)
 outcome words b a name asked no_read (BadProject f) h =
-    refused (fault_view f) (subst (λ n. HasFault b.tells b.file n (fault_view f)) (one_project words h.project name h.asked asked) h.first) refl
+    refused (fault_view f) (fault_for_admit words b.tells b.file name (fault_view f) asked h.first) refl
+outcome words b a name asked no_read (Tokens r) h = absurd (no_tokens_for_admit words name h.query asked h.asked)
 outcome words b a name asked no_read (Admits n) h =
     found h.least.project (subst (λ m. SaysProject b.tells b.file m h.least.project) (one_project words h.project name h.asked asked) h.least.has_project) refl
 outcome words b a name asked no_read AdmitsNothing h =
     found h.none.project (subst (λ m. SaysProject b.tells b.file m h.none.project) (one_project words h.project name h.asked asked) h.none.has_project) refl
 
 -- a project file that says a project has no fault
-excluded : ProjectsHaveNoFault → (b : StoreState) (name : List ℕ) (project : PlainProject) (fault : Fault) → b.tells → SaysProject b.tells b.file name project → HasFault b.tells b.file name fault → ⊥
+pub excluded : ProjectsHaveNoFault → (b : StoreState) (name : List ℕ) (project : PlainProject) (fault : Fault) → b.tells → SaysProject b.tells b.file name project → HasFault b.tells b.file name fault → ⊥
 excluded law b name project fault tells p f =
     let e : ◌≡◌ {A = Option (List ℕ)} (Some p.bytes) (Some f.bytes) = sym (p.stands tells) ∙ f.stands tells in
     let same : p.bytes ≡ f.bytes = cc in
@@ -52,7 +63,7 @@ refused_or_ended law b name fault reply tells f (found project h e) = absurd (ex
 refused_or_ended law b name fault reply tells f (refused other h e) = inl e
 refused_or_ended law b name fault reply tells f (ended e) = inr e
 
-with_status : (status n m : ℕ) (reply : Reply) → status ≡ status_of reply → (status_of reply ≡ n) ⊎ (status_of reply ≡ m) → (status ≡ n) ⊎ (status ≡ m)
+pub with_status : (status n m : ℕ) (reply : Reply) → status ≡ status_of reply → (status_of reply ≡ n) ⊎ (status_of reply ≡ m) → (status ≡ n) ⊎ (status ≡ m)
 with_status status n m reply e (inl k) = inl (e ∙ k)
 with_status status n m reply e (inr k) = inr (e ∙ k)
 
@@ -97,20 +108,17 @@ bad_project_lem words b a s t status A e name asked =
     faulted WantOfMemory h k = absurd (omega arith)
     faulted (NotQuick o) h k = absurd (omega arith)
     faulted (BadProject f) h k =
-        (fault_view f, subst (λ n. HasFault b.tells b.file n (fault_view f)) (one_project words h.project name h.asked asked) h.first)
+        (fault_view f, fault_for_admit words b.tells b.file name (fault_view f) asked h.first)
     faulted (Admits n) h k = absurd (omega arith)
     faulted AdmitsNothing h k = absurd (omega arith)
+    faulted (Tokens r) h k = absurd (is_not r 5 (λ e. omega arith) (λ e. omega arith) k)
 
 -- where a store tells what it holds, what was read of it stands there
-told_fault : (b : StoreState) (name : List ℕ) (fault : Fault) → b.tells → HasFault b.tells b.file name fault → HasFault (Unit {0}) b.file name fault
+pub told_fault : (b : StoreState) (name : List ℕ) (fault : Fault) → b.tells → HasFault b.tells b.file name fault → HasFault (Unit {0}) b.file name fault
 told_fault b name fault tells h = record { bytes = h.bytes; stands = λ u. h.stands tells; first = h.first }
 
-told_project : (b : StoreState) (name : List ℕ) (project : PlainProject) → b.tells → SaysProject b.tells b.file name project → SaysProject (Unit {0}) b.file name project
+pub told_project : (b : StoreState) (name : List ℕ) (project : PlainProject) → b.tells → SaysProject b.tells b.file name project → SaysProject (Unit {0}) b.file name project
 told_project b name project tells h = record { bytes = h.bytes; stands = λ u. h.stands tells; is_project = h.is_project }
-
--- what the sink took where the status isn't that of a failing sink
-taken_is : (words : List (List ℕ)) (b a : StoreState) (s t : SinkState) (status : ℕ) (A : Answers words b a s t status) → (status ≡ 6 → ⊥) → s.tells → t.taken ≡ s.taken ++ report_of A.reply
-taken_is words b a s t status A d tells = elim A.told [ inl k ↦ k.1 tells | inr k ↦ absurd (d k.0) ]
 
 pub prints_fault_lem : (words : List (List ℕ)) (b a : StoreState) (s t : SinkState) (status : ℕ) → Answers words b a s t status → status ≡ 5 → b.tells → s.tells → (name : List ℕ) → AsksAdmit words name → PrintsFault name b.file s.taken t.taken
 prints_fault_lem words b a s t status A e tells sink name asked =
@@ -124,10 +132,10 @@ prints_fault_lem words b a s t status A e tells sink name asked =
     printed WantOfMemory h k took = absurd (omega arith)
     printed (NotQuick o) h k took = absurd (omega arith)
     printed (BadProject f) h k took =
-        let first = subst (λ n. HasFault b.tells b.file n (fault_view f)) (one_project words h.project name h.asked asked) h.first in
-        (fault_view f, told_fault b name (fault_view f) tells first, took)
+        (fault_view f, told_fault b name (fault_view f) tells (fault_for_admit words b.tells b.file name (fault_view f) asked h.first), took)
     printed (Admits n) h k took = absurd (omega arith)
     printed AdmitsNothing h k took = absurd (omega arith)
+    printed (Tokens r) h k took = absurd (is_not r 5 (λ e. omega arith) (λ e. omega arith) k)
 
 pub prints_least_lem : (words : List (List ℕ)) (b a : StoreState) (s t : SinkState) (status : ℕ) → Answers words b a s t status → status ≡ 0 → b.tells → s.tells → (name : List ℕ) → AsksAdmit words name → PrintsLeast name b.file s.taken t.taken
 prints_least_lem words b a s t status A e tells sink name asked =
@@ -158,17 +166,4 @@ prints_least_lem words b a s t status A e tells sink name asked =
         inl (map string_bytes names.items, told_least (map string_bytes names.items) least, took)
     printed AdmitsNothing h k took =
         inr (told_none (subst (λ n. AdmitsNone b.tells b.file n) (one_project words h.project name h.asked asked) h.none), took)
-
-pub reads_only_lem : (words : List (List ℕ)) (b a : StoreState) (s t : SinkState) (status : ℕ) → Answers words b a s t status → (name : List ℕ) → AsksAdmit words name → Kept b a
-reads_only_lem words b a s t status A name asked = kept A.reply A.holds
-  where
-    kept : (reply : Reply) → Holds words b a reply → Kept b a
-    kept (Renamed n) h = absurd (one_command words h.renaming name h.asked asked)
-    kept Usage h = h.1
-    kept ReadFault h = h.kept
-    kept WriteFault h = absurd (one_command words h.renaming name h.asked asked)
-    kept WantOfMemory h = h
-    kept (NotQuick o) h = h.kept
-    kept (BadProject f) h = h.kept
-    kept (Admits n) h = h.kept
-    kept AdmitsNothing h = h.kept
+    printed (Tokens r) h k took = absurd (no_tokens_for_admit words name h.query asked h.asked)

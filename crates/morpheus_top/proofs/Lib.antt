@@ -5,3 +5,7 @@ pub mod Promises
 mod AdmitPromises
 mod AdmitLemmas
 mod AdmitSteps
+mod UnitLaws
+mod TokensPromises
+mod TokensSteps
+mod ReadErrors

@@ -1,17 +1,21 @@
 -- What follows from a call's answer, status by status.
-use Rattle.std.proofs.Common.{◌≡◌, ◌⊎◌, inl, inr, ℕ, ◌+◌, ◌<◌, ◌≤◌, List, [], ◌∷◌, length, Some, None, Option, refl, sym, ◌∙◌, ap, subst, arith, codes, length-append, lit<, true}
+use Rattle.std.proofs.Common.{◌≡◌, ◌⊎◌, inl, inr, ℕ, ◌+◌, ◌<◌, ◌≤◌, List, [], ◌∷◌, ◌++◌, length, Some, None, Option, refl, sym, ◌∙◌, ap, subst, arith, codes, length-append, lit<, true}
 use Rattle.quick_form.specs.Renaming.{token_count}
 use Rattle.quick_form.specs.Quick.{Takes, KeepsBehaviour, RenamingKeepsBehaviour}
 use Rattle.project_store.specs.Room.{LacksRoom}
 use Rattle.morpheus_top.specs.declared.replies.Reply.{Reply}
-use Rattle.morpheus_top.specs.declared.replies.Reply.TheVariants.{Renamed, Usage, ReadFault, WriteFault, WantOfMemory, NotQuick, BadProject, Admits, AdmitsNothing}
+use Rattle.morpheus_top.specs.declared.replies.Reply.TheVariants.{Renamed, Usage, ReadFault, WriteFault, WantOfMemory, NotQuick, BadProject, Admits, AdmitsNothing, Tokens}
 use Rattle.quick_form.specs.Words.{is_name}
 use Rattle.c_names.specs.Names.{is_new_name}
-use Rattle.morpheus_top.specs.Words.{Renaming, target, AsksQuick, AsksAdmit, IsUsage, Reads}
-use Rattle.morpheus_top.specs.Replies.{status_of, report_of}
+use Rattle.text_edits.specs.Files.{Lookup}
+use Rattle.project_file.specs.Faults.{Fault}
+use Rattle.morpheus_top.specs.declared.replies.TokensReply.{TokensReply}
+use Rattle.morpheus_top.specs.declared.replies.TokensReply.TheVariants.{NotAdmitted, NotPresent, NotAccepted, Printed}
+use Rattle.morpheus_top.specs.Words.{Renaming, UnitQuery, target, names_in, AsksQuick, AsksAdmit, AsksTokens, IsUsage, Reads}
+use Rattle.morpheus_top.specs.Replies.{status_of, status_of_tokens, report_of}
 use Rattle.morpheus_top.specs.States.{StoreState, SinkState, Kept}
-use Rattle.morpheus_top.specs.Calls.{TakesFile, RefusesFile, renamed_file, WritesFile, WritesPart, LacksRoomFor, SaysReadFault, SaysWriteFault, SaysNotQuick, SaysRenamed, Holds, BreaksOff, Answers}
-use Rattle.morpheus_top.specs.Promises.{IsOneOf, NoFault, SinkLacksRoom, IsRoomFor, BehaviourIsKept}
+use Rattle.morpheus_top.specs.Calls.{TakesFile, RefusesFile, HasPlace, renamed_file, WritesFile, WritesPart, LacksRoomFor, SaysReadFault, SaysWriteFault, SaysNotQuick, SaysRenamed, IsUsageIn, HasFaultIn, ReadsIn, Holds, BreaksOff, Answers}
+use Rattle.morpheus_top.specs.Promises.{IsOneOf, NoFault, SinkLacksRoom, IsRoomFor, PrintsPlace, BehaviourIsKept}
 
 -- words that ask for a renaming ask for that one alone
 pub one_renaming : (words : List (List ℕ)) (r s : Renaming) → AsksQuick words r → AsksQuick words s → r ≡ s
@@ -37,7 +41,48 @@ pub one_project : (words : List (List ℕ)) (name other : List ℕ) → AsksAdmi
 one_project words name other a b =
     let e : codes "admit" ∷ name ∷ [] ≡ codes "admit" ∷ other ∷ [] = sym a.words_are ∙ b.words_are in cc
 
--- words that ask for a command that first reads a file ask for no other
+-- words that ask for a unit's tokens ask for nothing else
+pub no_tokens_for_quick : (words : List (List ℕ)) (r : Renaming) (q : UnitQuery) → AsksQuick words r → AsksTokens words q → ⊥
+no_tokens_for_quick words r q a b =
+    let e : codes "quick" ∷ r.file ∷ r.old ∷ r.new ∷ r.out ∷ [] ≡ codes "tokens" ∷ q.project ∷ q.unit ∷ b.text ∷ [] = sym a.words_are ∙ b.words_are in cc
+
+pub no_tokens_for_admit : (words : List (List ℕ)) (name : List ℕ) (q : UnitQuery) → AsksAdmit words name → AsksTokens words q → ⊥
+no_tokens_for_admit words name q a b =
+    let e : codes "admit" ∷ name ∷ [] ≡ codes "tokens" ∷ q.project ∷ q.unit ∷ b.text ∷ [] = sym a.words_are ∙ b.words_are in cc
+
+pub one_query : (words : List (List ℕ)) (p q : UnitQuery) → AsksTokens words p → AsksTokens words q → p ≡ q
+one_query words p q a b =
+    let e : codes "tokens" ∷ p.project ∷ p.unit ∷ a.text ∷ [] ≡ codes "tokens" ∷ q.project ∷ q.unit ∷ b.text ∷ [] = sym a.words_are ∙ b.words_are in
+    let project : p.project ≡ q.project = cc in
+    let unit : p.unit ≡ q.unit = cc in
+    let text : a.text ≡ b.text = cc in
+    let names : p.names ≡ q.names = a.names_are ∙ (ap names_in text ∙ sym b.names_are) in
+    let f : List ℕ → UnitQuery = λ x. record { project = x; unit = p.unit; names = p.names } in
+    let g : List ℕ → UnitQuery = λ x. record { project = q.project; unit = x; names = p.names } in
+    let h : List (List ℕ) → UnitQuery = λ x. record { project = q.project; unit = q.unit; names = x } in
+    ap f project ∙ (ap g unit ∙ ap h names)
+
+-- such words are of use, and have no other fault
+no_usage_for_quick : (words : List (List ℕ)) (told : Type 0) (files : Lookup) (r : Renaming) → AsksQuick words r → IsUsageIn words told files → ⊥
+no_usage_for_quick words told files r a (inl u) = u.no_quick r a
+no_usage_for_quick words told files r a (inr x) = no_tokens_for_quick words r x.0 a x.1
+
+no_fault_for_quick : (words : List (List ℕ)) (told : Type 0) (files : Lookup) (r : Renaming) (fault : Fault) → AsksQuick words r → HasFaultIn words told files fault → ⊥
+no_fault_for_quick words told files r fault a (inl x) = one_command words r x.0 a x.1
+no_fault_for_quick words told files r fault a (inr x) = no_tokens_for_quick words r x.0 a x.1
+
+pub no_tokens_read_alone : (words : List (List ℕ)) (file : List ℕ) (q : UnitQuery) → Reads words file → AsksTokens words q → ⊥
+no_tokens_read_alone words file q (inl x) b = no_tokens_for_quick words x.0 q x.1 b
+no_tokens_read_alone words file q (inr a) b = no_tokens_for_admit words file q a b
+
+-- the statuses of replies about tokens
+pub is_not : (r : TokensReply) (n : ℕ) → (n ≡ 0 → ⊥) → (n ≡ 9 → ⊥) → status_of_tokens r ≡ n → ⊥
+is_not NotAdmitted n z t e = t (sym e)
+is_not NotPresent n z t e = t (sym e)
+is_not NotAccepted n z t e = t (sym e)
+is_not (Printed tokens) n z t e = z (sym e)
+
+-- words that ask for a command that reads a file alone ask for no other
 pub one_file : (words : List (List ℕ)) (file other : List ℕ) → Reads words file → Reads words other → file ≡ other
 one_file words file other (inl x) (inl y) = x.2 ∙ (ap (λ (r : Renaming). r.file) (one_renaming words x.0 y.0 x.1 y.1) ∙ sym y.2)
 one_file words file other (inl x) (inr b) = absurd (one_command words x.0 other x.1 b)
@@ -48,7 +93,7 @@ one_file words file other (inr a) (inr b) = one_project words file other a b
 pub settled : (words : List (List ℕ)) (b a : StoreState) (s t : SinkState) (status n : ℕ) (A : Answers words b a s t status) → status ≡ n → (n ≡ 6 → ⊥) → status_of A.reply ≡ n
 settled words b a s t status n A e d = elim A.told [ inl k ↦ sym k.0 ∙ e | inr k ↦ absurd (d (sym e ∙ k.0)) ]
 
-on_usage : (words : List (List ℕ)) (b a : StoreState) (r : Reply) → Holds words b a r → status_of r ≡ 2 → IsUsage words
+on_usage : (words : List (List ℕ)) (b a : StoreState) (r : Reply) → Holds words b a r → status_of r ≡ 2 → IsUsageIn words b.tells b.file
 on_usage words b a (Renamed n) h e = absurd (omega arith)
 on_usage words b a Usage h e = h.0
 on_usage words b a ReadFault h e = absurd (omega arith)
@@ -58,6 +103,7 @@ on_usage words b a (NotQuick o) h e = absurd (omega arith)
 on_usage words b a (BadProject f) h e = absurd (omega arith)
 on_usage words b a (Admits n) h e = absurd (omega arith)
 on_usage words b a AdmitsNothing h e = absurd (omega arith)
+on_usage words b a (Tokens r) h e = absurd (is_not r 2 (λ k. omega arith) (λ k. omega arith) e)
 
 on_read_fault : (words : List (List ℕ)) (b a : StoreState) (r : Reply) → Holds words b a r → status_of r ≡ 3 → SaysReadFault words b a
 on_read_fault words b a (Renamed n) h e = absurd (omega arith)
@@ -69,6 +115,7 @@ on_read_fault words b a (NotQuick o) h e = absurd (omega arith)
 on_read_fault words b a (BadProject f) h e = absurd (omega arith)
 on_read_fault words b a (Admits n) h e = absurd (omega arith)
 on_read_fault words b a AdmitsNothing h e = absurd (omega arith)
+on_read_fault words b a (Tokens r) h e = absurd (is_not r 3 (λ k. omega arith) (λ k. omega arith) e)
 
 on_write_fault : (words : List (List ℕ)) (b a : StoreState) (r : Reply) → Holds words b a r → status_of r ≡ 4 → SaysWriteFault words b a
 on_write_fault words b a (Renamed n) h e = absurd (omega arith)
@@ -80,17 +127,19 @@ on_write_fault words b a (NotQuick o) h e = absurd (omega arith)
 on_write_fault words b a (BadProject f) h e = absurd (omega arith)
 on_write_fault words b a (Admits n) h e = absurd (omega arith)
 on_write_fault words b a AdmitsNothing h e = absurd (omega arith)
+on_write_fault words b a (Tokens r) h e = absurd (is_not r 4 (λ k. omega arith) (λ k. omega arith) e)
 
-on_not_quick : (words : List (List ℕ)) (b a : StoreState) (r : Reply) → Holds words b a r → status_of r ≡ 12 → SaysNotQuick words b a
+on_not_quick : (words : List (List ℕ)) (b a : StoreState) (r : Reply) → Holds words b a r → status_of r ≡ 12 → (offset : ℕ) × (r ≡ NotQuick offset) × SaysNotQuick words b a offset
 on_not_quick words b a (Renamed n) h e = absurd (omega arith)
 on_not_quick words b a Usage h e = absurd (omega arith)
 on_not_quick words b a ReadFault h e = absurd (omega arith)
 on_not_quick words b a WriteFault h e = absurd (omega arith)
 on_not_quick words b a WantOfMemory h e = absurd (omega arith)
-on_not_quick words b a (NotQuick o) h e = h
+on_not_quick words b a (NotQuick o) h e = (o, refl, h)
 on_not_quick words b a (BadProject f) h e = absurd (omega arith)
 on_not_quick words b a (Admits n) h e = absurd (omega arith)
 on_not_quick words b a AdmitsNothing h e = absurd (omega arith)
+on_not_quick words b a (Tokens r) h e = absurd (is_not r 12 (λ k. omega arith) (λ k. omega arith) e)
 
 on_renamed : (words : List (List ℕ)) (b a : StoreState) (s : Renaming) → AsksQuick words s → (r : Reply) → Holds words b a r → status_of r ≡ 0 → (n : ℕ) × SaysRenamed words b a n
 on_renamed words b a s asked (Renamed n) h e = (n, h)
@@ -99,9 +148,10 @@ on_renamed words b a s asked ReadFault h e = absurd (omega arith)
 on_renamed words b a s asked WriteFault h e = absurd (omega arith)
 on_renamed words b a s asked WantOfMemory h e = absurd (omega arith)
 on_renamed words b a s asked (NotQuick o) h e = absurd (omega arith)
-on_renamed words b a s asked (BadProject f) h e = absurd (one_command words s h.project asked h.asked)
+on_renamed words b a s asked (BadProject f) h e = absurd (omega arith)
 on_renamed words b a s asked (Admits n) h e = absurd (one_command words s h.project asked h.asked)
 on_renamed words b a s asked AdmitsNothing h e = absurd (one_command words s h.project asked h.asked)
+on_renamed words b a s asked (Tokens r) h e = absurd (no_tokens_for_quick words s h.query asked h.asked)
 
 on_others : (words : List (List ℕ)) (b a : StoreState) (r : Reply) → Holds words b a r → (status_of r ≡ 0 → ⊥) → (status_of r ≡ 4 → ⊥) → Kept b a
 on_others words b a (Renamed n) h p q = absurd (p refl)
@@ -113,8 +163,9 @@ on_others words b a (NotQuick o) h p q = h.kept
 on_others words b a (BadProject f) h p q = h.kept
 on_others words b a (Admits n) h p q = absurd (p refl)
 on_others words b a AdmitsNothing h p q = absurd (p refl)
+on_others words b a (Tokens r) h p q = h.kept
 
-pub usage_lem : (words : List (List ℕ)) (b a : StoreState) (s t : SinkState) (status : ℕ) → Answers words b a s t status → status ≡ 2 → IsUsage words
+pub usage_lem : (words : List (List ℕ)) (b a : StoreState) (s t : SinkState) (status : ℕ) → Answers words b a s t status → status ≡ 2 → IsUsageIn words b.tells b.file
 usage_lem words b a s t status A e = on_usage words b a A.reply A.holds (settled words b a s t status 2 A e (λ k. omega arith))
 
 pub read_fault_lem : (words : List (List ℕ)) (b a : StoreState) (s t : SinkState) (status : ℕ) → Answers words b a s t status → status ≡ 3 → SaysReadFault words b a
@@ -123,7 +174,7 @@ read_fault_lem words b a s t status A e = on_read_fault words b a A.reply A.hold
 pub write_fault_lem : (words : List (List ℕ)) (b a : StoreState) (s t : SinkState) (status : ℕ) → Answers words b a s t status → status ≡ 4 → SaysWriteFault words b a
 write_fault_lem words b a s t status A e = on_write_fault words b a A.reply A.holds (settled words b a s t status 4 A e (λ k. omega arith))
 
-pub not_quick_lem : (words : List (List ℕ)) (b a : StoreState) (s t : SinkState) (status : ℕ) → Answers words b a s t status → status ≡ 12 → SaysNotQuick words b a
+pub not_quick_lem : (words : List (List ℕ)) (b a : StoreState) (s t : SinkState) (status : ℕ) (A : Answers words b a s t status) → status ≡ 12 → (offset : ℕ) × (A.reply ≡ NotQuick offset) × SaysNotQuick words b a offset
 not_quick_lem words b a s t status A e = on_not_quick words b a A.reply A.holds (settled words b a s t status 12 A e (λ k. omega arith))
 
 pub renamed_lem : (words : List (List ℕ)) (b a : StoreState) (s t : SinkState) (status : ℕ) → Answers words b a s t status → status ≡ 0 → (r : Renaming) → AsksQuick words r → (n : ℕ) × SaysRenamed words b a n
@@ -143,6 +194,7 @@ sink_fault_lem words b a s t status A e =
     no_six (BadProject f) e = omega arith
     no_six (Admits n) e = omega arith
     no_six AdmitsNothing e = omega arith
+    no_six (Tokens r) e = is_not r 6 (λ k. omega arith) (λ k. omega arith) e
 
 same_bytes : (b : StoreState) (r r' : Renaming) (bytes bytes' : List ℕ) → r' ≡ r → b.file r.file ≡ Some bytes → b.file r'.file ≡ Some bytes' → bytes' ≡ bytes
 same_bytes b r r' bytes bytes' e p q =
@@ -156,7 +208,7 @@ taken_reply words b a r bytes asked tells takes no_read no_write (Renamed n) h =
     let e = one_renaming words h.renaming r h.asked asked in
     let f = same_bytes b r h.renaming bytes w.bytes e takes.held w.taken.held in
     inl (ap Renamed (h.counts tells ∙ (ap (λ (x : Renaming). token_count x.old w.bytes) e ∙ ap (token_count r.old) f)))
-taken_reply words b a r bytes asked tells takes no_read no_write Usage h = absurd (h.0.no_quick r asked)
+taken_reply words b a r bytes asked tells takes no_read no_write Usage h = absurd (no_usage_for_quick words b.tells b.file r asked h.0)
 taken_reply words b a r bytes asked tells takes no_read no_write ReadFault h = absurd (no_read h)
 taken_reply words b a r bytes asked tells takes no_read no_write WriteFault h = absurd (no_write h)
 taken_reply words b a r bytes asked tells takes no_read no_write WantOfMemory h = inr refl
@@ -165,9 +217,10 @@ taken_reply words b a r bytes asked tells takes no_read no_write (NotQuick o) h 
     let e = one_renaming words h.renaming r h.asked asked in
     let f = same_bytes b r h.renaming bytes w.bytes e takes.held w.held in
     absurd (w.refused (subst (Takes h.renaming.old h.renaming.new) (sym f) (subst (λ (x : Renaming). Takes x.old x.new bytes) (sym e) takes.takes)))
-taken_reply words b a r bytes asked tells takes no_read no_write (BadProject f) h = absurd (one_command words r h.project asked h.asked)
+taken_reply words b a r bytes asked tells takes no_read no_write (BadProject f) h = absurd (no_fault_for_quick words b.tells b.file r _ asked h.first)
 taken_reply words b a r bytes asked tells takes no_read no_write (Admits n) h = absurd (one_command words r h.project asked h.asked)
 taken_reply words b a r bytes asked tells takes no_read no_write AdmitsNothing h = absurd (one_command words r h.project asked h.asked)
+taken_reply words b a r bytes asked tells takes no_read no_write (Tokens reply) h = absurd (no_tokens_for_quick words r h.query asked h.asked)
 
 -- a file that isn't taken is refused, unless memory ends or the store fails
 refused_reply : (words : List (List ℕ)) (b a : StoreState) (r : Renaming) → AsksQuick words r → b.tells → RefusesFile r b.file → (SaysReadFault words b a → ⊥) → (SaysWriteFault words b a → ⊥) → (reply : Reply) → Holds words b a reply → (status_of reply ≡ 12) ⊎ (status_of reply ≡ 7)
@@ -176,29 +229,36 @@ refused_reply words b a r asked tells refuses no_read no_write (Renamed n) h =
     let e = one_renaming words h.renaming r h.asked asked in
     let f = same_bytes b r h.renaming refuses.bytes w.bytes e refuses.held w.taken.held in
     absurd (refuses.refused (subst (λ (x : Renaming). Takes x.old x.new refuses.bytes) e (subst (Takes h.renaming.old h.renaming.new) f w.taken.takes)))
-refused_reply words b a r asked tells refuses no_read no_write Usage h = absurd (h.0.no_quick r asked)
+refused_reply words b a r asked tells refuses no_read no_write Usage h = absurd (no_usage_for_quick words b.tells b.file r asked h.0)
 refused_reply words b a r asked tells refuses no_read no_write ReadFault h = absurd (no_read h)
 refused_reply words b a r asked tells refuses no_read no_write WriteFault h = absurd (no_write h)
 refused_reply words b a r asked tells refuses no_read no_write WantOfMemory h = inr refl
 refused_reply words b a r asked tells refuses no_read no_write (NotQuick o) h = inl refl
-refused_reply words b a r asked tells refuses no_read no_write (BadProject f) h = absurd (one_command words r h.project asked h.asked)
+refused_reply words b a r asked tells refuses no_read no_write (BadProject f) h = absurd (no_fault_for_quick words b.tells b.file r _ asked h.first)
 refused_reply words b a r asked tells refuses no_read no_write (Admits n) h = absurd (one_command words r h.project asked h.asked)
 refused_reply words b a r asked tells refuses no_read no_write AdmitsNothing h = absurd (one_command words r h.project asked h.asked)
+refused_reply words b a r asked tells refuses no_read no_write (Tokens reply) h = absurd (no_tokens_for_quick words r h.query asked h.asked)
 
-no_reading : (words : List (List ℕ)) (file : List ℕ) → IsUsage words → Reads words file → ⊥
-no_reading words file u (inl x) = u.no_quick x.0 x.1
-no_reading words file u (inr a) = u.no_admit file a
+no_reading : (words : List (List ℕ)) (told : Type 0) (files : Lookup) (file : List ℕ) → IsUsage words → ReadsIn words told files file → ⊥
+no_reading words told files file u (inl (inl x)) = u.no_quick x.0 x.1
+no_reading words told files file u (inl (inr a)) = u.no_admit file a
+no_reading words told files file u (inr x) = u.no_tokens x.0 x.1
+
+no_faulty : (words : List (List ℕ)) (told : Type 0) (files : Lookup) (fault : Fault) → IsUsage words → HasFaultIn words told files fault → ⊥
+no_faulty words told files fault u (inl x) = u.no_admit x.0 x.1
+no_faulty words told files fault u (inr x) = u.no_tokens x.0 x.1
 
 usage_reply : (words : List (List ℕ)) (b a : StoreState) → IsUsage words → (reply : Reply) → Holds words b a reply → (status_of reply ≡ 2) ⊎ (status_of reply ≡ 7)
 usage_reply words b a u (Renamed n) h = absurd (u.no_quick h.renaming h.asked)
 usage_reply words b a u Usage h = inl refl
-usage_reply words b a u ReadFault h = absurd (no_reading words h.file u h.reads)
+usage_reply words b a u ReadFault h = absurd (no_reading words b.tells b.file h.file u h.reads)
 usage_reply words b a u WriteFault h = absurd (u.no_quick h.renaming h.asked)
 usage_reply words b a u WantOfMemory h = inr refl
 usage_reply words b a u (NotQuick o) h = absurd (u.no_quick h.renaming h.asked)
-usage_reply words b a u (BadProject f) h = absurd (u.no_admit h.project h.asked)
+usage_reply words b a u (BadProject f) h = absurd (no_faulty words b.tells b.file _ u h.first)
 usage_reply words b a u (Admits n) h = absurd (u.no_admit h.project h.asked)
 usage_reply words b a u AdmitsNothing h = absurd (u.no_admit h.project h.asked)
+usage_reply words b a u (Tokens reply) h = absurd (u.no_tokens h.query h.asked)
 
 pub first_of_three : (x y z n : ℕ) → n ≡ x → IsOneOf (x ∷ y ∷ z ∷ []) n
 first_of_three x y z n e = (0, lit< tt, sym e)
@@ -247,11 +307,16 @@ refuses_lem words b a s t status A r asked tells refuses f =
       | inr k ↦ absurd (f.report k.1.rose)
     ]
 
+-- of a store that tells its room a file is absent where a read fault is reported
+absent_alone : (words : List (List ℕ)) (b a : StoreState) (file : List ℕ) → Reads words file → b.tells_room → SaysReadFault words b a → b.file file ≡ None
+absent_alone words b a file reads room h =
+    sym (ap b.file (elim h.reads [ inl r ↦ one_file words h.file file r reads | inr x ↦ absurd (no_tokens_read_alone words file x.0 reads x.1) ]))
+    ∙ h.absent room
+
 -- a told room that holds the file is no cause of a read fault, nor one that is enough of a write fault
 pub no_read_there : (words : List (List ℕ)) (b a : StoreState) (file bytes : List ℕ) → Reads words file → b.tells_room → b.file file ≡ Some bytes → SaysReadFault words b a → ⊥
 no_read_there words b a file bytes reads room there h =
-    let e = one_file words h.file file h.reads reads in
-    let absent : ◌≡◌ {A = Option (List ℕ)} (Some bytes) None = sym there ∙ (sym (ap b.file e) ∙ h.absent room) in cc
+    let absent : ◌≡◌ {A = Option (List ℕ)} (Some bytes) None = sym there ∙ absent_alone words b a file reads room h in cc
 
 no_write_there : (words : List (List ℕ)) (b a : StoreState) (r : Renaming) (bytes : List ℕ) → AsksQuick words r → b.tells_room → b.file r.file ≡ Some bytes → (LacksRoom (b.file (target r)) b.names_left b.bytes_left (length (target r) + length (renamed_file r bytes)) → ⊥) → SaysWriteFault words b a → ⊥
 no_write_there words b a r bytes asked room held fits h =
@@ -262,9 +327,7 @@ no_write_there words b a r bytes asked room held fits h =
     (subst (λ (x : Renaming). LacksRoom (b.file (target x)) b.names_left b.bytes_left (length (target x) + length (renamed_file x w.bytes))) e w.lacks))
 
 pub absent_lem : (words : List (List ℕ)) (b a : StoreState) (s t : SinkState) (status : ℕ) → Answers words b a s t status → status ≡ 3 → b.tells_room → (file : List ℕ) → Reads words file → b.file file ≡ None
-absent_lem words b a s t status A e room file reads =
-    let h = read_fault_lem words b a s t status A e in
-    sym (ap b.file (one_file words h.file file h.reads reads)) ∙ h.absent room
+absent_lem words b a s t status A e room file reads = absent_alone words b a file reads room (read_fault_lem words b a s t status A e)
 
 pub lacks_lem : (words : List (List ℕ)) (b a : StoreState) (s t : SinkState) (status : ℕ) → Answers words b a s t status → status ≡ 4 → b.tells_room → (r : Renaming) → AsksQuick words r → LacksRoomFor r b.file b.names_left b.bytes_left
 lacks_lem words b a s t status A e room r asked =
@@ -283,7 +346,7 @@ written_lem words b a s t status A e tells r asked =
 
 pub not_taken_lem : (words : List (List ℕ)) (b a : StoreState) (s t : SinkState) (status : ℕ) → Answers words b a s t status → status ≡ 12 → b.tells → (r : Renaming) → AsksQuick words r → RefusesFile r b.file
 not_taken_lem words b a s t status A e tells r asked =
-    let h = not_quick_lem words b a s t status A e in
+    let h = (not_quick_lem words b a s t status A e).2 in
     subst (λ (x : Renaming). RefusesFile x b.file) (one_renaming words h.renaming r h.asked asked) (h.refused tells)
 
 pub sink_lacks_lem : (words : List (List ℕ)) (b a : StoreState) (s t : SinkState) (status : ℕ) → Answers words b a s t status → s.tells_room → status ≡ 6 → SinkLacksRoom words b a s.room
@@ -321,22 +384,26 @@ untouched_lem words b a s t status A p q k =
       | inr e ↦ absurd (k e.0)
     ]
 
-status_is : (r : Reply) → IsOneOf (0 ∷ 2 ∷ 3 ∷ 4 ∷ 5 ∷ 6 ∷ 7 ∷ 12 ∷ []) (status_of r)
+status_is : (r : Reply) → IsOneOf (0 ∷ 2 ∷ 3 ∷ 4 ∷ 5 ∷ 6 ∷ 7 ∷ 9 ∷ 12 ∷ []) (status_of r)
 status_is (Renamed n) = (0, lit< tt, refl)
 status_is Usage = (1, lit< tt, refl)
 status_is ReadFault = (2, lit< tt, refl)
 status_is WriteFault = (3, lit< tt, refl)
 status_is WantOfMemory = (6, lit< tt, refl)
-status_is (NotQuick o) = (7, lit< tt, refl)
+status_is (NotQuick o) = (8, lit< tt, refl)
 status_is (BadProject f) = (4, lit< tt, refl)
 status_is (Admits n) = (0, lit< tt, refl)
 status_is AdmitsNothing = (0, lit< tt, refl)
+status_is (Tokens NotAdmitted) = (7, lit< tt, refl)
+status_is (Tokens NotPresent) = (7, lit< tt, refl)
+status_is (Tokens NotAccepted) = (7, lit< tt, refl)
+status_is (Tokens (Printed tokens)) = (0, lit< tt, refl)
 
-pub statuses_lem : (words : List (List ℕ)) (b a : StoreState) (s t : SinkState) (status : ℕ) → Answers words b a s t status → IsOneOf (0 ∷ 2 ∷ 3 ∷ 4 ∷ 5 ∷ 6 ∷ 7 ∷ 12 ∷ []) status
+pub statuses_lem : (words : List (List ℕ)) (b a : StoreState) (s t : SinkState) (status : ℕ) → Answers words b a s t status → IsOneOf (0 ∷ 2 ∷ 3 ∷ 4 ∷ 5 ∷ 6 ∷ 7 ∷ 9 ∷ 12 ∷ []) status
 statuses_lem words b a s t status A =
     elim A.told [
-      | inl e ↦ subst (IsOneOf (0 ∷ 2 ∷ 3 ∷ 4 ∷ 5 ∷ 6 ∷ 7 ∷ 12 ∷ [])) (sym e.0) (status_is A.reply)
-      | inr e ↦ subst (IsOneOf (0 ∷ 2 ∷ 3 ∷ 4 ∷ 5 ∷ 6 ∷ 7 ∷ 12 ∷ [])) (sym e.0) (5, lit< tt, refl)
+      | inl e ↦ subst (IsOneOf (0 ∷ 2 ∷ 3 ∷ 4 ∷ 5 ∷ 6 ∷ 7 ∷ 9 ∷ 12 ∷ [])) (sym e.0) (status_is A.reply)
+      | inr e ↦ subst (IsOneOf (0 ∷ 2 ∷ 3 ∷ 4 ∷ 5 ∷ 6 ∷ 7 ∷ 9 ∷ 12 ∷ [])) (sym e.0) (5, lit< tt, refl)
     ]
 
 pub behaviour_lem : RenamingKeepsBehaviour → ((w : List ℕ) → is_new_name w ≡ true → is_name w ≡ true) → (words : List (List ℕ)) (b a : StoreState) (s t : SinkState) (status : ℕ) → Answers words b a s t status → status ≡ 0 → b.tells → (r : Renaming) → AsksQuick words r → BehaviourIsKept r b.file a.file
@@ -347,3 +414,16 @@ behaviour_lem law names words b a s t status A e tells r asked bytes renamed hel
     let content : renamed ≡ renamed_file r bytes = let g : ◌≡◌ {A = Option (List ℕ)} (Some renamed) (Some (renamed_file r bytes)) = sym after ∙ stands in cc in
     subst (KeepsBehaviour bytes) (sym content)
     (law r.old r.new bytes (names r.new asked.good.new) (subst (Takes r.old r.new) f w.taken.takes))
+
+-- what the sink took where the status isn't that of a failing sink
+pub taken_is : (words : List (List ℕ)) (b a : StoreState) (s t : SinkState) (status : ℕ) (A : Answers words b a s t status) → (status ≡ 6 → ⊥) → s.tells → t.taken ≡ s.taken ++ report_of A.reply
+taken_is words b a s t status A d tells = elim A.told [ inl k ↦ k.1 tells | inr k ↦ absurd (d k.0) ]
+
+pub prints_place_lem : (words : List (List ℕ)) (b a : StoreState) (s t : SinkState) (status : ℕ) → Answers words b a s t status → status ≡ 12 → b.tells → s.tells → (r : Renaming) → AsksQuick words r → PrintsPlace r b.file s.taken t.taken
+prints_place_lem words b a s t status A e tells sink r asked =
+    let found = not_quick_lem words b a s t status A e in
+    let h = found.2 in (
+      found.0,
+      subst (λ (x : Renaming). HasPlace x b.file found.0) (one_renaming words h.renaming r h.asked asked) (h.place tells),
+      taken_is words b a s t status A (λ k. omega (arith, k, e)) sink ∙ ap (λ x. s.taken ++ report_of x) found.1,
+    )

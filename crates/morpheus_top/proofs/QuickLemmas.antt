@@ -10,7 +10,7 @@ use Rattle.quick_rename.specs.declared.Answer.{Answer as File}
 use Rattle.quick_rename.specs.declared.Answer.TheVariants as file
 use Rattle.quick_rename.specs.Answer.{IsRenamed, IsAnswer}
 use Rattle.morpheus_top.specs.declared.replies.Reply.{Reply}
-use Rattle.morpheus_top.specs.declared.replies.Reply.TheVariants.{Renamed, Usage, ReadFault, WriteFault, WantOfMemory, NotQuick, BadProject, Admits, AdmitsNothing}
+use Rattle.morpheus_top.specs.declared.replies.Reply.TheVariants.{Renamed, Usage, ReadFault, WriteFault, WantOfMemory, NotQuick, BadProject, Admits, AdmitsNothing, Tokens}
 use Rattle.morpheus_top.specs.declared.quick.Plan.{Plan}
 use Rattle.morpheus_top.specs.declared.quick.Plan.TheVariants.{Say, Write}
 use Rattle.morpheus_top.specs.Words.{Renaming, target, AsksQuick}
@@ -34,7 +34,7 @@ renames_bytes r bytes old new a content tokens name reply p q h e n s =
 -- a plan that was carried out
 refused_ran : (r : Renaming) (bytes : List ℕ) (before after : StoreState) (planned reply : Reply) → RefusesBytes r bytes planned → reply ≡ planned → Kept before after → Ran r bytes before after reply
 refused_ran r bytes before after planned reply h e k =
-    subst (Ran r bytes before after) (sym (e ∙ h.reply_is)) (h.refused, k)
+    subst (Ran r bytes before after) (sym (e ∙ h.reply_is)) (h.refused, h.place, k)
 
 written_ran : (r : Renaming) (bytes name content : List ℕ) (before after : StoreState) (planned reply : Reply) → RenamesBytes r bytes name content planned → IsWritten before after name content planned reply → Ran r bytes before after reply
 written_ran r bytes name content before after planned reply h w =
@@ -127,20 +127,22 @@ read_and_ran words r bytes before middle after WantOfMemory a p f h = kept_after
 read_and_ran words r bytes before middle after (NotQuick offset) a p f h = record {
   renaming = r;
   asked = a;
-  kept = kept_after_read before middle after p h.1;
+  kept = kept_after_read before middle after p h.2;
   refused = λ t. record { bytes = bytes; held = f t; refused = h.0 };
+  place = λ t. record { bytes = bytes; held = f t; place = h.1 };
 }
 read_and_ran words r bytes before middle after Usage a p f h = absurd h
 read_and_ran words r bytes before middle after ReadFault a p f h = absurd h
 read_and_ran words r bytes before middle after (BadProject fault) a p f h = absurd h
 read_and_ran words r bytes before middle after (Admits names) a p f h = absurd h
 read_and_ran words r bytes before middle after AdmitsNothing a p f h = absurd h
+read_and_ran words r bytes before middle after (Tokens reply) a p f h = absurd h
 
 -- the file wasn't read
 pub read_failed : (words : List (List ℕ)) (r : Renaming) (before after : StoreState) → AsksQuick words r → Kept before after → Rose before.read_faults after.read_faults → (before.tells_room → before.file r.file ≡ None) → (reply : Reply) → reply ≡ ReadFault → Holds words before after reply
 read_failed words r before after a kept rose absent reply is =
     subst (Holds words before after) (sym is)
-    (record { file = r.file; reads = inl (r, a, refl); rose = rose; kept = kept; absent = absent })
+    (record { file = r.file; reads = inl (inl (r, a, refl)); rose = rose; kept = kept; absent = absent })
 
 pub memory_ended : (words : List (List ℕ)) (before after : StoreState) → Kept before after → (reply : Reply) → reply ≡ WantOfMemory → Holds words before after reply
 memory_ended words before after kept reply is = subst (Holds words before after) (sym is) kept

@@ -71,3 +71,12 @@ two_items [] a b low high p q = absurd (omega arith)
 two_items (v ∷ []) a b low high p q = absurd (omega arith)
 two_items (v ∷ w ∷ []) a b low high p q = cc
 two_items (v ∷ w ∷ x ∷ xs) a b low high p q = absurd (omega arith)
+
+-- the same of four items
+pub four_items : {X : Type 0} (xs : List X) (a b c d : X) → 4 ≤ length xs → length xs < 5 → a ≡ get_or xs 0 a → b ≡ get_or xs 1 b → c ≡ get_or xs 2 c → d ≡ get_or xs 3 d → xs ≡ a ∷ b ∷ c ∷ d ∷ []
+four_items [] a b c d low high p q r s = absurd (omega arith)
+four_items (v ∷ []) a b c d low high p q r s = absurd (omega arith)
+four_items (v ∷ w ∷ []) a b c d low high p q r s = absurd (omega arith)
+four_items (v ∷ w ∷ x ∷ []) a b c d low high p q r s = absurd (omega arith)
+four_items (v ∷ w ∷ x ∷ y ∷ []) a b c d low high p q r s = cc
+four_items (v ∷ w ∷ x ∷ y ∷ z ∷ xs) a b c d low high p q r s = absurd (omega arith)

@@ -1,26 +1,17 @@
 -- What `admit` says of a project that stands in a store.
-use Rattle.std.specs.Prelude.{◌≡◌, ℕ, ◌+◌, Bool, List, [], ◌∷◌, length, map, if◌then◌else◌, ⊤}
+use Rattle.std.specs.Prelude.{◌≡◌, ℕ, Bool, List, length, map, ⊤}
 use Rattle.std.specs.String.{string_bytes}
 use Rattle.cond_formula.specs.Features.{has}
 use Rattle.sat_core.specs.Models.{IsLeastModel, HasNoModel}
-use Rattle.project_file.specs.Projects.{PlainProject}
+use Rattle.project_file.specs.Projects.{PlainProject, names_on}
 use Rattle.project_file.specs.Faults.{Fault, size, not_toml, shape, feature, duplicate, constraint}
 use Rattle.project_file.specs.declared.errors.ProjectError.{ProjectError}
 use Rattle.project_file.specs.declared.errors.ProjectError.TheVariants.{NotToml, Shape, Feature, Constraint, Duplicate, Size, Read, Memory}
 use Rattle.project_store.specs.Reads.{SaysProject}
 use Rattle.morpheus_top.specs.Replies.{fault_view}
 use Rattle.morpheus_top.specs.declared.replies.Reply.{Reply}
-use Rattle.morpheus_top.specs.declared.replies.Reply.TheVariants.{Renamed, Usage, ReadFault, WriteFault, WantOfMemory, NotQuick, BadProject, Admits, AdmitsNothing}
+use Rattle.morpheus_top.specs.declared.replies.Reply.TheVariants.{Renamed, Usage, ReadFault, WriteFault, WantOfMemory, NotQuick, BadProject, Admits, AdmitsNothing, Tokens}
 use Rattle.text_edits.specs.Files.{Lookup}
-
--- the features that are on, in the project's order; this is the number of the first of them
-abbrev pub names_from : ℕ → (ℕ → Bool) → List (List ℕ) → List (List ℕ)
-names_from number on [] = []
-names_from number on (name ∷ names) =
-    if on number then name ∷ names_from (number + 1) on names else names_from (number + 1) on names
-
-abbrev pub names_on : (ℕ → Bool) → List (List ℕ) → List (List ℕ)
-names_on on names = names_from 0 on names
 
 -- The features that are on in the least configuration that the project in the file of this name admits.
 pub record AdmitsLeast (tells : Type 0) (files : Lookup) (name : List ℕ) (names : List (List ℕ)) : Type 0 where
@@ -52,6 +43,7 @@ Found project ReadFault = ⊥
 Found project WriteFault = ⊥
 Found project (NotQuick offset) = ⊥
 Found project (BadProject fault) = ⊥
+Found project (Tokens reply) = ⊥
 
 -- the fault is reported, unless memory ends
 abbrev pub Reports : Fault → Reply → Type 0
@@ -64,6 +56,7 @@ Reports fault WriteFault = ⊥
 Reports fault (NotQuick offset) = ⊥
 Reports fault (Admits names) = ⊥
 Reports fault AdmitsNothing = ⊥
+Reports fault (Tokens reply) = ⊥
 
 -- the reply where a project isn't had for this cause
 abbrev pub IsReplyTo : ProjectError → Reply → Type 0

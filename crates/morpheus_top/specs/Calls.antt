@@ -2,17 +2,20 @@
 use Rattle.std.specs.Prelude.{◌≡◌, ℕ, ◌<◌, ◌+◌, List, ◌++◌, length, map, Some, None, ◌⊎◌}
 use Rattle.std.specs.String.{string_bytes}
 use Rattle.quick_form.specs.Renaming.{renamed_bytes, token_count}
+use Rattle.quick_form.specs.Places.{IsPlace}
 use Rattle.quick_form.specs.Quick.{Takes}
 use Rattle.text_edits.specs.Files.{Lookup}
 use Rattle.project_store.specs.Lookup.{PutsFile, LeavesPart}
 use Rattle.project_store.specs.Faults.{Rose}
 use Rattle.project_store.specs.Room.{LacksRoom}
-use Rattle.morpheus_top.specs.Words.{Renaming, target, AsksQuick, AsksAdmit, IsUsage, Reads}
+use Rattle.morpheus_top.specs.Words.{Renaming, UnitQuery, target, AsksQuick, AsksAdmit, AsksTokens, IsUsage, Reads}
 use Rattle.morpheus_top.specs.declared.replies.Reply.{Reply}
-use Rattle.morpheus_top.specs.declared.replies.Reply.TheVariants.{Renamed, Usage, ReadFault, WriteFault, WantOfMemory, NotQuick, BadProject, Admits, AdmitsNothing}
+use Rattle.morpheus_top.specs.declared.replies.Reply.TheVariants.{Renamed, Usage, ReadFault, WriteFault, WantOfMemory, NotQuick, BadProject, Admits, AdmitsNothing, Tokens}
 use Rattle.project_file.specs.Faults.{Fault}
 use Rattle.project_store.specs.Reads.{HasFault}
+use Rattle.morpheus_top.specs.declared.replies.TokensReply.{TokensReply}
 use Rattle.morpheus_top.specs.Admit.{AdmitsLeast, AdmitsNone}
+use Rattle.morpheus_top.specs.Tokens.{IsMisfit, HasAnyFault, IsReadFor, IsReplyAbout}
 use Rattle.morpheus_top.specs.Replies.{status_of, report_of, fault_view}
 use Rattle.morpheus_top.specs.Sinks.{TookFront}
 use Rattle.morpheus_top.specs.States.{StoreState, SinkState, Kept}
@@ -30,6 +33,12 @@ pub record RefusesFile (r : Renaming) (files : Lookup) : Type 0 where
   pub bytes : List ℕ
   pub held : files r.file ≡ Some bytes
   pub refused : Takes r.old r.new bytes → ⊥
+
+-- this is the place at which the file that is asked for is at fault
+pub record HasPlace (r : Renaming) (files : Lookup) (offset : ℕ) : Type 0 where
+  pub bytes : List ℕ
+  pub held : files r.file ≡ Some bytes
+  pub place : IsPlace r.old r.new bytes offset
 
 -- The renamed file stands under its name and every other name is as before.
 pub record WritesFile (r : Renaming) (before after : Lookup) : Type 0 where
@@ -49,9 +58,23 @@ pub record LacksRoomFor (r : Renaming) (files : Lookup) (names_left bytes_left :
   pub taken : TakesFile r files bytes
   pub lacks : LacksRoom (files (target r)) names_left bytes_left (length (target r) + length (renamed_file r bytes))
 
+-- the words ask for nothing, or for what the project doesn't have
+abbrev pub IsUsageIn : List (List ℕ) → Type 0 → Lookup → Type 0
+IsUsageIn words told files = IsUsage words ⊎ ((q : UnitQuery) × AsksTokens words q × IsMisfit told files q)
+
+-- the words ask for a command that reads this file
+abbrev pub ReadsIn : List (List ℕ) → Type 0 → Lookup → List ℕ → Type 0
+ReadsIn words told files file = Reads words file ⊎ ((q : UnitQuery) × AsksTokens words q × IsReadFor told files q file)
+
+-- the words ask for a project that has this fault
+abbrev pub HasFaultIn : List (List ℕ) → Type 0 → Lookup → Fault → Type 0
+HasFaultIn words told files fault =
+    ((project : List ℕ) × AsksAdmit words project × HasFault told files project fault)
+    ⊎ ((q : UnitQuery) × AsksTokens words q × HasAnyFault told files q fault)
+
 pub record SaysReadFault (words : List (List ℕ)) (before after : StoreState) : Type 0 where
   pub file : List ℕ
-  pub reads : Reads words file
+  pub reads : ReadsIn words before.tells before.file file
   pub rose : Rose before.read_faults after.read_faults
   pub kept : Kept before after
   pub absent : before.tells_room → before.file file ≡ None
@@ -63,11 +86,12 @@ pub record SaysWriteFault (words : List (List ℕ)) (before after : StoreState) 
   pub part : before.tells → WritesPart renaming before.file after.file
   pub lacks : before.tells_room → LacksRoomFor renaming before.file before.names_left before.bytes_left
 
-pub record SaysNotQuick (words : List (List ℕ)) (before after : StoreState) : Type 0 where
+pub record SaysNotQuick (words : List (List ℕ)) (before after : StoreState) (offset : ℕ) : Type 0 where
   pub renaming : Renaming
   pub asked : AsksQuick words renaming
   pub kept : Kept before after
   pub refused : before.tells → RefusesFile renaming before.file
+  pub place : before.tells → HasPlace renaming before.file offset
 
 pub record SaysRenamed (words : List (List ℕ)) (before after : StoreState) (tokens : ℕ) : Type 0 where
   pub renaming : Renaming
@@ -76,10 +100,8 @@ pub record SaysRenamed (words : List (List ℕ)) (before after : StoreState) (to
   pub counts : (told : before.tells) → tokens ≡ token_count renaming.old (wrote told).bytes
 
 pub record SaysBadProject (words : List (List ℕ)) (before after : StoreState) (fault : Fault) : Type 0 where
-  pub project : List ℕ
-  pub asked : AsksAdmit words project
   pub kept : Kept before after
-  pub first : HasFault before.tells before.file project fault
+  pub first : HasFaultIn words before.tells before.file fault
 
 pub record SaysAdmits (words : List (List ℕ)) (before after : StoreState) (names : List (List ℕ)) : Type 0 where
   pub project : List ℕ
@@ -93,17 +115,24 @@ pub record SaysAdmitsNothing (words : List (List ℕ)) (before after : StoreStat
   pub kept : Kept before after
   pub none : AdmitsNone before.tells before.file project
 
+pub record SaysTokens (words : List (List ℕ)) (before after : StoreState) (reply : TokensReply) : Type 0 where
+  pub query : UnitQuery
+  pub asked : AsksTokens words query
+  pub kept : Kept before after
+  pub about : IsReplyAbout before.tells before.file query reply
+
 -- the cause of a reply, and what it says of the store
 abbrev pub Holds : List (List ℕ) → StoreState → StoreState → Reply → Type 0
 Holds words before after (Renamed tokens) = SaysRenamed words before after tokens
-Holds words before after Usage = IsUsage words × Kept before after
+Holds words before after Usage = IsUsageIn words before.tells before.file × Kept before after
 Holds words before after ReadFault = SaysReadFault words before after
 Holds words before after WriteFault = SaysWriteFault words before after
 Holds words before after WantOfMemory = Kept before after
-Holds words before after (NotQuick offset) = SaysNotQuick words before after
+Holds words before after (NotQuick offset) = SaysNotQuick words before after offset
 Holds words before after (BadProject fault) = SaysBadProject words before after (fault_view fault)
 Holds words before after (Admits names) = SaysAdmits words before after (map string_bytes names.items)
 Holds words before after AdmitsNothing = SaysAdmitsNothing words before after
+Holds words before after (Tokens reply) = SaysTokens words before after reply
 
 -- the sink took the whole report
 abbrev pub Reports : SinkState → SinkState → Reply → Type 0

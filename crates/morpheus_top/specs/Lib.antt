@@ -3,6 +3,8 @@ pub mod Replies
 pub mod States
 pub mod Sinks
 pub mod Admit
+pub mod Tokens
+pub mod TokensSteps
 pub mod Calls
 pub mod Quick
 pub mod Promises

@@ -1,5 +1,5 @@
 -- What a caller may rely on, status by status; all of it follows from `Answers`.
-use Rattle.std.specs.Prelude.{◌≡◌, ◌⊎◌, ℕ, ◌<◌, ◌≤◌, ◌+◌, List, ◌++◌, length, codes, Some, Contains}
+use Rattle.std.specs.Prelude.{◌≡◌, ◌⊎◌, ℕ, ◌<◌, ◌≤◌, ◌+◌, List, ◌++◌, length, codes, decimal, Some, None, Contains}
 use Rattle.quick_form.specs.Quick.{KeepsBehaviour}
 use Rattle.quick_form.specs.Renaming.{token_count}
 use Rattle.text_edits.specs.Files.{Lookup}
@@ -7,13 +7,15 @@ use Rattle.project_store.specs.Faults.{Rose}
 use Rattle.project_store.specs.Room.{LacksRoom}
 use Rattle.morpheus_top.specs.declared.replies.Reply.{Reply}
 use Rattle.morpheus_top.specs.declared.replies.Reply.TheVariants.{Renamed}
-use Rattle.morpheus_top.specs.Words.{Renaming, target}
-use Rattle.morpheus_top.specs.Replies.{line, listed, fault_text, report_of}
+use Rattle.c_text.specs.Token.{PlainToken}
+use Rattle.morpheus_top.specs.Words.{Renaming, UnitQuery, target}
+use Rattle.morpheus_top.specs.Replies.{line, listed, fault_text, spellings, report_of}
 use Rattle.project_file.specs.Faults.{Fault}
 use Rattle.project_store.specs.Reads.{HasFault}
 use Rattle.morpheus_top.specs.Admit.{AdmitsLeast, AdmitsNone}
+use Rattle.morpheus_top.specs.Tokens.{HasAnyFault, IsReadFor, IsNotAdmitted, IsNotPresent, IsNotPreprocessed, GivesTokens}
 use Rattle.morpheus_top.specs.States.{StoreState}
-use Rattle.morpheus_top.specs.Calls.{renamed_file, Holds}
+use Rattle.morpheus_top.specs.Calls.{renamed_file, HasPlace, Holds}
 
 -- n is one of the numbers
 abbrev pub IsOneOf : List ℕ → ℕ → Type 0
@@ -46,6 +48,38 @@ PrintsLeast name files before after =
 abbrev pub PrintsFault : List ℕ → Lookup → List ℕ → List ℕ → Type 0
 PrintsFault name files before after =
     (fault : Fault) × HasFault (Unit {0}) files name fault × (after ≡ before ++ line (codes "bad project: " ++ fault_text fault))
+
+-- The sink took the place at which the file isn't taken.
+abbrev pub PrintsPlace : Renaming → Lookup → List ℕ → List ℕ → Type 0
+PrintsPlace r files before after =
+    (offset : ℕ) × HasPlace r files offset × (after ≡ before ++ line (codes "not quick at " ++ decimal offset))
+
+-- The sink took the report of a fault of the project file, or of one of the project's files.
+abbrev pub PrintsAnyFault : UnitQuery → Lookup → List ℕ → List ℕ → Type 0
+PrintsAnyFault q files before after =
+    (fault : Fault) × HasAnyFault (Unit {0}) files q fault × (after ≡ before ++ line (codes "bad project: " ++ fault_text fault))
+
+-- The sink took the unit's tokens, each on a line.
+abbrev pub PrintsTokens : UnitQuery → Lookup → List ℕ → List ℕ → Type 0
+PrintsTokens q files before after =
+    (tokens : List PlainToken) × GivesTokens (Unit {0}) files q tokens × (after ≡ before ++ spellings tokens)
+
+-- The sink took why the unit gives no tokens.
+abbrev pub PrintsRefusal : UnitQuery → Lookup → List ℕ → List ℕ → Type 0
+PrintsRefusal q files before after =
+    (IsNotAdmitted (Unit {0}) files q × (after ≡ before ++ line (codes "not admitted")))
+    ⊎ ((IsNotPresent (Unit {0}) files q × (after ≡ before ++ line (codes "not present")))
+    ⊎ (IsNotPreprocessed (Unit {0}) files q × (after ≡ before ++ line (codes "not accepted preprocess"))))
+
+-- nothing stands under the name of a file that is read for the unit
+pub record LacksFile (files : Lookup) (q : UnitQuery) : Type 0 where
+  pub name : List ℕ
+  pub is_read : IsReadFor (Unit {0}) files q name
+  pub absent : files name ≡ None
+
+-- each file that is read for the unit is there
+abbrev pub HasFilesFor : Lookup → UnitQuery → Type 0
+HasFilesFor files q = (name : List ℕ) → IsReadFor (Unit {0}) files q name → (bytes : List ℕ) × (files name ≡ Some bytes)
 
 -- the room is enough for the renamed file, and for the report of it
 pub record IsRoomFor (r : Renaming) (files : Lookup) (bytes : List ℕ) (names_left bytes_left room : ℕ) : Type 0 where

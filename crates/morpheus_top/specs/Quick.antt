@@ -1,19 +1,24 @@
 -- The steps of `quick`: what is planned for the bytes of a file, and what becomes of the plan.
-use Rattle.std.specs.Prelude.{◌≡◌, ℕ, ◌+◌, List, length, ◌⊎◌}
+use Rattle.std.specs.Prelude.{◌≡◌, ℕ, ◌+◌, true, List, length, map, ◌⊎◌, ⊤}
+use Rattle.std.specs.List.{list_all}
 use Rattle.std.specs.String.{string_bytes}
 use Rattle.quick_form.specs.Renaming.{token_count}
+use Rattle.quick_form.specs.Words.{is_name}
+use Rattle.quick_form.specs.Places.{IsPlace}
 use Rattle.quick_form.specs.Quick.{Takes}
+use Rattle.c_names.specs.Names.{is_new_name}
 use Rattle.project_store.specs.Lookup.{PutsFile, LeavesPart}
 use Rattle.project_store.specs.Faults.{Rose}
 use Rattle.project_store.specs.Room.{LacksRoom}
 use Rattle.morpheus_top.specs.declared.replies.Reply.{Reply}
-use Rattle.morpheus_top.specs.declared.replies.Reply.TheVariants.{Renamed, Usage, ReadFault, WriteFault, WantOfMemory, NotQuick, BadProject, Admits, AdmitsNothing}
+use Rattle.morpheus_top.specs.declared.replies.Reply.TheVariants.{Renamed, Usage, ReadFault, WriteFault, WantOfMemory, NotQuick, BadProject, Admits, AdmitsNothing, Tokens}
 use Rattle.morpheus_top.specs.declared.words.Renaming.{Renaming as Words}
 use Rattle.morpheus_top.specs.declared.quick.Plan.{Plan}
 use Rattle.morpheus_top.specs.declared.quick.Plan.TheVariants.{Say, Write}
 use Rattle.morpheus_top.specs.declared.words.Command.{Command}
-use Rattle.morpheus_top.specs.declared.words.Command.TheVariants.{Quick, Admit}
-use Rattle.morpheus_top.specs.Words.{Renaming, target, AsksQuick, AsksAdmit}
+use Rattle.morpheus_top.specs.declared.words.Command.TheVariants.{Quick, Admit, Tokens as TokensOf}
+use Rattle.morpheus_top.specs.declared.words.UnitWords.{UnitWords}
+use Rattle.morpheus_top.specs.Words.{Renaming, UnitQuery, target, AsksQuick, AsksAdmit, AsksTokens}
 use Rattle.morpheus_top.specs.States.{StoreState, Kept}
 use Rattle.morpheus_top.specs.Calls.{renamed_file}
 
@@ -21,15 +26,27 @@ use Rattle.morpheus_top.specs.Calls.{renamed_file}
 abbrev pub asked : Words → Renaming
 asked r = record { file = r.file.now; old = r.old.now; new = r.new.now; out = r.out.now }
 
+-- the unit and configuration that the words ask for
+abbrev pub query_of : UnitWords → UnitQuery
+query_of q = record { project = q.project.now; unit = q.unit.now; names = map (λ name. name.items) q.names.items }
+
 -- the words ask for this command
 abbrev pub AsksFor : List (List ℕ) → Command → Type 0
 AsksFor words (Quick renaming) = AsksQuick words (asked renaming)
 AsksFor words (Admit project) = AsksAdmit words project.now
+AsksFor words (TokensOf query) = AsksTokens words (query_of query)
+
+-- its names are lawful
+abbrev pub IsLawful : Command → Type 0
+IsLawful (Quick renaming) = is_name renaming.new.now ≡ true
+IsLawful (Admit project) = ⊤
+IsLawful (TokensOf query) = list_all is_new_name (query_of query).names ≡ true
 
 pub record RefusesBytes (r : Renaming) (bytes : List ℕ) (reply : Reply) : Type 0 where
   pub offset : ℕ
   pub reply_is : reply ≡ NotQuick offset
   pub refused : Takes r.old r.new bytes → ⊥
+  pub place : IsPlace r.old r.new bytes offset
 
 pub record RenamesBytes (r : Renaming) (bytes name content : List ℕ) (reply : Reply) : Type 0 where
   pub tokens : ℕ
@@ -78,9 +95,10 @@ abbrev pub Ran : Renaming → List ℕ → StoreState → StoreState → Reply �
 Ran r bytes before after (Renamed tokens) = RanWhole r bytes before after tokens
 Ran r bytes before after WriteFault = RanInPart r bytes before after
 Ran r bytes before after WantOfMemory = Kept before after
-Ran r bytes before after (NotQuick offset) = (Takes r.old r.new bytes → ⊥) × Kept before after
+Ran r bytes before after (NotQuick offset) = (Takes r.old r.new bytes → ⊥) × IsPlace r.old r.new bytes offset × Kept before after
 Ran r bytes before after Usage = ⊥
 Ran r bytes before after ReadFault = ⊥
 Ran r bytes before after (BadProject fault) = ⊥
 Ran r bytes before after (Admits names) = ⊥
 Ran r bytes before after AdmitsNothing = ⊥
+Ran r bytes before after (Tokens reply) = ⊥

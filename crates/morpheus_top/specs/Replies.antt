@@ -1,14 +1,23 @@
--- What a call replies: its status, and its report, which is one line.
+-- What a call replies: its status, and its report.
 use Rattle.std.specs.Prelude.{ℕ, List, [], ◌∷◌, ◌++◌, codes, decimal, map}
-use Rattle.std.specs.List.{join_by}
+use Rattle.std.specs.List.{join_by, flat_map}
 use Rattle.std.specs.String.{string_bytes}
+use Rattle.c_text.specs.Token.{PlainToken, plain_token}
 use Rattle.project_file.specs.Faults.{Fault, size, not_toml, shape, feature, duplicate, constraint}
 use Rattle.morpheus_top.specs.declared.replies.Reply.{Reply}
-use Rattle.morpheus_top.specs.declared.replies.Reply.TheVariants.{Renamed, Usage, ReadFault, WriteFault, WantOfMemory, NotQuick, BadProject, Admits, AdmitsNothing}
+use Rattle.morpheus_top.specs.declared.replies.Reply.TheVariants.{Renamed, Usage, ReadFault, WriteFault, WantOfMemory, NotQuick, BadProject, Admits, AdmitsNothing, Tokens}
+use Rattle.morpheus_top.specs.declared.replies.TokensReply.{TokensReply}
+use Rattle.morpheus_top.specs.declared.replies.TokensReply.TheVariants.{NotAdmitted, NotPresent, NotAccepted, Printed}
 use Rattle.morpheus_top.specs.declared.faults.ProjectFault.{ProjectFault}
 use Rattle.morpheus_top.specs.declared.faults.ProjectFault.TheVariants.{NotToml, Shape, Feature, Duplicate, Constraint, Size}
 use Rattle.morpheus_top.specs.declared.replies.Report.{Report}
-use Rattle.morpheus_top.specs.declared.replies.Report.TheVariants.{Fixed, Made}
+use Rattle.morpheus_top.specs.declared.replies.Report.TheVariants.{Fixed, Made, Bytes}
+
+abbrev pub status_of_tokens : TokensReply → ℕ
+status_of_tokens NotAdmitted = 9
+status_of_tokens NotPresent = 9
+status_of_tokens NotAccepted = 9
+status_of_tokens (Printed tokens) = 0
 
 abbrev pub status_of : Reply → ℕ
 status_of (Renamed tokens) = 0
@@ -20,6 +29,7 @@ status_of (NotQuick offset) = 12
 status_of (BadProject fault) = 5
 status_of (Admits names) = 0
 status_of AdmitsNothing = 0
+status_of (Tokens reply) = status_of_tokens reply
 
 abbrev pub line : List ℕ → List ℕ
 line text = text ++ 10 ∷ []
@@ -46,6 +56,16 @@ abbrev pub listed : List (List ℕ) → List ℕ
 listed [] = codes "-"
 listed (first ∷ names) = join_by (λ name. name) (codes ",") (first ∷ names)
 
+-- each token's spelling on a line
+abbrev pub spellings : List PlainToken → List ℕ
+spellings tokens = flat_map (λ token. line token.text) tokens
+
+abbrev pub report_of_tokens : TokensReply → List ℕ
+report_of_tokens NotAdmitted = line (codes "not admitted")
+report_of_tokens NotPresent = line (codes "not present")
+report_of_tokens NotAccepted = line (codes "not accepted preprocess")
+report_of_tokens (Printed tokens) = spellings (map plain_token tokens.items)
+
 abbrev pub report_of : Reply → List ℕ
 report_of (Renamed tokens) = line (codes "renamed " ++ decimal tokens ++ codes " tokens in 1 files")
 report_of Usage = line (codes "usage")
@@ -56,8 +76,10 @@ report_of (NotQuick offset) = line (codes "not quick at " ++ decimal offset)
 report_of (BadProject fault) = line (codes "bad project: " ++ fault_text (fault_view fault))
 report_of (Admits names) = line (codes "admits " ++ listed (map string_bytes names.items))
 report_of AdmitsNothing = line (codes "admits nothing")
+report_of (Tokens reply) = report_of_tokens reply
 
 -- the bytes of a report
 abbrev pub text_of : Report → List ℕ
 text_of (Fixed text) = text.now
 text_of (Made text) = string_bytes text
+text_of (Bytes bytes) = bytes.items

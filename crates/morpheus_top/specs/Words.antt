@@ -1,9 +1,10 @@
 -- The words of a command.
-use Rattle.std.specs.Prelude.{◌≡◌, ℕ, Bool, true, false, not, ◌&&◌, ◌||◌, ◌==◌, List, [], ◌∷◌, ◌++◌, codes, ◌⊎◌}
-use Rattle.std.specs.List.{list_all, list_any}
+use Rattle.std.specs.Prelude.{◌≡◌, ℕ, Bool, true, false, not, ◌&&◌, ◌||◌, ◌==◌, List, [], ◌∷◌, ◌++◌, codes, ◌⊎◌, if◌then◌else◌}
+use Rattle.std.specs.List.{list_all, list_any, slice_split}
 use Rattle.std.specs.Str.{bytes_eq}
 use Rattle.c_names.specs.Names.{is_word_byte, is_new_name}
 use Rattle.c_names.specs.FileNames.{is_empty, is_file_name}
+use Rattle.c_text.specs.Directives.{has_repetition}
 
 -- a letter, a digit, `_` or `-`
 abbrev pub is_folder_byte : ℕ → Bool
@@ -57,11 +58,41 @@ pub record AsksAdmit (words : List (List ℕ)) (project : List ℕ) : Type 0 whe
   pub words_are : words ≡ codes "admit" ∷ project ∷ []
   pub good : is_project_name project ≡ true
 
+-- names with commas between them, or `-` for none
+abbrev pub names_in : List ℕ → List (List ℕ)
+names_in text = if bytes_eq text (codes "-") then [] else slice_split (λ b. b == 44) text
+
+-- a unit of a project in one configuration: the name of the project file, that of the unit's, and the names of the features
+-- that are on
+pub record UnitQuery : Type 0 where
+  pub project : List ℕ
+  pub unit : List ℕ
+  pub names : List (List ℕ)
+
+-- the names can be those of files and of features, and no feature is named twice
+pub record IsGoodQuery (q : UnitQuery) : Type 0 where
+  pub project : is_project_name q.project ≡ true
+  pub unit : is_file_name q.unit ≡ true
+  pub lawful : list_all is_new_name q.names ≡ true
+  pub differ : has_repetition q.names ≡ false
+
+-- the words, `tokens PROJECT UNIT NAMES`, ask for the tokens of this unit
+pub record AsksTokens (words : List (List ℕ)) (q : UnitQuery) : Type 0 where
+  pub text : List ℕ
+  pub words_are : words ≡ codes "tokens" ∷ q.project ∷ q.unit ∷ text ∷ []
+  pub names_are : q.names ≡ names_in text
+  pub good : IsGoodQuery q
+
 -- the words ask for nothing
 pub record IsUsage (words : List (List ℕ)) : Type 0 where
   pub no_quick : (r : Renaming) → AsksQuick words r → ⊥
   pub no_admit : (project : List ℕ) → AsksAdmit words project → ⊥
+  pub no_tokens : (q : UnitQuery) → AsksTokens words q → ⊥
 
--- the words ask for a command that first reads this file
+-- the words ask for a command that reads this file alone
 abbrev pub Reads : List (List ℕ) → List ℕ → Type 0
 Reads words file = ((r : Renaming) × AsksQuick words r × (file ≡ r.file)) ⊎ AsksAdmit words file
+
+-- the words ask for a command that writes nothing
+abbrev pub ReadsAlone : List (List ℕ) → Type 0
+ReadsAlone words = ((project : List ℕ) × AsksAdmit words project) ⊎ ((q : UnitQuery) × AsksTokens words q)

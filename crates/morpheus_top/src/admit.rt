@@ -5,7 +5,8 @@ ghost use Rattle.cond_formula.specs.Conditions.{VarsBelow};
 ghost use Rattle.project_file.specs.View.{project_view};
 ghost use Rattle.morpheus_top.specs.Words.{AsksAdmit};
 ghost use Rattle.morpheus_top.specs.States.{store_state};
-ghost use Rattle.morpheus_top.specs.Admit.{names_on, Found, Reports, IsReplyTo};
+ghost use Rattle.morpheus_top.specs.Admit.{Found, Reports, IsReplyTo};
+ghost use Rattle.project_file.specs.Projects.{names_on};
 ghost use Rattle.sat_core.specs.Models.{IsLeastModel};
 ghost use Rattle.feature_model.specs.ModelView.{admitted};
 ghost use Rattle.morpheus_top.specs.Replies.{fault_view};
@@ -66,7 +67,7 @@ fn refused(alloc: Global, fault: ProjectFault) -> Answer
 }
 
 /// The reply where there is no project.
-fn without_project(alloc: Global, error: ProjectError) -> Answer
+pub(crate) fn without_project(alloc: Global, error: ProjectError) -> Answer
     ensures { IsReplyTo error result.reply }
 {
     match error {

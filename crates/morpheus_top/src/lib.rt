@@ -6,9 +6,10 @@ mod faults;
 mod give;
 mod quick;
 mod replies;
+mod tokens;
 mod top;
 mod words;
 
 pub use faults::ProjectFault;
-pub use replies::Reply;
+pub use replies::{Reply, TokensReply};
 pub use top::morpheus;

@@ -1,8 +1,10 @@
 ghost use Rattle.std.specs.Prelude.{◌≡◌, ◌⊎◌, ◌∷◌, ◌++◌, codes, decimal, map, IfOk};
 ghost use Rattle.std.specs.String.{string_bytes};
-ghost use Rattle.morpheus_top.specs.Replies.{status_of, line, fault_view, fault_text, listed, report_of, text_of};
+ghost use Rattle.c_text.specs.Token.{plain_token};
+ghost use Rattle.morpheus_top.specs.Replies.{status_of, status_of_tokens, line, fault_view, fault_text, listed, spellings, report_of, report_of_tokens, text_of};
 
 use crate::faults::ProjectFault;
+use c_text::Token;
 use std::alloc::{AllocError, Global};
 
 /// What a call replies. A failing sink alone isn't among these: it can come instead of each.
@@ -27,6 +29,55 @@ pub enum Reply {
     Admits { names: Vec<String> },
     /// The project admits no configuration.
     AdmitsNothing,
+    /// What is said of a unit's tokens.
+    Tokens(TokensReply),
+}
+
+/// What is replied about the tokens of a unit in one configuration.
+#[derive(Debug, Drop)]
+pub enum TokensReply {
+    /// The project doesn't admit the configuration.
+    NotAdmitted,
+    /// The unit isn't present in it.
+    NotPresent,
+    /// The unit's preprocessing is refused.
+    NotAccepted,
+    /// These are the tokens.
+    Printed { tokens: Vec<Token> },
+}
+
+impl TokensReply {
+    fn status(&self) -> u8
+        ensures { result ≡ status_of_tokens self.now }
+    {
+        match self {
+            TokensReply::NotAdmitted | TokensReply::NotPresent | TokensReply::NotAccepted => 9,
+            TokensReply::Printed { .. } => 0,
+        }
+    }
+
+    fn report(&self, alloc: Global) -> Result<Report, AllocError>
+        ensures { IfOk result (λ report. text_of report ≡ report_of_tokens self.now) }
+    {
+        match self {
+            TokensReply::NotAdmitted => Ok(Report::Fixed("not admitted\n")),
+            TokensReply::NotPresent => Ok(Report::Fixed("not present\n")),
+            TokensReply::NotAccepted => Ok(Report::Fixed("not accepted preprocess\n")),
+            TokensReply::Printed { tokens } => Ok(Report::Bytes(spellings(alloc, tokens)?)),
+        }
+    }
+}
+
+/// Each token's spelling on a line.
+fn spellings(alloc: Global, tokens: &[Token]) -> Result<Vec<u8>, AllocError>
+    ensures { IfOk result (λ text. text.items ≡ spellings (map plain_token tokens.now)) }
+{
+    let mut text = Vec::new(alloc);
+    for token in tokens {
+        text.extend_from_slice(token.text.as_slice())?;
+        text.push(b'\n')?;
+    }
+    Ok(text)
 }
 
 impl Reply {
@@ -44,10 +95,11 @@ impl Reply {
             Reply::BadProject { .. } => 5,
             Reply::Admits { .. } => 0,
             Reply::AdmitsNothing => 0,
+            Reply::Tokens(reply) => reply.status(),
         }
     }
 
-    /// The line that is printed. Only those with a number in them take memory.
+    /// What is printed.
     pub(crate) fn report(&self, alloc: Global) -> Result<Report, AllocError>
         ensures { IfOk result (λ report. text_of report ≡ report_of self.now) }
     {
@@ -57,6 +109,7 @@ impl Reply {
             Reply::BadProject { fault } => bad_project(alloc, fault),
             Reply::Admits { names } => admits(alloc, names),
             Reply::AdmitsNothing => Ok(Report::Fixed("admits nothing\n")),
+            Reply::Tokens(reply) => reply.report(alloc),
             Reply::Usage => Ok(Report::Fixed("usage\n")),
             Reply::ReadFault => Ok(Report::Fixed("read fault\n")),
             Reply::WriteFault => Ok(Report::Fixed("write fault\n")),
@@ -125,11 +178,12 @@ fn admits(alloc: Global, names: &[String]) -> Result<Report, AllocError>
     Ok(Report::Made(text))
 }
 
-/// A report as text.
+/// The bytes of a report.
 #[derive(Debug, Drop)]
 pub(crate) enum Report {
     Fixed(&'static str),
     Made(String),
+    Bytes(Vec<u8>),
 }
 
 impl Report {
@@ -139,6 +193,7 @@ impl Report {
         match self {
             Report::Fixed(text) => text.as_bytes(),
             Report::Made(text) => text.as_bytes(),
+            Report::Bytes(bytes) => bytes.as_slice(),
         }
     }
 }
@@ -192,6 +247,33 @@ impl Answer {
         Answer {
             reply: Reply::AdmitsNothing,
             report: Report::Fixed("admits nothing\n"),
+        }
+    }
+
+    pub(crate) fn not_admitted() -> Answer
+        ensures { result.reply ≡ Reply.Tokens TokensReply.NotAdmitted }
+    {
+        Answer {
+            reply: Reply::Tokens(TokensReply::NotAdmitted),
+            report: Report::Fixed("not admitted\n"),
+        }
+    }
+
+    pub(crate) fn not_present() -> Answer
+        ensures { result.reply ≡ Reply.Tokens TokensReply.NotPresent }
+    {
+        Answer {
+            reply: Reply::Tokens(TokensReply::NotPresent),
+            report: Report::Fixed("not present\n"),
+        }
+    }
+
+    pub(crate) fn not_accepted() -> Answer
+        ensures { result.reply ≡ Reply.Tokens TokensReply.NotAccepted }
+    {
+        Answer {
+            reply: Reply::Tokens(TokensReply::NotAccepted),
+            report: Report::Fixed("not accepted preprocess\n"),
         }
     }
 

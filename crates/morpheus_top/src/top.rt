@@ -5,23 +5,43 @@ ghost use Rattle.project_store.specs.Faults.{Rose};
 ghost use Rattle.project_file.specs.Projects.{PlainProject};
 ghost use Rattle.project_file.specs.Faults.{Fault};
 ghost use Rattle.project_store.specs.Reads.{SaysProject, HasFault};
-ghost use Rattle.morpheus_top.specs.Words.{Renaming, AsksQuick, AsksAdmit, IsUsage, Reads};
+ghost use Rattle.c_text.specs.Token.{PlainToken};
+ghost use Rattle.morpheus_top.specs.Words.{Renaming, UnitQuery, AsksQuick, AsksAdmit, AsksTokens, ReadsAlone, IsUsage, Reads};
+ghost use Rattle.morpheus_top.specs.Tokens.{IsMisfit, HasAnyFault, IsUnitRefused, GivesTokens};
+ghost use Rattle.morpheus_top.specs.Quick.{AsksFor, IsLawful};
 ghost use Rattle.morpheus_top.specs.States.{store_state, sink_state};
-ghost use Rattle.morpheus_top.specs.Calls.{Holds, Answers, TakesFile, RefusesFile, WritesFile, WritesPart, LacksRoomFor};
-ghost use Rattle.morpheus_top.specs.Promises.{IsOneOf, NoFault, SinkLacksRoom, IsRoomFor, FitsReports, PrintsLeast, PrintsFault, BehaviourIsKept};
+ghost use Rattle.morpheus_top.specs.Calls.{IsUsageIn, Holds, Answers, TakesFile, RefusesFile, WritesFile, WritesPart, LacksRoomFor};
+ghost use Rattle.morpheus_top.specs.Promises.{IsOneOf, NoFault, SinkLacksRoom, IsRoomFor, FitsReports, PrintsPlace, PrintsLeast, PrintsFault, PrintsTokens, PrintsRefusal, PrintsAnyFault, LacksFile, HasFilesFor, BehaviourIsKept};
 
 use crate::admit::admit;
 use crate::give::give;
 use crate::quick::quick;
 use crate::replies::Answer;
+use crate::tokens::tokens;
 use crate::words::{Command, asked_command};
-use project_file::projects_have_no_fault;
+use plain_pp::outcomes_are_one;
+use project_file::{projects_are_alike, projects_have_no_fault};
 use project_store::{Sink, Store};
 use quick_form::renaming_keeps_behaviour;
 use std::alloc::Global;
 
 /// The status where the sink failed.
 const SINK_FAULT: u8 = 6;
+
+/// Carries out the command that the words ask for, but for its report.
+fn carried_out<S: Store>(alloc: Global, command: &Command, store: &mut S) -> Answer
+    requires { IsLawful command.now }
+    ensures { (words : List (List ℕ)) → AsksFor words command.now → Holds words
+        (store_state S.tells S.file S.read_faults S.write_faults S.tells_room S.names_left S.bytes_left store.old)
+        (store_state S.tells S.file S.read_faults S.write_faults S.tells_room S.names_left S.bytes_left store.new)
+        result.reply }
+{
+    match command {
+        Command::Quick(renaming) => quick(alloc, renaming, store),
+        Command::Admit(project) => admit(alloc, project, store),
+        Command::Tokens(query) => tokens(alloc, query, store),
+    }
+}
 
 /// Carries out a command, but for its report.
 fn answer<S: Store>(alloc: Global, words: &[String], store: &mut S) -> Answer
@@ -30,10 +50,10 @@ fn answer<S: Store>(alloc: Global, words: &[String], store: &mut S) -> Answer
         (store_state S.tells S.file S.read_faults S.write_faults S.tells_room S.names_left S.bytes_left store.new)
         result.reply }
 {
-    match asked_command(words) {
-        Some(Command::Quick(renaming)) => quick(alloc, &renaming, store),
-        Some(Command::Admit(project)) => admit(alloc, project, store),
-        None => Answer::usage(),
+    match asked_command(alloc, words) {
+        Ok(Some(command)) => carried_out(alloc, &command, store),
+        Ok(None) => Answer::usage(),
+        Err(_) => Answer::want_of_memory(),
     }
 }
 
@@ -56,8 +76,8 @@ fn serve<S: Store, K: Sink>(alloc: Global, words: &[String], store: &mut S, out:
 /// Carries out a command over a store, gives its report to a sink, and answers the exit status.
 ///
 /// `words` are those after the program's name. The statuses are 0 where the command succeeded,
-/// 2 `usage`, 3 `read fault`, 4 `write fault`, 5 `bad project: FAULT`, 6 where the sink failed, 7 `want of memory` and
-/// 12 `not quick at OFFSET`. Only want of memory may come at any time before the first write.
+/// 2 `usage`, 3 `read fault`, 4 `write fault`, 5 `bad project: FAULT`, 6 where the sink failed, 7 `want of memory`,
+/// 9 `not admitted`, `not present` or `not accepted STAGE`, and 12 `not quick at OFFSET`. Only want of memory may come at any time before the first write.
 pub fn morpheus<S: Store, K: Sink>(
     alloc: Global,
     words: &[String],
@@ -73,8 +93,8 @@ pub fn morpheus<S: Store, K: Sink>(
         result }
 
     // Which status comes, and where.
-    ensures statuses { IsOneOf (0 ∷ 2 ∷ 3 ∷ 4 ∷ 5 ∷ 6 ∷ 7 ∷ 12 ∷ []) result }
-    ensures usage { result ≡ 2 → IsUsage (map string_bytes words.now) }
+    ensures statuses { IsOneOf (0 ∷ 2 ∷ 3 ∷ 4 ∷ 5 ∷ 6 ∷ 7 ∷ 9 ∷ 12 ∷ []) result }
+    ensures usage { result ≡ 2 → IsUsageIn (map string_bytes words.now) (S.tells store.old) (S.file store.old) }
     ensures usage_only { IsUsage (map string_bytes words.now) → IsOneOf (2 ∷ 6 ∷ 7 ∷ []) result }
     ensures read_fault { result ≡ 3 → Rose (S.read_faults store.old) (S.read_faults store.new) }
     ensures write_fault { result ≡ 4 → Rose (S.write_faults store.old) (S.write_faults store.new) }
@@ -83,6 +103,11 @@ pub fn morpheus<S: Store, K: Sink>(
         → RefusesFile r (S.file store.old) }
     ensures bad_project { result ≡ 5 → S.tells store.old → (name : List ℕ) → AsksAdmit (map string_bytes words.now) name
         → (fault : Fault) × HasFault (S.tells store.old) (S.file store.old) name fault }
+
+    ensures bad_source { result ≡ 5 → S.tells store.old → (q : UnitQuery) → AsksTokens (map string_bytes words.now) q
+        → (fault : Fault) × HasAnyFault (S.tells store.old) (S.file store.old) q fault }
+    ensures not_accepted { result ≡ 9 → S.tells store.old → (q : UnitQuery) → AsksTokens (map string_bytes words.now) q
+        → IsUnitRefused (S.tells store.old) (S.file store.old) q }
 
     // Where no count of faults rises, the answer is exact but for want of memory.
     ensures complete { NoFault (S.read_faults store.old) (S.read_faults store.new) (S.write_faults store.old) (S.write_faults store.new) (K.faults out.old) (K.faults out.new)
@@ -98,11 +123,33 @@ pub fn morpheus<S: Store, K: Sink>(
         → S.tells store.old → (name : List ℕ) (fault : Fault) → AsksAdmit (map string_bytes words.now) name
         → HasFault (S.tells store.old) (S.file store.old) name fault → (result ≡ 5) ⊎ (result ≡ 7) }
 
-    // What `admit` prints.
+    ensures misfits { NoFault (S.read_faults store.old) (S.read_faults store.new) (S.write_faults store.old) (S.write_faults store.new) (K.faults out.old) (K.faults out.new)
+        → S.tells store.old → (q : UnitQuery) → AsksTokens (map string_bytes words.now) q
+        → IsMisfit (S.tells store.old) (S.file store.old) q → (result ≡ 2) ⊎ (result ≡ 7) }
+    ensures refuses_source { NoFault (S.read_faults store.old) (S.read_faults store.new) (S.write_faults store.old) (S.write_faults store.new) (K.faults out.old) (K.faults out.new)
+        → S.tells store.old → (q : UnitQuery) (fault : Fault) → AsksTokens (map string_bytes words.now) q
+        → HasAnyFault (S.tells store.old) (S.file store.old) q fault → (result ≡ 5) ⊎ (result ≡ 7) }
+    ensures refuses_unit { NoFault (S.read_faults store.old) (S.read_faults store.new) (S.write_faults store.old) (S.write_faults store.new) (K.faults out.old) (K.faults out.new)
+        → S.tells store.old → (q : UnitQuery) → AsksTokens (map string_bytes words.now) q
+        → IsUnitRefused (S.tells store.old) (S.file store.old) q → (result ≡ 9) ⊎ (result ≡ 7) }
+    ensures gives_tokens { NoFault (S.read_faults store.old) (S.read_faults store.new) (S.write_faults store.old) (S.write_faults store.new) (K.faults out.old) (K.faults out.new)
+        → S.tells store.old → (q : UnitQuery) (tokens : List PlainToken) → AsksTokens (map string_bytes words.now) q
+        → GivesTokens (S.tells store.old) (S.file store.old) q tokens → (result ≡ 0) ⊎ (result ≡ 7) }
+
+    // What is printed.
+    ensures prints_place { result ≡ 12 → S.tells store.old → K.tells out.old → (r : Renaming) → AsksQuick (map string_bytes words.now) r
+        → PrintsPlace r (S.file store.old) (K.taken out.old) (K.taken out.new) }
     ensures prints_least { result ≡ 0 → S.tells store.old → K.tells out.old → (name : List ℕ) → AsksAdmit (map string_bytes words.now) name
         → PrintsLeast name (S.file store.old) (K.taken out.old) (K.taken out.new) }
     ensures prints_fault { result ≡ 5 → S.tells store.old → K.tells out.old → (name : List ℕ) → AsksAdmit (map string_bytes words.now) name
         → PrintsFault name (S.file store.old) (K.taken out.old) (K.taken out.new) }
+
+    ensures prints_tokens { result ≡ 0 → S.tells store.old → K.tells out.old → (q : UnitQuery) → AsksTokens (map string_bytes words.now) q
+        → PrintsTokens q (S.file store.old) (K.taken out.old) (K.taken out.new) }
+    ensures prints_refusal { result ≡ 9 → S.tells store.old → K.tells out.old → (q : UnitQuery) → AsksTokens (map string_bytes words.now) q
+        → PrintsRefusal q (S.file store.old) (K.taken out.old) (K.taken out.new) }
+    ensures prints_source_fault { result ≡ 5 → S.tells store.old → K.tells out.old → (q : UnitQuery) → AsksTokens (map string_bytes words.now) q
+        → PrintsAnyFault q (S.file store.old) (K.taken out.old) (K.taken out.new) }
 
     // What the store holds afterwards.
     ensures written { result ≡ 0 → S.tells store.old → (r : Renaming) → AsksQuick (map string_bytes words.now) r
@@ -111,8 +158,7 @@ pub fn morpheus<S: Store, K: Sink>(
         → WritesPart r (S.file store.old) (S.file store.new) }
     ensures untouched { result ≢ 0 → result ≢ 4 → result ≢ 6 → S.tells store.old → SameFiles (S.file store.old) (S.file store.new) }
 
-    ensures reads_only { S.tells store.old → (name : List ℕ) → AsksAdmit (map string_bytes words.now) name
-        → SameFiles (S.file store.old) (S.file store.new) }
+    ensures reads_only { S.tells store.old → ReadsAlone (map string_bytes words.now) → SameFiles (S.file store.old) (S.file store.new) }
 
     // Every product of the written file behaves as that of the file that was read.
     ensures behaviour { result ≡ 0 → S.tells store.old → (r : Renaming) → AsksQuick (map string_bytes words.now) r
@@ -121,6 +167,8 @@ pub fn morpheus<S: Store, K: Sink>(
     // A store and a sink that tell their room fail for want of it alone.
     ensures absent { result ≡ 3 → S.tells_room store.old → (file : List ℕ) → Reads (map string_bytes words.now) file
         → S.file store.old file ≡ None }
+    ensures absent_source { result ≡ 3 → S.tells_room store.old → (q : UnitQuery) → AsksTokens (map string_bytes words.now) q
+        → LacksFile (S.file store.old) q }
     ensures store_full { result ≡ 4 → S.tells_room store.old → (r : Renaming) → AsksQuick (map string_bytes words.now) r
         → LacksRoomFor r (S.file store.old) (S.names_left store.old) (S.bytes_left store.old) }
     ensures sink_full { result ≡ 6 → K.tells_room out.old → SinkLacksRoom (map string_bytes words.now)
@@ -138,9 +186,18 @@ pub fn morpheus<S: Store, K: Sink>(
         (store_state S.tells S.file S.read_faults S.write_faults S.tells_room S.names_left S.bytes_left store.new)
         (K.room out.old)
         → IsOneOf (0 ∷ 5 ∷ 7 ∷ []) result }
+    ensures sure_tokens { S.tells_room store.old → K.tells_room out.old → (q : UnitQuery) → AsksTokens (map string_bytes words.now) q
+        → HasFilesFor (S.file store.old) q
+        → FitsReports (map string_bytes words.now)
+        (store_state S.tells S.file S.read_faults S.write_faults S.tells_room S.names_left S.bytes_left store.old)
+        (store_state S.tells S.file S.read_faults S.write_faults S.tells_room S.names_left S.bytes_left store.new)
+        (K.room out.old)
+        → IsOneOf (0 ∷ 2 ∷ 5 ∷ 7 ∷ 9 ∷ []) result }
 {
     // The laws behind the clauses on behaviour and on projects; they do nothing.
     renaming_keeps_behaviour();
     projects_have_no_fault();
+    projects_are_alike();
+    outcomes_are_one();
     serve(alloc, words, store, out)
 }

@@ -1,10 +1,14 @@
-ghost use Rattle.std.specs.Prelude.{◌≡◌, ◌≢◌, ◌↔◌, ◌==◌, IsTrue, MatchOption, codes, map, ℕ, List, [], ◌∷◌};
-ghost use Rattle.std.specs.List.{list_all, list_any};
+ghost use Rattle.std.specs.Prelude.{◌≡◌, ◌≢◌, ◌↔◌, ◌==◌, IsTrue, IsNone, IfOk, IfSome, MatchOption, codes, map, ℕ, List, [], ◌∷◌};
+ghost use Rattle.std.specs.List.{list_all, list_any, slice_split};
+ghost use Rattle.c_names.specs.Names.{is_new_name};
+ghost use Rattle.c_text.specs.Directives.{has_repetition};
 ghost use Rattle.std.specs.String.{string_bytes};
+ghost use Rattle.std.specs.Str.{bytes_eq};
 ghost use Rattle.morpheus_top.specs.Words as spec;
-ghost use Rattle.morpheus_top.specs.Quick.{asked, AsksFor};
+ghost use Rattle.morpheus_top.specs.Quick.{asked, query_of, AsksFor};
 
 use c_names::{is_file_name, is_new_name, is_word_byte};
+use std::alloc::{AllocError, Global};
 
 /// A renaming of one name in one file of the quick form, as the words ask for it.
 #[derive(Clone, Copy, Debug)]
@@ -133,21 +137,151 @@ fn asked_project(words: &[String]) -> Option<&str>
     }
 }
 
+/// A unit of a project in one configuration, as the words ask for it.
+#[derive(Debug, Drop)]
+pub(crate) struct UnitWords<'a> {
+    pub(crate) project: &'a str,
+    pub(crate) unit: &'a str,
+    /// The features that are on.
+    pub(crate) names: Vec<Vec<u8>>,
+}
+
+/// The names in a text, with commas between them, or `-` for none.
+fn names_in(alloc: Global, text: &[u8]) -> Result<Vec<Vec<u8>>, AllocError>
+    ensures { IfOk result (λ names. map (λ name. name.items) names.items ≡ spec.names_in text.now) }
+{
+    if text == b"-".as_slice() {
+        return Ok(Vec::new(alloc));
+    }
+    let names = pieces_of(alloc, text)?;
+    Ok(names)
+}
+
+/// The pieces of a text between commas.
+fn pieces_of(alloc: Global, text: &[u8]) -> Result<Vec<Vec<u8>>, AllocError>
+    ensures { IfOk result (λ names. map (λ name. name.items) names.items ≡ slice_split (λ b. b == 44) text.now) }
+{
+    let mut names = Vec::new(alloc);
+    for name in text.split(|byte| *byte == b',') {
+        names.push(Vec::from_slice(alloc, name)?)?;
+    }
+    Ok(names)
+}
+
+fn are_lawful(names: &[Vec<u8>]) -> bool
+    ensures { result ≡ list_all is_new_name (map (λ name. name.items) names.now) }
+{
+    for name in names {
+        if !is_new_name(name.as_slice()) {
+            return false;
+        }
+    }
+    true
+}
+
+/// Whether the name is one of these.
+pub(crate) fn is_among(names: &[Vec<u8>], name: &[u8]) -> bool
+    ensures { result ≡ list_any (bytes_eq name.now) (map (λ other. other.items) names.now) }
+{
+    for other in names {
+        if name == other.as_slice() {
+            return true;
+        }
+    }
+    false
+}
+
+fn has_repetition(names: &[Vec<u8>]) -> bool
+    ensures { result ≡ has_repetition (map (λ name. name.items) names.now) }
+{
+    for (i, name) in names.iter().enumerate() {
+        let (_, others) = names.split_at(i + 1);
+        if is_among(others, name.as_slice()) {
+            return true;
+        }
+    }
+    false
+}
+
+impl UnitWords<'_> {
+    /// Whether the words are of their forms.
+    fn is_good(&self) -> bool
+        ensures { IsTrue result ↔ spec.IsGoodQuery (query_of self.now) }
+    {
+        is_project_name(self.project.as_bytes())
+            && is_file_name(self.unit.as_bytes())
+            && are_lawful(&self.names)
+            && !has_repetition(&self.names)
+    }
+}
+
+/// The words of `tokens`, whatever they are.
+fn tokens_words(words: &[String]) -> Option<(&str, &str, &str)>
+    ensures { MatchOption result
+        ((project unit names : List ℕ) → map string_bytes words.now ≢ codes "tokens" ∷ project ∷ unit ∷ names ∷ [])
+        (λ w. map string_bytes words.now ≡ codes "tokens" ∷ w.0.now ∷ w.1.now ∷ w.2.now ∷ []) }
+{
+    match words {
+        [command, project, unit, names] if command.as_str() == "tokens" => {
+            Some((project.as_str(), unit.as_str(), names.as_str()))
+        }
+        _ => None,
+    }
+}
+
+/// The unit and configuration whose tokens the words ask for, if they ask for some.
+fn asked_tokens(alloc: Global, words: &[String]) -> Result<Option<UnitWords<'_>>, AllocError>
+    ensures { IfOk result (λ query. MatchOption query
+        ((q : spec.UnitQuery) → spec.AsksTokens (map string_bytes words.now) q → ⊥)
+        (λ query. spec.AsksTokens (map string_bytes words.now) (query_of query))) }
+{
+    match tokens_words(words) {
+        Some((project, unit, names)) => {
+            let names = names_in(alloc, names.as_bytes())?;
+            let query = UnitWords {
+                project,
+                unit,
+                names,
+            };
+            Ok(if_good(query))
+        }
+        None => Ok(None),
+    }
+}
+
+/// The query, if its words are of their forms.
+fn if_good(query: UnitWords<'_>) -> Option<UnitWords<'_>>
+    ensures none { IsNone result → spec.IsGoodQuery (query_of query.entry) → ⊥ }
+    ensures some { IfSome result (λ q. (query_of q ≡ query_of query.entry) × spec.IsGoodQuery (query_of query.entry)) }
+{
+    if query.is_good() { Some(query) } else { None }
+}
+
 /// A command, as words ask for it.
-#[derive(Clone, Copy, Debug)]
+#[derive(Debug, Drop)]
 pub(crate) enum Command<'a> {
     Quick(Renaming<'a>),
     /// The least configuration of the project with this file.
     Admit(&'a str),
+    /// The tokens of a unit.
+    Tokens(UnitWords<'a>),
 }
 
 /// The command that the words ask for, if they ask for one.
-pub(crate) fn asked_command(words: &[String]) -> Option<Command<'_>>
-    ensures { MatchOption result (spec.IsUsage (map string_bytes words.now)) (AsksFor (map string_bytes words.now)) }
+pub(crate) fn asked_command(
+    alloc: Global,
+    words: &[String],
+) -> Result<Option<Command<'_>>, AllocError>
+    ensures { IfOk result (λ command. MatchOption command (spec.IsUsage (map string_bytes words.now)) (AsksFor (map string_bytes words.now))) }
 {
     if let Some(renaming) = asked_renaming(words) {
-        return Some(Command::Quick(renaming));
+        return Ok(Some(Command::Quick(renaming)));
     }
-    let project = asked_project(words)?;
-    Some(Command::Admit(project))
+    if let Some(project) = asked_project(words) {
+        return Ok(Some(Command::Admit(project)));
+    }
+    match asked_tokens(alloc, words)? {
+        Some(query) => Ok(Some(Command::Tokens(query))),
+        None => Ok(None),
+    }
 }

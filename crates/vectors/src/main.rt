@@ -14,6 +14,8 @@ mod fields;
 #[cfg(test)]
 mod rows;
 mod suites;
+#[cfg(test)]
+mod tokens_rows;
 
 use crate::suites::{SUITES, run};
 

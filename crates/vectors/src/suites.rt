@@ -16,7 +16,7 @@ pub(crate) struct Suite {
 }
 
 /// All vectors.
-pub(crate) const SUITES: [Suite; 2] = [
+pub(crate) const SUITES: [Suite; 3] = [
     Suite {
         command: "quick",
         file: "quick.tsv",
@@ -25,6 +25,11 @@ pub(crate) const SUITES: [Suite; 2] = [
     Suite {
         command: "admit",
         file: "admit.tsv",
+        output: Output::Nothing,
+    },
+    Suite {
+        command: "tokens",
+        file: "tokens.tsv",
         output: Output::Nothing,
     },
 ];

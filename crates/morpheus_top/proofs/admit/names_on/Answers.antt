@@ -1,7 +1,7 @@
 use Rattle.std.proofs.Common.{◌∙◌, ◌++◌, ◌+◌, sym, ap, map, drop, String, Global, Vec}
 use Rattle.std.specs.String.{string_bytes}
 use Rattle.cond_formula.specs.Features.{has}
-use Rattle.morpheus_top.specs.Admit.{names_from}
+use Rattle.project_file.specs.Projects.{names_from}
 use Rattle.morpheus_top.proofs.AdmitLemmas.{one_more, none_more, at_end}
 use Rattle.morpheus_top.proofs.admit.names_on.Goals.{then-has+in_ok-clone+in_ok-push, else-has}
 use Rattle.morpheus_top.proofs.admit.names_on.Goals as goal

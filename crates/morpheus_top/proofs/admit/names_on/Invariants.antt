@@ -1,7 +1,7 @@
 use Rattle.std.proofs.Common.{◌≡◌, ◌++◌, map, drop}
 use Rattle.std.specs.String.{string_bytes}
 use Rattle.cond_formula.specs.Features.{has}
-use Rattle.morpheus_top.specs.Admit.{names_from, names_on}
+use Rattle.project_file.specs.Projects.{names_from, names_on}
 use Rattle.morpheus_top.proofs.admit.names_on.Given as goal
 
 -- the names so far, and those that are on among the rest

@@ -1,14 +1,10 @@
-use Rattle.std.proofs.Common.{map, subst}
+use Rattle.std.proofs.Common.{map}
 use Rattle.std.specs.String.{string_bytes}
-use Rattle.morpheus_top.specs.Quick.{AsksFor}
-use Rattle.morpheus_top.proofs.WordLemmas.{new_name_is_name}
+use Rattle.morpheus_top.proofs.TokensSteps.{lawful_command}
 use Rattle.morpheus_top.proofs.top.answer.Goals as goal
 
-pub quick-requires : goal.quick-requires
-quick-requires g c = new_name_is_name c.in-Some-Quick.renaming.new.now (subst (AsksFor (map string_bytes c.args.words.now)) c.in-Some-Quick.field-0-is c.in-Some-Quick.ensures).good.new
+pub carried_out-requires : goal.carried_out-requires
+carried_out-requires g c = lawful_command (map string_bytes c.args.words.now) c.in-Ok-Some.command (rw c.in-Ok-Some.field-0-is at c.in-Ok-Some.ensures)
 
-pub returns-in-Some-Quick : goal.returns-in-Some-Quick
-returns-in-Some-Quick g c = c.quick.ensures (map string_bytes c.args.words.now) (subst (AsksFor (map string_bytes c.args.words.now)) c.in-Some-Quick.field-0-is c.in-Some-Quick.ensures)
-
-pub returns-in-Some-Admit : goal.returns-in-Some-Admit
-returns-in-Some-Admit g c = c.admit.ensures (map string_bytes c.args.words.now) (subst (AsksFor (map string_bytes c.args.words.now)) c.in-Some-Admit.field-0-is c.in-Some-Admit.ensures)
+pub returns-in-Ok-Some : goal.returns-in-Ok-Some
+returns-in-Ok-Some g c = c.carried_out.ensures (map string_bytes c.args.words.now) (rw c.in-Ok-Some.field-0-is at c.in-Ok-Some.ensures)

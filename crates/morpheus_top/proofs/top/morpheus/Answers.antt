@@ -1,6 +1,8 @@
 use Rattle.morpheus_top.proofs.WordLemmas.{new_name_is_name}
-use Rattle.morpheus_top.proofs.Promises.{statuses_lem, usage_lem, usage_only_lem, read_fault_lem, write_fault_lem, sink_fault_lem, not_taken_lem, complete_lem, refuses_lem, written_lem, part_lem, untouched_lem, absent_lem, lacks_lem, sink_lacks_lem, sure_lem, behaviour_lem}
-use Rattle.morpheus_top.proofs.AdmitPromises.{admits_lem, refuses_project_lem, sure_admit_lem, bad_project_lem, prints_fault_lem, prints_least_lem, reads_only_lem}
+use Rattle.morpheus_top.proofs.Promises.{statuses_lem, usage_lem, usage_only_lem, read_fault_lem, write_fault_lem, sink_fault_lem, not_taken_lem, complete_lem, refuses_lem, written_lem, part_lem, untouched_lem, absent_lem, lacks_lem, sink_lacks_lem, sure_lem, behaviour_lem, prints_place_lem}
+use Rattle.morpheus_top.proofs.AdmitPromises.{admits_lem, refuses_project_lem, sure_admit_lem, bad_project_lem, prints_fault_lem, prints_least_lem}
+use Rattle.morpheus_top.proofs.UnitLaws.{laws_of}
+use Rattle.morpheus_top.proofs.TokensPromises.{misfits_lem, refuses_source_lem, refuses_unit_lem, gives_tokens_lem, bad_source_lem, prints_source_fault_lem, not_accepted_lem, prints_tokens_lem, prints_refusal_lem, absent_source_lem, sure_tokens_lem, reads_only_lem}
 use Rattle.morpheus_top.proofs.top.morpheus.Goals as goal
 
 pub returns-clause-statuses : goal.returns-clause-statuses
@@ -70,7 +72,43 @@ pub returns-clause-prints_fault : goal.returns-clause-prints_fault
 returns-clause-prints_fault g c = prints_fault_lem _ _ _ _ _ _ c.serve.ensures
 
 pub returns-clause-reads_only : goal.returns-clause-reads_only
-returns-clause-reads_only g c = λ t name a. reads_only_lem _ _ _ _ _ _ c.serve.ensures name a t
+returns-clause-reads_only g c = λ t a. reads_only_lem _ _ _ _ _ _ c.serve.ensures a t
 
 pub returns-clause-sure_admit : goal.returns-clause-sure_admit
 returns-clause-sure_admit g c = sure_admit_lem _ _ _ _ _ _ c.serve.ensures
+
+pub returns-clause-bad_source : goal.returns-clause-bad_source
+returns-clause-bad_source g c = λ e t q a. bad_source_lem _ _ _ _ _ _ c.serve.ensures q a e
+
+pub returns-clause-not_accepted : goal.returns-clause-not_accepted
+returns-clause-not_accepted g c = λ e t q a. not_accepted_lem _ _ _ _ _ _ c.serve.ensures q a e
+
+pub returns-clause-misfits : goal.returns-clause-misfits
+returns-clause-misfits g c = λ f t q a h. misfits_lem (laws_of c.projects_have_no_fault.ensures c.projects_are_alike.ensures c.outcomes_are_one.ensures) _ _ _ _ _ _ c.serve.ensures f t q a h
+
+pub returns-clause-refuses_source : goal.returns-clause-refuses_source
+returns-clause-refuses_source g c = λ f t q fault a h. refuses_source_lem (laws_of c.projects_have_no_fault.ensures c.projects_are_alike.ensures c.outcomes_are_one.ensures) _ _ _ _ _ _ c.serve.ensures f t q a fault h
+
+pub returns-clause-refuses_unit : goal.returns-clause-refuses_unit
+returns-clause-refuses_unit g c = λ f t q a h. refuses_unit_lem (laws_of c.projects_have_no_fault.ensures c.projects_are_alike.ensures c.outcomes_are_one.ensures) _ _ _ _ _ _ c.serve.ensures f t q a h
+
+pub returns-clause-gives_tokens : goal.returns-clause-gives_tokens
+returns-clause-gives_tokens g c = λ f t q tokens a h. gives_tokens_lem (laws_of c.projects_have_no_fault.ensures c.projects_are_alike.ensures c.outcomes_are_one.ensures) _ _ _ _ _ _ c.serve.ensures f t q a tokens h
+
+pub returns-clause-prints_tokens : goal.returns-clause-prints_tokens
+returns-clause-prints_tokens g c = λ e t k q a. prints_tokens_lem _ _ _ _ _ _ c.serve.ensures q a e t k
+
+pub returns-clause-prints_refusal : goal.returns-clause-prints_refusal
+returns-clause-prints_refusal g c = λ e t k q a. prints_refusal_lem _ _ _ _ _ _ c.serve.ensures q a e t k
+
+pub returns-clause-prints_source_fault : goal.returns-clause-prints_source_fault
+returns-clause-prints_source_fault g c = λ e t k q a. prints_source_fault_lem _ _ _ _ _ _ c.serve.ensures q a e t k
+
+pub returns-clause-absent_source : goal.returns-clause-absent_source
+returns-clause-absent_source g c = λ e t q a. absent_source_lem _ _ _ _ _ _ c.serve.ensures q a (g.met.S.Store.room_is_told c.args.store.now) e t
+
+pub returns-clause-sure_tokens : goal.returns-clause-sure_tokens
+returns-clause-sure_tokens g c = λ t k q a h r. sure_tokens_lem _ _ _ _ _ _ c.serve.ensures q a (g.met.S.Store.room_is_told c.args.store.now) t k h r
+
+pub returns-clause-prints_place : goal.returns-clause-prints_place
+returns-clause-prints_place g c = prints_place_lem _ _ _ _ _ _ c.serve.ensures

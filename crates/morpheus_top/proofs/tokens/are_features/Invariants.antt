@@ -1,0 +1,9 @@
+use Rattle.std.proofs.Common.{◌≡◌, map, drop}
+use Rattle.std.specs.String.{string_bytes}
+use Rattle.morpheus_top.specs.Tokens.{are_features}
+use Rattle.morpheus_top.proofs.tokens.are_features.Given as goal
+
+abbrev pub invariant-loop-name : goal.invariant-loop-name
+invariant-loop-name l =
+    are_features (map string_bytes l.features) (map (λ n. n.items) (drop l.name-index l.names))
+    ≡ are_features (map string_bytes l.features) (map (λ n. n.items) l.names)

@@ -1,0 +1,9 @@
+use Rattle.std.proofs.Common.{subst}
+use Rattle.morpheus_top.specs.Quick.{AsksFor}
+use Rattle.morpheus_top.proofs.top.carried_out.Goals as goal
+
+pub returns-in-Quick : goal.returns-in-Quick
+returns-in-Quick g c = λ words a. c.quick.ensures words (subst (AsksFor words) c.in-Quick.is a)
+
+pub returns-in-Admit : goal.returns-in-Admit
+returns-in-Admit g c = λ words a. c.admit.ensures words (subst (AsksFor words) c.in-Admit.is a)

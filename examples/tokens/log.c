@@ -1,0 +1,5 @@
+#include "print.h"
+
+void log_greeting(void) {
+  PRINT(10);
+}
