@@ -1,0 +1,10 @@
+pub mod Terminals
+pub mod Spellings
+pub mod Trees
+pub mod TreeLaws
+pub mod Grammar
+pub mod Heights
+pub mod Units
+pub mod Places
+pub mod Machine
+pub mod ReadingLaws
