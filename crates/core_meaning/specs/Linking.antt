@@ -24,17 +24,26 @@ pub record Unit : Type 0 where
   pub names : Table FileName
   pub order : List (List ℕ)
   pub defined : List Defined
-  pub bindings : List Binding
+  -- whether an expression uses a name of file scope
+  pub uses : List ℕ → Bool
 
 -- all units, and their structs
 pub record Units : Type 0 where
   pub units : List Unit
   pub structs : List Struct
 
--- a unit with the identifiers that it binds
+abbrev pub is_use_of : List ℕ → Entity → Bool
+is_use_of name (file_entity used) = bytes_eq used name
+is_use_of name other = false
+
+-- whether the bindings use a name of file scope in an expression
+abbrev pub uses_in : List Binding → List ℕ → Bool
+uses_in bindings name = list_any (λ b. b.in_expression && is_use_of name b.entity) bindings
+
+-- a unit with the names that it uses
 abbrev pub closed : Checked UnitState → Checked Units
 closed (fine state bindings) = give (record {
-  units = record { names = state.scope.file_names; order = state.scope.order; defined = state.defined; bindings = bindings } ∷ [];
+  units = record { names = state.scope.file_names; order = state.scope.order; defined = state.defined; uses = uses_in bindings } ∷ [];
   structs = state.scope.structs;
 })
 closed (refused kind token) = refused kind token
@@ -91,14 +100,6 @@ built_in_signature Exit = record { result = void; parameters = int ∷ [] }
 
 -- ---- what doesn't link
 
-abbrev pub is_use_of : List ℕ → Entity → Bool
-is_use_of name (file_entity used) = bytes_eq used name
-is_use_of name other = false
-
--- an expression of the unit uses the name of file scope
-abbrev pub uses_name : Unit → List ℕ → Bool
-uses_name unit name = list_any (λ b. b.in_expression && is_use_of name b.entity) unit.bindings
-
 abbrev pub is_available : List Unit → Unit → List ℕ → Bool
 is_available units unit name =
     if is_internal unit name then defines unit name
@@ -149,7 +150,7 @@ pub record AreApart (linked : Units) (name : List ℕ) : Type 0 where
 -- what is wrong with a name
 abbrev pub IsFault : Units → LinkKind → List ℕ → Type 0
 IsFault linked link.NoMain name = (name ≡ codes "main") × IsTrue (not (list_any defines_main linked.units))
-IsFault linked link.Undefined name = IsTrue (list_any (λ unit. uses_name unit name && not (is_available linked.units unit name)) linked.units)
+IsFault linked link.Undefined name = IsTrue (list_any (λ unit. unit.uses name && not (is_available linked.units unit name)) linked.units)
 IsFault linked link.Duplicate name = IsTrue (is_duplicate linked.units name)
 IsFault linked link.Incompatible name = AreApart linked name
 
@@ -224,9 +225,14 @@ abbrev pub place_where : {A : Type 0} → (A → Bool) → List A → Option ℕ
 place_where test [] = None
 place_where test (first ∷ rest) = if test first then Some 0 else option_map (λ n. n + 1) (place_where test rest)
 
-abbrev pub number_in : List Linked → ℕ → Option Unit → List ℕ → Option ℕ
-number_in known index None name = None
-number_in known index (Some unit) name = place_where (same_linked (linked_in index unit name)) known
+-- a unit has the name in its list of those that are wanted
+abbrev pub lists : List Unit → Bool → Unit → List ℕ → Bool
+lists units functions unit name = list_any (bytes_eq name) (filter (is_wanted units functions unit) unit.order)
+
+abbrev pub number_in : List Unit → Bool → ℕ → Option Unit → List ℕ → Option ℕ
+number_in units functions index None name = None
+number_in units functions index (Some unit) name =
+    if lists units functions unit name then place_where (same_linked (linked_in index unit name)) (listed units functions) else None
 
 -- ---- texts
 
@@ -262,8 +268,8 @@ no_numbers index = record { globals = no_entry; functions = no_entry; literals =
 
 abbrev pub numbers_in : List Unit → List (List ℕ) → ℕ → Numbers
 numbers_in units literals index = record {
-  globals = number_in (listed units false) index (slice_get units index);
-  functions = number_in (listed units true) index (slice_get units index);
+  globals = number_in units false index (slice_get units index);
+  functions = number_in units true index (slice_get units index);
   literals = λ bytes. place_where (bytes_eq bytes) literals;
 }
 

@@ -8,9 +8,10 @@ use Rattle.c_tree.specs.declared.kinds.Kind.TheVariants as k
 use Rattle.c_tree.specs.declared.terminals.Terminal.TheVariants as t
 use Rattle.c_tree.specs.Trees.{PlainTree, PlainTrees, leaf, node, none, more}
 use Rattle.c_tree.specs.Grammar.{is_word}
+use Rattle.core_meaning.specs.declared.refusals.TypeKind.{TypeKind}
 use Rattle.core_meaning.specs.declared.refusals.TypeKind.TheVariants.{Redeclared, BadOperand, Incomplete}
 use Rattle.core_meaning.specs.Program.{PlainItems, no_item, PlainConstantPart}
-use Rattle.core_meaning.specs.Checking.{file_entity, member_entity, Checked, refused, broken, ◌>>=◌, give, unless_so, declares, in_function, or_broken}
+use Rattle.core_meaning.specs.Checking.{file_entity, member_entity, Checked, fine, refused, broken, ◌>>=◌, give, unless_so, declares, in_function, or_broken}
 use Rattle.c_types.specs.Tags.{PlainMember}
 use Rattle.core_meaning.specs.Entities.{Table, no_entry, with_entry, Struct, Signature, Sort, variable, function, FileName, Numbers, Scope}
 use Rattle.core_meaning.specs.Typing.{same_type, is_complete}
@@ -227,6 +228,16 @@ with_parameters scope slot (p ∷ rest) = with_parameters (with_parameter scope 
 abbrev pub is_result : Scope → PlainType → Bool
 is_result scope ty = is_void ty || is_complete scope.structs ty
 
+abbrev pub kind_or_incomplete : Checked Scope → TypeKind
+kind_or_incomplete (refused kind token) = kind
+kind_or_incomplete other = Incomplete
+
+-- Where the result isn't complete, another declaration of the name is refused first, as both stand at the name.
+abbrev pub result_kind : Scope → Storage → PlainType → PlainToken → Checked (List Parameter) → TypeKind
+result_kind scope storage result name (fine parameters bindings) =
+    kind_or_incomplete (with_name scope name (function (signature_of result parameters)) storage)
+result_kind scope storage result name other = Incomplete
+
 abbrev pub judged_body : Scope → PlainType → List PlainType → PlainTree → Checked JudgedItems
 judged_body scope result slots (node kind (more brace (more (node k.Items items) (more last none)))) =
     judged_items (record { scope = scope; result = result; in_loop = false }) slots items
@@ -249,7 +260,7 @@ count_functions (d ∷ rest) = (if is_function_body d.body then 1 else 0) + coun
 abbrev pub defined_function : UnitState → Storage → PlainType → PlainTrees → PlainToken → PlainTree → Checked UnitState
 defined_function unit storage ty parts name body = do
   bound ← declares (file_entity name.text)
-  fits ← unless_so (is_result unit.scope (starred parts ty)) Incomplete name
+  fits ← unless_so (is_result unit.scope (starred parts ty)) (result_kind unit.scope storage (starred parts ty) name (parameters_of true unit.scope (behind_word t.OpenParenthesis parts) name)) name
   parameters ← parameters_of true unit.scope (behind_word t.OpenParenthesis parts) name
   scope ← with_name unit.scope name (function (signature_of (starred parts ty) parameters)) storage
   items ← judged_body (with_parameters (with_block scope) 0 parameters) (starred parts ty) (parameter_types parameters) body
