@@ -6,7 +6,7 @@ mod escapes;
 mod numbers;
 mod quoted;
 
-pub use numbers::{is_integer, is_unsigned, number_value};
+pub use numbers::{is_decimal, is_integer, is_long, is_unsigned, number_value};
 pub use quoted::{is_character, is_text, quoted_values};
 
 #[cfg(test)]

@@ -109,6 +109,32 @@ pub fn is_unsigned(text: &[u8]) -> bool
     has_unsigned_letter(suffix_of(text))
 }
 
+fn is_long_letter(byte: u8) -> bool
+    ensures { result ≡ spec.is_one_of (codes "lL") byte }
+{
+    b"lL".contains(&byte)
+}
+
+fn has_long_letter(suffix: &[u8]) -> bool
+    ensures { result ≡ list_any (spec.is_one_of (codes "lL")) suffix.now }
+{
+    suffix.iter().any(|byte| is_long_letter(*byte))
+}
+
+/// Whether a number has `l` or `L` in its suffix.
+pub fn is_long(text: &[u8]) -> bool
+    ensures { result ≡ list_any (spec.is_one_of (codes "lL")) (spec.suffix_of text.now) }
+{
+    has_long_letter(suffix_of(text))
+}
+
+/// Whether a number is decimal.
+pub fn is_decimal(text: &[u8]) -> bool
+    ensures { result ≡ ((spec.digits_of text.now).base == 10) }
+{
+    digits_of(text).base == 10
+}
+
 /// The value of a number that the engine reads; `None` from 2^64 on. Of other bytes the contract says what is given.
 pub fn number_value(text: &[u8]) -> Option<u64>
     ensures { MatchOption result (2 ^ 64 ≤ spec.number_value text.now) (λ v. v ≡ spec.number_value text.now) }
