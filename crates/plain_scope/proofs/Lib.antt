@@ -1,0 +1,2 @@
+pub mod TypeFacts
+pub mod NameLemmas

@@ -1,0 +1,6 @@
+pub mod PlainScope
+pub mod PlainTypes
+pub mod Parts
+pub mod Judgements
+pub mod JudgementLaws
+pub mod Blocks
