@@ -1,0 +1,2 @@
+pub mod OperatorFacts
+pub mod MemberFacts

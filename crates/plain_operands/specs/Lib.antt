@@ -1,0 +1,3 @@
+pub mod PlainOperands
+pub mod Values
+pub mod Operators

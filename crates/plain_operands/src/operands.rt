@@ -1,0 +1,196 @@
+//! What expressions designate, and their values (6.3.2.1).
+ghost use Rattle.std.specs.Prelude.{◌≡◌, true, false, pos, IfOk, Some, option_map};
+ghost use Rattle.c_text.specs.Token.{plain_token};
+ghost use Rattle.c_types.specs.Types.{plain_type};
+ghost use Rattle.core_meaning.specs.Plain.{plain_expression, plain_place};
+ghost use Rattle.core_meaning.specs.Checking.{found_or};
+ghost use Rattle.core_meaning.specs.Typing as spec;
+ghost use Rattle.plain_scope.specs.PlainScope.{plain_scope};
+ghost use Rattle.plain_operands.specs.PlainOperands.{plain_operand, plain_typed};
+ghost use Rattle.plain_scope.specs.Judgements.{Answers};
+ghost use Rattle.plain_operands.specs.Values.{load_object, read_object};
+
+use c_text::Token;
+use c_types::CType;
+use cond_formula::NoMemory;
+use core_meaning::{Expression, Place, TypeKind};
+use plain_scope::{
+    ElabError, Scope, integer_type, is_integer, is_pointer, is_struct, refused, same_type, unless,
+};
+use std::alloc::Global;
+
+#[derive(Drop)]
+pub enum Designation {
+    Value(Expression),
+    /// An object or a part of one, and whether it may be assigned to and pointed at.
+    Object(Place, bool),
+}
+
+#[derive(Drop)]
+pub struct Operand<'t> {
+    pub ty: CType,
+    pub designates: Designation,
+    /// It is the null constant: a number of value 0, perhaps in parentheses.
+    pub is_null: bool,
+    /// Where it is refused if its value is needed and its type isn't complete.
+    pub stands_at: &'t Token,
+}
+
+/// An expression by its value.
+#[derive(Drop)]
+pub struct Typed {
+    pub ty: CType,
+    pub core: Expression,
+    pub is_null: bool,
+}
+
+pub fn of_value(token: &Token, ty: CType, core: Expression) -> Operand<'_>
+    ensures { plain_operand result ≡ spec.of_value (plain_token token.now) (plain_type ty) (plain_expression core) }
+{
+    Operand {
+        ty,
+        designates: Designation::Value(core),
+        is_null: false,
+        stands_at: token,
+    }
+}
+
+pub fn of_object(token: &Token, ty: CType, place: Place, free: bool) -> Operand<'_>
+    ensures { plain_operand result ≡ spec.of_object (plain_token token.now) (plain_type ty) (plain_place place) free }
+{
+    Operand {
+        ty,
+        designates: Designation::Object(place, free),
+        is_null: false,
+        stands_at: token,
+    }
+}
+
+pub fn typed_value(ty: CType, core: Expression) -> Typed
+    ensures { plain_typed result ≡ spec.typed (plain_type ty) (plain_expression core) }
+{
+    Typed {
+        ty,
+        core,
+        is_null: false,
+    }
+}
+
+/// What a pointer to `void` points to has no value.
+#[tactic(auto, using(core_meaning::specs::PlainLaws::expression_kinds))]
+fn nothing_of(alloc: Global, place: Place) -> Result<Expression, NoMemory>
+    ensures { IfOk result (λ e. plain_expression e ≡ spec.nothing_of (plain_place place)) }
+{
+    match place {
+        Place::Target(pointer) => Ok(Expression::Discard(pointer)),
+        Place::Slot(_)
+        | Place::Global(_)
+        | Place::Literal(_)
+        | Place::Member(..)
+        | Place::Temporary(..) => {
+            let read = Expression::Read(Box::new(alloc, place)?);
+            Ok(Expression::Discard(Box::new(alloc, read)?))
+        }
+    }
+}
+
+#[tactic(auto, using(core_meaning::specs::PlainLaws::expression_kinds))]
+fn read_from(
+    alloc: Global,
+    scope: &Scope,
+    ty: CType,
+    place: Place,
+    at: &Token,
+) -> Result<Typed, ElabError>
+    ensures { Answers (read_object (plain_scope scope.now).structs (plain_type ty) (plain_place place) (plain_token at.now)) plain_typed result }
+{
+    unless(scope.is_complete(&ty), TypeKind::Incomplete, at)?;
+    Ok(typed_value(ty, Expression::Read(Box::new(alloc, place)?)))
+}
+
+#[tactic(auto, using(core_meaning::specs::PlainLaws::expression_kinds, c_types::specs::TypeLaws::type_kinds))]
+fn loaded_object(
+    alloc: Global,
+    scope: &Scope,
+    ty: CType,
+    place: Place,
+    at: &Token,
+) -> Result<Typed, ElabError>
+    ensures { Answers (load_object (plain_scope scope.now).structs (plain_type ty) (plain_place place) (plain_token at.now)) plain_typed result }
+{
+    match ty {
+        CType::Array(element, _) => Ok(typed_value(
+            CType::Pointer(element),
+            Expression::FirstElement(Box::new(alloc, place)?),
+        )),
+        CType::Void => Ok(typed_value(CType::Void, nothing_of(alloc, place)?)),
+        CType::Char
+        | CType::UChar
+        | CType::Int
+        | CType::UInt
+        | CType::Long
+        | CType::ULong
+        | CType::Pointer(_)
+        | CType::Struct(_) => read_from(alloc, scope, ty, place, at),
+    }
+}
+
+/// The value of what an expression designates: that of an array is a pointer to its first element.
+pub fn loaded(alloc: Global, scope: &Scope, operand: Operand) -> Result<Typed, ElabError>
+    ensures { Answers (spec.loaded (plain_scope scope.now) (plain_operand operand.entry)) plain_typed result }
+{
+    let Operand {
+        ty,
+        designates,
+        is_null,
+        stands_at,
+    } = operand;
+    match designates {
+        Designation::Value(core) => Ok(Typed { ty, core, is_null }),
+        Designation::Object(place, _) => loaded_object(alloc, scope, ty, place, stands_at),
+    }
+}
+
+/// A number in another type; nothing is written out where the types are the same.
+#[tactic(auto, using(core_meaning::specs::PlainLaws::expression_kinds))]
+pub fn in_type(alloc: Global, ty: &CType, x: Typed) -> Result<Expression, NoMemory>
+    ensures { IfOk result (λ e. plain_expression e ≡ spec.in_type (plain_type ty.now) (plain_typed x)) }
+{
+    if same_type(ty, &x.ty) {
+        Ok(x.core)
+    } else {
+        Ok(Expression::Convert(integer_type(ty), Box::new(alloc, x.core)?))
+    }
+}
+
+/// A value as one of another type, where it may be assigned, passed or returned as one (6.5.16.1).
+#[tactic(auto, using(core_meaning::specs::PlainLaws::expression_kinds))]
+pub fn fits_into(alloc: Global, ty: &CType, x: Typed) -> Result<Option<Expression>, NoMemory>
+    ensures { IfOk result (λ core. option_map plain_expression core ≡ spec.fits_into (plain_type ty.now) (plain_typed x)) }
+{
+    if is_integer(ty) && is_integer(&x.ty) {
+        Ok(Some(in_type(alloc, ty, x)?))
+    } else if is_pointer(ty) && x.is_null {
+        Ok(Some(Expression::Null))
+    } else if (is_pointer(ty) || is_struct(ty)) && same_type(ty, &x.ty) {
+        Ok(Some(x.core))
+    } else {
+        Ok(None)
+    }
+}
+
+/// The same, refused at a token where it doesn't fit.
+pub fn fitted(
+    alloc: Global,
+    ty: &CType,
+    x: Typed,
+    kind: TypeKind,
+    at: &Token,
+) -> Result<Expression, ElabError>
+    ensures { Answers (found_or (spec.fits_into (plain_type ty.now) (plain_typed x)) kind (plain_token at.now)) plain_expression result }
+{
+    match fits_into(alloc, ty, x)? {
+        Some(core) => Ok(core),
+        None => Err(refused(kind, at)),
+    }
+}
