@@ -1,0 +1,8 @@
+pub mod TextFacts
+pub mod Shapes
+pub mod Bindings
+pub mod NodeLaws
+pub mod Answering
+pub mod ArgumentLaws
+pub mod ConstantLaws
+pub mod SizeLaws

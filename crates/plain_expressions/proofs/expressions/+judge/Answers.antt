@@ -1,0 +1,418 @@
+-- Expressions, each kind of node from what its parts are judged as.
+use Rattle.std.proofs.Common.{◌≡◌, ℕ, ◌+◌, ◌*◌, ◌==◌, List, true, Vec, Global, get_or, map, drop, length, refl, sym, ap, subst, ◌∙◌, arith}
+use Rattle.std.proofs.lemmas.List.{length-map}
+use Rattle.c_types.specs.declared.types.CType.{CType}
+use Rattle.c_types.specs.Types.{plain_type}
+use Rattle.c_tree.specs.declared.trees.Tree.{Tree}
+use Rattle.c_tree.specs.TreeLaws.{plain_tree-Node}
+use Rattle.core_meaning.specs.declared.expressions.Expression.{Expression}
+use Rattle.core_meaning.specs.Program.{PlainExpression}
+use Rattle.plain_expressions.specs.Continuing.{Continues}
+use Rattle.plain_expressions.proofs.ArgumentLaws.{from, step_at, refused_at, end_at, continues_none}
+use Rattle.c_text.specs.Token.{plain_token}
+use Rattle.c_tree.specs.declared.kinds.Kind.TheVariants as k
+use Rattle.c_tree.specs.Trees.{PlainTree, node, leaf, more, none, plain_tree, plain_trees}
+use Rattle.core_meaning.specs.Plain.{plain_expression, plain_arguments}
+use Rattle.core_meaning.specs.Checking.{Checked, ◌>>=◌, give}
+use Rattle.core_meaning.specs.Typing.{Typed, Operand}
+use Rattle.core_meaning.specs.Expressions.{judged, valued, judged_condition, judged_arguments, count_entries, chosen, cast_to, arithmetic_words}
+use Rattle.plain_scope.specs.PlainScope.{plain_scope, uses_of}
+use Rattle.plain_scope.specs.Judgements.{Gives}
+use Rattle.plain_scope.specs.JudgementLaws.{gives_then, refused_first}
+use Rattle.plain_operands.specs.PlainOperands.{plain_operand, plain_typed}
+use Rattle.plain_expressions.specs.PlainSteps.{plain_two, plain_callee, plain_left}
+use Rattle.plain_expressions.specs.Steps.{both, two_values, two_in, on_two, written_object, assigned_to, assigned_in, cast_value, on_operand, called_by, called_with, not_called, call_of, is_list}
+use Rattle.plain_expressions.proofs.Answering.{judges_as, passed_on, gives_as, refused_as, refused_behind, gives_last}
+use Rattle.plain_expressions.proofs.Shapes.{two_parts, three_parts, three_first, three_around, three_inside, four_but_third, four_but_last, five_but_fourth}
+use Rattle.plain_expressions.proofs.NodeLaws.{between_law, index_law, behind_law, before_law, prefix_law, inner_law, selection_law, cast_law, assigned_law, conditional_law, call_law, list_law, called_gives, cast_shape}
+use Rattle.plain_expressions.proofs.expressions.+judge.Goals as goal
+
+pub two_values-returns-in_err-a : goal.two_values-returns-in_err-a
+two_values-returns-in_err-a t c =
+    let scope = plain_scope c.args.scope.now in
+    let first = plain_tree c.first-item.result in
+    let second = plain_tree c.second-item.result in
+    let shape = three_first c.args.parts.now c.first-item.result c.second-item.result c.in-len3-up.len_at_least c.first-item.is c.second-item.is in
+    passed_on (two_in scope (plain_trees c.args.parts.now)) plain_two c.args.used.now c.valued.new.used c.from_residual.result c.in_err-a.field-0.0 c.from_residual.ensures.1
+    (refused_as (two_in scope (plain_trees c.args.parts.now)) (two_values scope first second) c.in_err-a.field-0.0 (rw shape refl)
+    (refused_first (valued scope first) (λ a. valued scope second >>= (λ b. give (both a b))) c.in_err-a.field-0.0 c.in_err-a.ensures))
+
+pub two_values-returns-in_err-b : goal.two_values-returns-in_err-b
+two_values-returns-in_err-b t c =
+    let scope = plain_scope c.args.scope.now in
+    let first = plain_tree c.first-item.result in
+    let second = plain_tree c.second-item.result in
+    let shape = three_first c.args.parts.now c.first-item.result c.second-item.result c.in-len3-up.len_at_least c.first-item.is c.second-item.is in
+    let error = c.in_err-b.field-0.0 in
+    passed_on (two_in scope (plain_trees c.args.parts.now)) plain_two c.args.used.now c.valued-2.new.used c.from_residual-in_err-b.result error c.from_residual-in_err-b.ensures.1
+    (refused_as (two_in scope (plain_trees c.args.parts.now)) (two_values scope first second) error (rw shape refl)
+    (refused_behind (valued scope first) (λ a. valued scope second >>= (λ b. give (both a b))) (plain_typed c.in_ok-a.a) (uses_of c.args.used.now) (uses_of c.valued.new.used) error c.in_ok-a.ensures
+    (refused_first (valued scope second) (λ b. give (both (plain_typed c.in_ok-a.a) b)) error c.in_err-b.ensures)))
+
+pub two_values-returns : goal.two_values-returns
+two_values-returns t c =
+    let scope = plain_scope c.args.scope.now in
+    let first = plain_tree c.first-item.result in
+    let second = plain_tree c.second-item.result in
+    let shape = three_first c.args.parts.now c.first-item.result c.second-item.result c.in-len3-up.len_at_least c.first-item.is c.second-item.is in
+    let a = plain_typed c.in_ok-a.a in
+    let b = plain_typed c.in_ok-b.b in
+    let two = both a b in
+    gives_as (two_in scope (plain_trees c.args.parts.now)) (two_values scope first second) two (uses_of c.args.used.now) (uses_of c.valued-2.new.used) (rw shape refl)
+    (gives_then (valued scope first) (λ x. valued scope second >>= (λ y. give (both x y))) a two (uses_of c.args.used.now) (uses_of c.valued.new.used) (uses_of c.valued-2.new.used) c.in_ok-a.ensures
+    (gives_last (valued scope second) (λ y. give (both a y)) b two (uses_of c.valued.new.used) (uses_of c.valued-2.new.used) c.in_ok-b.ensures refl))
+
+pub between-returns : goal.between-returns
+between-returns t c =
+    let scope = plain_scope c.args.scope.now in
+    let parts = c.args.parts.now in
+    let sign = c.sign-item.result in
+    judges_as (judged scope (node c.args.kind (plain_trees parts))) (on_two scope c.args.kind (plain_token c.in_ok-leaf.field-0.now) (plain_trees parts)) plain_operand c.args.used.now c.on_two.new.used c.on_two.result
+    (between_law scope c.args.kind (plain_token c.in_ok-leaf.field-0.now) (plain_trees parts) (plain_tree (get_or parts 0 sign)) (plain_tree sign) (plain_tree (get_or parts 2 sign)) c.requires (three_inside parts sign c.in-len3.len_at_least c.in-len3.len_below c.sign-item.is) c.in_ok-leaf.ensures)
+    c.on_two.ensures
+
+pub node_of_three-returns-in-Parenthesized : goal.node_of_three-returns-in-Parenthesized
+node_of_three-returns-in-Parenthesized t c =
+    let scope = plain_scope c.args.scope.now in
+    let parts = c.args.parts.now in
+    let shape = three_parts parts c.first-item.result c.second-item.result c.third-item.result c.in-len3.len_at_least c.in-len3.len_below c.first-item.is c.second-item.is c.third-item.is in
+    judges_as (judged scope (node c.args.kind (plain_trees parts))) (judged scope (plain_tree c.second-item.result)) plain_operand c.args.used.now c.judged.new.used c.judged.result
+    (ap (λ kind. judged scope (node kind (plain_trees parts))) c.in-Parenthesized.is ∙ inner_law scope (plain_trees parts) (plain_tree c.first-item.result) (plain_tree c.second-item.result) (plain_tree c.third-item.result) shape)
+    c.judged.ensures
+
+pub node_of_three-returns-in_ok-leaf-in-Selection-2 : goal.node_of_three-returns-in_ok-leaf-in-Selection-2
+node_of_three-returns-in_ok-leaf-in-Selection-2 t c =
+    let scope = plain_scope c.args.scope.now in
+    let parts = c.args.parts.now in
+    judges_as (judged scope (node c.args.kind (plain_trees parts))) (judged scope (node k.Selection (more (plain_tree c.first-item.result) (more (leaf (plain_token c.in_ok-leaf-in-Selection.field-0.now)) (more (leaf (plain_token c.in_ok-leaf-in-Selection-2.field-0.now)) none))))) plain_operand c.args.used.now c.selection.new.used c.selection.result
+    (ap (λ kind. judged scope (node kind (plain_trees parts))) c.in-Selection.is ∙ selection_law scope (plain_token c.in_ok-leaf-in-Selection.field-0.now) (plain_token c.in_ok-leaf-in-Selection-2.field-0.now) (plain_trees parts) (plain_tree c.first-item.result) (plain_tree c.second-item.result) (plain_tree c.third-item.result) (three_parts parts c.first-item.result c.second-item.result c.third-item.result c.in-len3.len_at_least c.in-len3.len_below c.first-item.is c.second-item.is c.third-item.is) c.in_ok-leaf-in-Selection.ensures c.in_ok-leaf-in-Selection-2.ensures)
+    c.selection.ensures
+
+pub node_of_three-returns-in_ok-leaf-in-Assignment : goal.node_of_three-returns-in_ok-leaf-in-Assignment
+node_of_three-returns-in_ok-leaf-in-Assignment t c =
+    let scope = plain_scope c.args.scope.now in
+    let parts = c.args.parts.now in
+    judges_as (judged scope (node c.args.kind (plain_trees parts))) (assigned_in scope (plain_token c.in_ok-leaf-in-Assignment.field-0.now) (plain_trees parts)) plain_operand c.args.used.now c.assigned.new.used c.assigned.result
+    (ap (λ kind. judged scope (node kind (plain_trees parts))) c.in-Assignment.is ∙ assigned_law scope (plain_token c.in_ok-leaf-in-Assignment.field-0.now) (plain_trees parts) (plain_tree c.first-item.result) (plain_tree c.second-item.result) (plain_tree c.third-item.result) (three_parts parts c.first-item.result c.second-item.result c.third-item.result c.in-len3.len_at_least c.in-len3.len_below c.first-item.is c.second-item.is c.third-item.is) c.in_ok-leaf-in-Assignment.ensures)
+    c.assigned.ensures
+
+pub node_of_four-returns-in_ok-leaf-in-Cast : goal.node_of_four-returns-in_ok-leaf-in-Cast
+node_of_four-returns-in_ok-leaf-in-Cast t c =
+    let scope = plain_scope c.args.scope.now in
+    let parts = c.args.parts.now in
+    judges_as (judged scope (node c.args.kind (plain_trees parts))) (cast_value scope (plain_token c.in_ok-leaf-in-Cast.field-0.now) (plain_tree c.second-item.result) (plain_tree c.fourth-item.result)) plain_operand c.args.used.now c.cast.new.used c.cast.result
+    (ap (λ kind. judged scope (node kind (plain_trees parts))) c.in-Cast.is ∙ cast_law scope (plain_token c.in_ok-leaf-in-Cast.field-0.now) (plain_trees parts) (plain_tree c.first-item.result) (plain_tree c.second-item.result) (plain_tree (get_or parts 2 c.first-item.result)) (plain_tree c.fourth-item.result) (four_but_third parts c.first-item.result c.second-item.result c.fourth-item.result c.in-len4.len_at_least c.in-len4.len_below c.first-item.is c.second-item.is c.fourth-item.is) c.in_ok-leaf-in-Cast.ensures)
+    c.cast.ensures
+
+pub node_of_four-returns-in_ok-leaf-in-Index : goal.node_of_four-returns-in_ok-leaf-in-Index
+node_of_four-returns-in_ok-leaf-in-Index t c =
+    let scope = plain_scope c.args.scope.now in
+    let parts = c.args.parts.now in
+    judges_as (judged scope (node c.args.kind (plain_trees parts))) (on_two scope c.args.kind (plain_token c.in_ok-leaf-in-Index.field-0.now) (plain_trees parts)) plain_operand c.args.used.now c.on_two.new.used c.on_two.result
+    (ap (λ kind. judged scope (node kind (plain_trees parts))) c.in-Index.is ∙ index_law scope (plain_token c.in_ok-leaf-in-Index.field-0.now) (plain_trees parts) (plain_tree c.first-item.result) (plain_tree c.second-item.result) (plain_tree (get_or parts 2 c.first-item.result)) (plain_tree c.fourth-item.result) (four_but_third parts c.first-item.result c.second-item.result c.fourth-item.result c.in-len4.len_at_least c.in-len4.len_below c.first-item.is c.second-item.is c.fourth-item.is) c.in_ok-leaf-in-Index.ensures ∙ sym (ap (λ kind. on_two scope kind (plain_token c.in_ok-leaf-in-Index.field-0.now) (plain_trees parts)) c.in-Index.is))
+    c.on_two.ensures
+
+pub node_of_two-returns-in_ok-leaf-in-PostfixStep : goal.node_of_two-returns-in_ok-leaf-in-PostfixStep
+node_of_two-returns-in_ok-leaf-in-PostfixStep t c =
+    let scope = plain_scope c.args.scope.now in
+    let parts = c.args.parts.now in
+    judges_as (judged scope (node c.args.kind (plain_trees parts))) (on_operand scope c.args.kind (plain_token c.in_ok-leaf-in-PostfixStep.field-0.now) (plain_tree c.first-item.result)) plain_operand c.args.used.now c.on_operand.new.used c.on_operand.result
+    (ap (λ kind. judged scope (node kind (plain_trees parts))) c.in-PostfixStep.is ∙ behind_law scope (plain_token c.in_ok-leaf-in-PostfixStep.field-0.now) (plain_trees parts) (plain_tree c.first-item.result) (plain_tree c.second-item.result) (two_parts parts c.first-item.result c.second-item.result c.in-len2.len_at_least c.in-len2.len_below c.first-item.is c.second-item.is) c.in_ok-leaf-in-PostfixStep.ensures ∙ sym (ap (λ kind. on_operand scope kind (plain_token c.in_ok-leaf-in-PostfixStep.field-0.now) (plain_tree c.first-item.result)) c.in-PostfixStep.is))
+    c.on_operand.ensures
+
+pub node_of_two-returns-in_ok-leaf-in-PrefixStep : goal.node_of_two-returns-in_ok-leaf-in-PrefixStep
+node_of_two-returns-in_ok-leaf-in-PrefixStep t c =
+    let scope = plain_scope c.args.scope.now in
+    let parts = c.args.parts.now in
+    judges_as (judged scope (node c.args.kind (plain_trees parts))) (on_operand scope c.args.kind (plain_token c.in_ok-leaf-in-PrefixStep.field-0.now) (plain_tree c.second-item.result)) plain_operand c.args.used.now c.on_operand-in-PrefixStep.new.used c.on_operand-in-PrefixStep.result
+    (ap (λ kind. judged scope (node kind (plain_trees parts))) c.in-PrefixStep.is ∙ before_law scope (plain_token c.in_ok-leaf-in-PrefixStep.field-0.now) (plain_trees parts) (plain_tree c.first-item.result) (plain_tree c.second-item.result) (two_parts parts c.first-item.result c.second-item.result c.in-len2.len_at_least c.in-len2.len_below c.first-item.is c.second-item.is) c.in_ok-leaf-in-PrefixStep.ensures ∙ sym (ap (λ kind. on_operand scope kind (plain_token c.in_ok-leaf-in-PrefixStep.field-0.now) (plain_tree c.second-item.result)) c.in-PrefixStep.is))
+    c.on_operand-in-PrefixStep.ensures
+
+pub node_of_two-returns-in_ok-leaf-in-Prefix : goal.node_of_two-returns-in_ok-leaf-in-Prefix
+node_of_two-returns-in_ok-leaf-in-Prefix t c =
+    let scope = plain_scope c.args.scope.now in
+    let parts = c.args.parts.now in
+    judges_as (judged scope (node c.args.kind (plain_trees parts))) (on_operand scope c.args.kind (plain_token c.in_ok-leaf-in-Prefix.field-0.now) (plain_tree c.second-item.result)) plain_operand c.args.used.now c.on_operand-in-Prefix.new.used c.on_operand-in-Prefix.result
+    (ap (λ kind. judged scope (node kind (plain_trees parts))) c.in-Prefix.is ∙ prefix_law scope (plain_token c.in_ok-leaf-in-Prefix.field-0.now) (plain_trees parts) (plain_tree c.first-item.result) (plain_tree c.second-item.result) (two_parts parts c.first-item.result c.second-item.result c.in-len2.len_at_least c.in-len2.len_below c.first-item.is c.second-item.is) c.in_ok-leaf-in-Prefix.ensures ∙ sym (ap (λ kind. on_operand scope kind (plain_token c.in_ok-leaf-in-Prefix.field-0.now) (plain_tree c.second-item.result)) c.in-Prefix.is))
+    c.on_operand-in-Prefix.ensures
+
+pub assigned-returns-in_err-left : goal.assigned-returns-in_err-left
+assigned-returns-in_err-left t c =
+    let scope = plain_scope c.args.scope.now in
+    let parts = c.args.parts.now in
+    let sign = plain_token c.args.sign.now in
+    let first = plain_tree c.first-item.result in
+    let second = plain_tree c.second-item.result in
+    let whole = assigned_in scope sign (plain_trees parts) in
+    let chain = written_object scope first sign >>= (λ l. valued scope second >>= assigned_to scope sign l) in
+    let is : whole ≡ chain = ap (assigned_in scope sign) (three_around parts c.first-item.result c.second-item.result c.in-len3.len_at_least c.in-len3.len_below c.first-item.is c.second-item.is) in
+    let error = c.in_err-left.field-0.0 in
+    passed_on whole plain_operand c.args.used.now c.written.new.used c.from_residual.result error c.from_residual.ensures.1
+    (refused_as whole chain error is (refused_first (written_object scope first sign) (λ l. valued scope second >>= assigned_to scope sign l) error c.in_err-left.ensures))
+
+pub assigned-returns-in_err-right : goal.assigned-returns-in_err-right
+assigned-returns-in_err-right t c =
+    let scope = plain_scope c.args.scope.now in
+    let parts = c.args.parts.now in
+    let sign = plain_token c.args.sign.now in
+    let first = plain_tree c.first-item.result in
+    let second = plain_tree c.second-item.result in
+    let whole = assigned_in scope sign (plain_trees parts) in
+    let chain = written_object scope first sign >>= (λ l. valued scope second >>= assigned_to scope sign l) in
+    let is : whole ≡ chain = ap (assigned_in scope sign) (three_around parts c.first-item.result c.second-item.result c.in-len3.len_at_least c.in-len3.len_below c.first-item.is c.second-item.is) in
+    let error = c.in_err-right.field-0.0 in
+    let left = plain_left c.in_ok-left.left in
+    passed_on whole plain_operand c.args.used.now c.valued.new.used c.from_residual-in_err-right.result error c.from_residual-in_err-right.ensures.1
+    (refused_as whole chain error is (refused_behind (written_object scope first sign) (λ l. valued scope second >>= assigned_to scope sign l) left (uses_of c.args.used.now) (uses_of c.written.new.used) error c.in_ok-left.ensures
+    (refused_first (valued scope second) (assigned_to scope sign left) error c.in_err-right.ensures)))
+
+pub assigned-returns-in_err-x : goal.assigned-returns-in_err-x
+assigned-returns-in_err-x t c =
+    let scope = plain_scope c.args.scope.now in
+    let parts = c.args.parts.now in
+    let sign = plain_token c.args.sign.now in
+    let first = plain_tree c.first-item.result in
+    let second = plain_tree c.second-item.result in
+    let whole = assigned_in scope sign (plain_trees parts) in
+    let chain = written_object scope first sign >>= (λ l. valued scope second >>= assigned_to scope sign l) in
+    let is : whole ≡ chain = ap (assigned_in scope sign) (three_around parts c.first-item.result c.second-item.result c.in-len3.len_at_least c.in-len3.len_below c.first-item.is c.second-item.is) in
+    let error = c.in_err-x.field-0.0 in
+    let left = plain_left c.in_ok-left.left in
+    passed_on whole plain_operand c.args.used.now c.valued.new.used c.from_residual-in_err-x.result error c.from_residual-in_err-x.ensures.1
+    (refused_as whole chain error is (refused_behind (written_object scope first sign) (λ l. valued scope second >>= assigned_to scope sign l) left (uses_of c.args.used.now) (uses_of c.written.new.used) error c.in_ok-left.ensures
+    (refused_behind (valued scope second) (assigned_to scope sign left) (plain_typed c.in_ok-right.right) (uses_of c.written.new.used) (uses_of c.valued.new.used) error c.in_ok-right.ensures c.in_err-x.ensures)))
+
+pub assigned-returns : goal.assigned-returns
+assigned-returns t c =
+    let scope = plain_scope c.args.scope.now in
+    let parts = c.args.parts.now in
+    let sign = plain_token c.args.sign.now in
+    let first = plain_tree c.first-item.result in
+    let second = plain_tree c.second-item.result in
+    let whole = assigned_in scope sign (plain_trees parts) in
+    let chain = written_object scope first sign >>= (λ l. valued scope second >>= assigned_to scope sign l) in
+    let is : whole ≡ chain = ap (assigned_in scope sign) (three_around parts c.first-item.result c.second-item.result c.in-len3.len_at_least c.in-len3.len_below c.first-item.is c.second-item.is) in
+    let left = plain_left c.in_ok-left.left in
+    let x = plain_operand c.in_ok-x.x in
+    gives_as whole chain x (uses_of c.args.used.now) (uses_of c.valued.new.used) is
+    (gives_then (written_object scope first sign) (λ l. valued scope second >>= assigned_to scope sign l) left x (uses_of c.args.used.now) (uses_of c.written.new.used) (uses_of c.valued.new.used) c.in_ok-left.ensures
+    (gives_last (valued scope second) (assigned_to scope sign left) (plain_typed c.in_ok-right.right) x (uses_of c.written.new.used) (uses_of c.valued.new.used) c.in_ok-right.ensures c.in_ok-x.ensures))
+
+pub conditional-returns-in_err-tested : goal.conditional-returns-in_err-tested
+conditional-returns-in_err-tested t c =
+    let scope = plain_scope c.args.scope.now in
+    let parts = c.args.parts.now in
+    let question = plain_token c.in_ok-question.question.now in
+    let first = plain_tree c.first-item.result in
+    let second = plain_tree c.second-item.result in
+    let third = plain_tree c.third-item.result in
+    let whole = judged scope (node k.Conditional (plain_trees parts)) in
+    let from_a : PlainExpression → Typed → Checked Operand = λ e a. valued scope third >>= (λ b. chosen question e a b) in
+    let from_tested : PlainExpression → Checked Operand = λ e. valued scope second >>= from_a e in
+    let chain = judged_condition scope first question >>= from_tested in
+    let is : whole ≡ chain = conditional_law scope question (plain_trees parts) first (plain_tree c.question-item.result) second (plain_tree (get_or parts 3 c.first-item.result)) third (five_but_fourth parts c.first-item.result c.question-item.result c.second-item.result c.third-item.result c.in-len5.len_at_least c.in-len5.len_below c.first-item.is c.question-item.is c.second-item.is c.third-item.is) c.in_ok-question.ensures in
+    let error = c.in_err-tested.field-0.0 in
+    passed_on whole plain_operand c.args.used.now c.condition.new.used c.from_residual-in_err-tested.result error c.from_residual-in_err-tested.ensures.1
+    (refused_as whole chain error is (refused_first (judged_condition scope first question) from_tested error c.in_err-tested.ensures))
+
+pub conditional-returns-in_err-a : goal.conditional-returns-in_err-a
+conditional-returns-in_err-a t c =
+    let scope = plain_scope c.args.scope.now in
+    let parts = c.args.parts.now in
+    let question = plain_token c.in_ok-question.question.now in
+    let first = plain_tree c.first-item.result in
+    let second = plain_tree c.second-item.result in
+    let third = plain_tree c.third-item.result in
+    let whole = judged scope (node k.Conditional (plain_trees parts)) in
+    let from_a : PlainExpression → Typed → Checked Operand = λ e a. valued scope third >>= (λ b. chosen question e a b) in
+    let from_tested : PlainExpression → Checked Operand = λ e. valued scope second >>= from_a e in
+    let chain = judged_condition scope first question >>= from_tested in
+    let is : whole ≡ chain = conditional_law scope question (plain_trees parts) first (plain_tree c.question-item.result) second (plain_tree (get_or parts 3 c.first-item.result)) third (five_but_fourth parts c.first-item.result c.question-item.result c.second-item.result c.third-item.result c.in-len5.len_at_least c.in-len5.len_below c.first-item.is c.question-item.is c.second-item.is c.third-item.is) c.in_ok-question.ensures in
+    let error = c.in_err-a.field-0.0 in
+    let tested = plain_expression c.in_ok-tested.tested in
+    passed_on whole plain_operand c.args.used.now c.valued.new.used c.from_residual-in_err-a.result error c.from_residual-in_err-a.ensures.1
+    (refused_as whole chain error is (refused_behind (judged_condition scope first question) from_tested tested (uses_of c.args.used.now) (uses_of c.condition.new.used) error c.in_ok-tested.ensures (refused_first (valued scope second) (from_a tested) error c.in_err-a.ensures)))
+
+pub conditional-returns-in_err-b : goal.conditional-returns-in_err-b
+conditional-returns-in_err-b t c =
+    let scope = plain_scope c.args.scope.now in
+    let parts = c.args.parts.now in
+    let question = plain_token c.in_ok-question.question.now in
+    let first = plain_tree c.first-item.result in
+    let second = plain_tree c.second-item.result in
+    let third = plain_tree c.third-item.result in
+    let whole = judged scope (node k.Conditional (plain_trees parts)) in
+    let from_a : PlainExpression → Typed → Checked Operand = λ e a. valued scope third >>= (λ b. chosen question e a b) in
+    let from_tested : PlainExpression → Checked Operand = λ e. valued scope second >>= from_a e in
+    let chain = judged_condition scope first question >>= from_tested in
+    let is : whole ≡ chain = conditional_law scope question (plain_trees parts) first (plain_tree c.question-item.result) second (plain_tree (get_or parts 3 c.first-item.result)) third (five_but_fourth parts c.first-item.result c.question-item.result c.second-item.result c.third-item.result c.in-len5.len_at_least c.in-len5.len_below c.first-item.is c.question-item.is c.second-item.is c.third-item.is) c.in_ok-question.ensures in
+    let error = c.in_err-b.field-0.0 in
+    let tested = plain_expression c.in_ok-tested.tested in
+    let a = plain_typed c.in_ok-a.a in
+    passed_on whole plain_operand c.args.used.now c.valued-2.new.used c.from_residual-in_err-b.result error c.from_residual-in_err-b.ensures.1
+    (refused_as whole chain error is (refused_behind (judged_condition scope first question) from_tested tested (uses_of c.args.used.now) (uses_of c.condition.new.used) error c.in_ok-tested.ensures (refused_behind (valued scope second) (from_a tested) a (uses_of c.condition.new.used) (uses_of c.valued.new.used) error c.in_ok-a.ensures (refused_first (valued scope third) (λ b. chosen question tested a b) error c.in_err-b.ensures))))
+
+pub conditional-returns-in_err-x : goal.conditional-returns-in_err-x
+conditional-returns-in_err-x t c =
+    let scope = plain_scope c.args.scope.now in
+    let parts = c.args.parts.now in
+    let question = plain_token c.in_ok-question.question.now in
+    let first = plain_tree c.first-item.result in
+    let second = plain_tree c.second-item.result in
+    let third = plain_tree c.third-item.result in
+    let whole = judged scope (node k.Conditional (plain_trees parts)) in
+    let from_a : PlainExpression → Typed → Checked Operand = λ e a. valued scope third >>= (λ b. chosen question e a b) in
+    let from_tested : PlainExpression → Checked Operand = λ e. valued scope second >>= from_a e in
+    let chain = judged_condition scope first question >>= from_tested in
+    let is : whole ≡ chain = conditional_law scope question (plain_trees parts) first (plain_tree c.question-item.result) second (plain_tree (get_or parts 3 c.first-item.result)) third (five_but_fourth parts c.first-item.result c.question-item.result c.second-item.result c.third-item.result c.in-len5.len_at_least c.in-len5.len_below c.first-item.is c.question-item.is c.second-item.is c.third-item.is) c.in_ok-question.ensures in
+    let error = c.in_err-x.field-0.0 in
+    let tested = plain_expression c.in_ok-tested.tested in
+    let a = plain_typed c.in_ok-a.a in
+    let b = plain_typed c.in_ok-b.b in
+    passed_on whole plain_operand c.args.used.now c.valued-2.new.used c.from_residual-in_err-x.result error c.from_residual-in_err-x.ensures.1
+    (refused_as whole chain error is (refused_behind (judged_condition scope first question) from_tested tested (uses_of c.args.used.now) (uses_of c.condition.new.used) error c.in_ok-tested.ensures (refused_behind (valued scope second) (from_a tested) a (uses_of c.condition.new.used) (uses_of c.valued.new.used) error c.in_ok-a.ensures (refused_behind (valued scope third) (λ b. chosen question tested a b) b (uses_of c.valued.new.used) (uses_of c.valued-2.new.used) error c.in_ok-b.ensures c.in_err-x.ensures))))
+
+pub conditional-returns : goal.conditional-returns
+conditional-returns t c =
+    let scope = plain_scope c.args.scope.now in
+    let parts = c.args.parts.now in
+    let question = plain_token c.in_ok-question.question.now in
+    let first = plain_tree c.first-item.result in
+    let second = plain_tree c.second-item.result in
+    let third = plain_tree c.third-item.result in
+    let whole = judged scope (node k.Conditional (plain_trees parts)) in
+    let from_a : PlainExpression → Typed → Checked Operand = λ e a. valued scope third >>= (λ b. chosen question e a b) in
+    let from_tested : PlainExpression → Checked Operand = λ e. valued scope second >>= from_a e in
+    let chain = judged_condition scope first question >>= from_tested in
+    let is : whole ≡ chain = conditional_law scope question (plain_trees parts) first (plain_tree c.question-item.result) second (plain_tree (get_or parts 3 c.first-item.result)) third (five_but_fourth parts c.first-item.result c.question-item.result c.second-item.result c.third-item.result c.in-len5.len_at_least c.in-len5.len_below c.first-item.is c.question-item.is c.second-item.is c.third-item.is) c.in_ok-question.ensures in
+    let tested = plain_expression c.in_ok-tested.tested in
+    let a = plain_typed c.in_ok-a.a in
+    let b = plain_typed c.in_ok-b.b in
+    let x = plain_operand c.in_ok-x.x in
+    gives_as whole chain x (uses_of c.args.used.now) (uses_of c.valued-2.new.used) is
+    (gives_then (judged_condition scope first question) from_tested tested x (uses_of c.args.used.now) (uses_of c.condition.new.used) (uses_of c.valued-2.new.used) c.in_ok-tested.ensures
+    (gives_then (valued scope second) (from_a tested) a x (uses_of c.condition.new.used) (uses_of c.valued.new.used) (uses_of c.valued-2.new.used) c.in_ok-a.ensures
+    (gives_last (valued scope third) (λ b. chosen question tested a b) b x (uses_of c.valued.new.used) (uses_of c.valued-2.new.used) c.in_ok-b.ensures c.in_ok-x.ensures)))
+
+pub call-returns-in-Some : goal.call-returns-in-Some
+call-returns-in-Some t c =
+    let scope = plain_scope c.args.scope.now in
+    let parts = c.args.parts.now in
+    let bracket = plain_token c.in_ok-bracket.bracket.now in
+    let first = plain_tree c.first-item.result in
+    let list = plain_tree c.list-item.result in
+    let listed : is_list list ≡ true = cc in
+    let law = call_law scope bracket (plain_trees parts) first (plain_tree c.bracket-item.result) list (plain_tree (get_or parts 3 c.first-item.result)) (four_but_last parts c.first-item.result c.bracket-item.result c.list-item.result c.in-len4.len_at_least c.in-len4.len_below c.first-item.is c.bracket-item.is c.list-item.is) c.in_ok-bracket.ensures listed in
+    judges_as (judged scope (node k.Call (plain_trees parts))) (called_by scope (plain_callee c.in-Some.f) bracket list) plain_operand c.args.used.now c.called_by.new.used c.called_by.result
+    (law ∙ ap (call_of scope bracket first list) (sym c.in-Some.ensures))
+    c.called_by.ensures
+
+pub call-returns-in-None : goal.call-returns-in-None
+call-returns-in-None t c =
+    let scope = plain_scope c.args.scope.now in
+    let parts = c.args.parts.now in
+    let bracket = plain_token c.in_ok-bracket.bracket.now in
+    let first = plain_tree c.first-item.result in
+    let list = plain_tree c.list-item.result in
+    let listed : is_list list ≡ true = cc in
+    let law = call_law scope bracket (plain_trees parts) first (plain_tree c.bracket-item.result) list (plain_tree (get_or parts 3 c.first-item.result)) (four_but_last parts c.first-item.result c.bracket-item.result c.list-item.result c.in-len4.len_at_least c.in-len4.len_below c.first-item.is c.bracket-item.is c.list-item.is) c.in_ok-bracket.ensures listed in
+    judges_as (judged scope (node k.Call (plain_trees parts))) (not_called scope bracket first) plain_operand c.args.used.now c.not_called.new.used c.not_called.result
+    (law ∙ ap (call_of scope bracket first list) (sym c.in-None.ensures))
+    c.not_called.ensures
+
+pub called-returns : goal.called-returns
+called-returns t c =
+    let scope = plain_scope c.args.scope.now in
+    let parts = plain_trees c.args.parts.now in
+    let types = c.args.f.now.signature.now.parameters.items in
+    let bracket = plain_token c.args.bracket.now in
+    let enough : (count_entries parts == length (map plain_type types)) ≡ true = ap (λ (n : ℕ). n == length (map plain_type types)) (sym c.entry_count.ensures) ∙ ap (λ (n : ℕ). c.entry_count.result == n) (length-map types plain_type ∙ ap (λ (ts : List CType). length ts) (sym c.as_slice-types.ensures.value)) ∙ c.in_ok-unless.ensures in
+    called_gives scope (plain_callee c.args.f.now) parts bracket (plain_arguments c.in_ok-given.given.items) (plain_operand c.in_ok-x.x) (uses_of c.args.used.now) (uses_of c.noted.new.used) (uses_of c.arguments.new.used) c.in_ok-noted.ensures enough
+    (subst (λ (ts : List CType). Gives (judged_arguments scope (map plain_type ts) parts bracket) (plain_arguments c.in_ok-given.given.items) (uses_of c.noted.new.used) (uses_of c.arguments.new.used)) c.as_slice-types.ensures.value c.in_ok-given.ensures)
+    c.in_ok-x.ensures
+
+pub called_by-returns-in-Node : goal.called_by-returns-in-Node
+called_by-returns-in-Node t c =
+    let scope = plain_scope c.args.scope.now in
+    let f = plain_callee c.args.f.now in
+    let bracket = plain_token c.args.bracket.now in
+    let list = plain_tree c.args.list.now in
+    let kind = c.in-Node.field-0 in
+    let parts = plain_trees c.in-Node.parts.items in
+    let shape : list ≡ node kind parts = ap plain_tree c.in-Node.is ∙ plain_tree-Node kind c.in-Node.parts in
+    let listed : is_list (node kind parts) ≡ true = subst (λ (l : PlainTree). is_list l ≡ true) shape c.requires in
+    judges_as (called_by scope f bracket list) (called_with scope f (plain_trees c.deref.result.now) bracket) plain_operand c.args.used.now c.called.new.used c.called.result
+    (ap (called_by scope f bracket) shape ∙ list_law scope f bracket kind parts listed ∙ ap (λ (ps : List Tree). called_with scope f (plain_trees ps) bracket) (sym c.deref.ensures.value))
+    c.called.ensures
+
+pub cast-returns : goal.cast-returns
+cast-returns t c =
+    let scope = plain_scope c.args.scope.now in
+    let bracket = plain_token c.args.bracket.now in
+    let words = plain_trees c.in_ok-words.words.now in
+    let inner = plain_tree c.args.inner.now in
+    let whole = cast_value scope bracket (plain_tree c.args.words.now) inner in
+    let chain = valued scope inner >>= (λ x. cast_to bracket x (arithmetic_words words)) in
+    let is : whole ≡ chain = cast_shape scope bracket (plain_tree c.args.words.now) inner words c.in_ok-words.ensures in
+    let x = plain_typed c.in_ok-x.x in
+    gives_as whole chain (plain_operand c.in_ok-done.done) (uses_of c.args.used.now) (uses_of c.valued.new.used) is
+    (gives_last (valued scope inner) (λ y. cast_to bracket y (arithmetic_words words)) x (plain_operand c.in_ok-done.done) (uses_of c.args.used.now) (uses_of c.valued.new.used) c.in_ok-x.ensures
+    (ap (cast_to bracket x) (sym c.arithmetic_words.ensures) ∙ c.in_ok-done.ensures))
+
+pub cast-returns-in_err-x : goal.cast-returns-in_err-x
+cast-returns-in_err-x t c =
+    let scope = plain_scope c.args.scope.now in
+    let bracket = plain_token c.args.bracket.now in
+    let words = plain_trees c.in_ok-words.words.now in
+    let inner = plain_tree c.args.inner.now in
+    let whole = cast_value scope bracket (plain_tree c.args.words.now) inner in
+    let chain = valued scope inner >>= (λ x. cast_to bracket x (arithmetic_words words)) in
+    let is : whole ≡ chain = cast_shape scope bracket (plain_tree c.args.words.now) inner words c.in_ok-words.ensures in
+    let error = c.in_err-x.field-0.0 in
+    passed_on whole plain_operand c.args.used.now c.valued.new.used c.from_residual-in_err-x.result error c.from_residual-in_err-x.ensures.1
+    (refused_as whole chain error is (refused_first (valued scope inner) (λ y. cast_to bracket y (arithmetic_words words)) error c.in_err-x.ensures))
+
+pub cast-returns-in_err-done : goal.cast-returns-in_err-done
+cast-returns-in_err-done t c =
+    let scope = plain_scope c.args.scope.now in
+    let bracket = plain_token c.args.bracket.now in
+    let words = plain_trees c.in_ok-words.words.now in
+    let inner = plain_tree c.args.inner.now in
+    let whole = cast_value scope bracket (plain_tree c.args.words.now) inner in
+    let chain = valued scope inner >>= (λ x. cast_to bracket x (arithmetic_words words)) in
+    let is : whole ≡ chain = cast_shape scope bracket (plain_tree c.args.words.now) inner words c.in_ok-words.ensures in
+    let error = c.in_err-done.field-0.0 in
+    let x = plain_typed c.in_ok-x.x in
+    passed_on whole plain_operand c.args.used.now c.valued.new.used c.from_residual-in_err-done.result error c.from_residual-in_err-done.ensures.1
+    (refused_as whole chain error is (refused_behind (valued scope inner) (λ y. cast_to bracket y (arithmetic_words words)) x (uses_of c.args.used.now) (uses_of c.valued.new.used) error c.in_ok-x.ensures
+    (refused_as (cast_to bracket x (arithmetic_words words)) (cast_to bracket x (plain_type c.arithmetic_words.result)) error (ap (cast_to bracket x) (sym c.arithmetic_words.ensures)) c.in_err-done.ensures)))
+
+pub arguments-returns : goal.arguments-returns
+arguments-returns t c =
+    let scope = plain_scope c.args.scope.now in
+    let bracket = plain_token c.args.bracket.now in
+    end_at scope (from scope bracket c.args.types.now c.args.parts.now) c.args.types.now c.args.parts.now c.loop-i.i bracket c.loop-i.given.items (uses_of c.args.used.now) (uses_of c.loop-i.used) (omega arith) c.requires c.loop-i.invariant
+
+pub arguments-returns-in_err-core : goal.arguments-returns-in_err-core
+arguments-returns-in_err-core t c =
+    let scope = plain_scope c.args.scope.now in
+    let bracket = plain_token c.args.bracket.now in
+    let whole = from scope bracket c.args.types.now c.args.parts.now in
+    passed_on whole (λ (given : Vec Expression Global). plain_arguments given.items) c.args.used.now c.passed.new.used c.from_residual-in_err-core.result c.in_err-core.field-0.0 c.from_residual-in_err-core.ensures.1
+    (refused_at scope whole c.args.types.now c.args.parts.now c.loop-i.i c.index-types-i.result c.in-Some.tree.now bracket (plain_arguments c.loop-i.given.items) (uses_of c.args.used.now) (uses_of c.loop-i.used) c.in_err-core.field-0.0 (omega arith) c.index-types-i.is c.in-Some.ensures.lookup.3.0 c.in-Some.ensures.lookup.1 c.loop-i.invariant c.in_err-core.ensures)
+
+pub arguments-loop-i-init : goal.arguments-loop-i-init
+arguments-loop-i-init t c =
+    let scope = plain_scope c.args.scope.now in
+    let bracket = plain_token c.args.bracket.now in
+    let whole = from scope bracket c.args.types.now c.args.parts.now in
+    subst (λ (es : List Expression). Continues whole whole (plain_arguments es) (uses_of c.args.used.now) (uses_of c.args.used.now)) (sym c.in_ok-given.ensures.items) (continues_none whole (uses_of c.args.used.now))
+
+pub arguments-loop-i-preserved : goal.arguments-loop-i-preserved
+arguments-loop-i-preserved t c =
+    let scope = plain_scope c.args.scope.now in
+    let bracket = plain_token c.args.bracket.now in
+    let whole = from scope bracket c.args.types.now c.args.parts.now in
+    let i = c.loop-i.i in
+    subst (λ (es : List Expression). Continues whole (from scope bracket (drop (i + 1) c.args.types.now) (drop (2 * (i + 1)) c.args.parts.now)) (plain_arguments es) (uses_of c.args.used.now) (uses_of c.passed.new.used)) (sym c.in_ok-push.ensures.items)
+    (step_at scope whole c.args.types.now c.args.parts.now i c.index-types-i.result c.in-Some.tree.now bracket c.loop-i.given.items c.in_ok-core.core (uses_of c.args.used.now) (uses_of c.loop-i.used) (uses_of c.passed.new.used) (omega arith) c.index-types-i.is c.in-Some.ensures.lookup.3.0 c.in-Some.ensures.lookup.1 c.loop-i.invariant c.in_ok-core.ensures)

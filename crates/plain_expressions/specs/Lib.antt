@@ -1,0 +1,5 @@
+pub mod Steps
+pub mod PlainSteps
+pub mod Continuing
+pub mod Constants
+pub mod Sizes
