@@ -1,0 +1,3 @@
+pub mod CountLaws
+pub mod FaultLaws
+pub mod GlobalsLaws

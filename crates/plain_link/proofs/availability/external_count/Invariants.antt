@@ -1,0 +1,12 @@
+use Rattle.std.proofs.Common.{◌≡◌, ◌+◌, ◌-◌, ◌≤◌, ◌^◌, ◌++◌, List, [], min, drop, take, map, length}
+use Rattle.std.specs.Prelude.{nat_le, ◌&&◌, filter}
+use Rattle.std.specs.List.{list_any, All, AllZip}
+use Rattle.core_meaning.specs.Linking as spec
+use Rattle.plain_link.specs.PlainUnits.{plain_unit, key_texts}
+use Rattle.plain_link.specs.PlainDefinitions.{plain_defined}
+use Rattle.plain_link.proofs.availability.external_count.Given as goal
+
+abbrev pub invariant-loop-unit : goal.invariant-loop-unit
+invariant-loop-unit l =
+    (l.count ≤ 2 ^ 64 - 1) × (min (l.count + spec.count_external (map (plain_unit 0) (drop l.unit-index l.units)) l.name) (2 ^ 64 - 1)
+    ≡ min (spec.count_external (map (plain_unit 0) l.units) l.name) (2 ^ 64 - 1))

@@ -1,0 +1,12 @@
+use Rattle.std.proofs.Common.{◌≡◌, ◌+◌, ◌-◌, ◌≤◌, ◌^◌, ◌++◌, List, [], min, drop, take, map, length}
+use Rattle.std.specs.Prelude.{nat_le, ◌&&◌, filter}
+use Rattle.std.specs.List.{list_any, All, AllZip}
+use Rattle.core_meaning.specs.Linking as spec
+use Rattle.plain_link.specs.PlainUnits.{plain_unit, key_texts}
+use Rattle.plain_link.specs.PlainDefinitions.{plain_defined}
+use Rattle.plain_link.specs.Faults.{undefined_names}
+use Rattle.plain_link.proofs.availability.undefined.Given as goal
+
+abbrev pub invariant-loop-unit : goal.invariant-loop-unit
+invariant-loop-unit l =
+    map (λ name. name.now) l.found.items ++ undefined_names l.units (drop l.unit-index l.units) ≡ undefined_names l.units l.units

@@ -1,0 +1,5 @@
+pub mod PlainDefinitions
+pub mod Counts
+pub mod PlainUnits
+pub mod Faults
+pub mod MapLaws
