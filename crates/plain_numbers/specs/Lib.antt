@@ -1,0 +1,4 @@
+pub mod PlainLinked
+pub mod Numbering
+pub mod PlainTexts
+pub mod LinkedLaws
