@@ -1,0 +1,4 @@
+pub mod MemoryLemmas
+pub mod PointerLemmas
+pub mod TextLemmas
+pub mod InitialLemmas

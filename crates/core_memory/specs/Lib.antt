@@ -1,0 +1,6 @@
+pub mod MemoryForms
+pub mod PointerForms
+pub mod OperationForms
+pub mod OperationLaws
+pub mod TextForms
+pub mod InitialForms
