@@ -3,3 +3,4 @@ pub mod Counts
 pub mod PlainUnits
 pub mod Faults
 pub mod MapLaws
+pub mod GlobalsLaws

@@ -62,9 +62,9 @@ agree a b = ap (λ t. bytes_eq a.name.items b.name.items && t) (option_same a.un
 pub entry_same : {X : Type 0} (x : RustLinked) (es : List (RustLinked × X)) → lookup (λ k. bytes_eq x.name.items k.name.items && option_eq eqb x.unit k.unit) es ≡ lookup (λ k. same_linked (plain_linked x) (plain_linked k)) es
 entry_same x es = lookup_same (λ k. bytes_eq x.name.items k.name.items && option_eq eqb x.unit k.unit) (λ k. same_linked (plain_linked x) (plain_linked k)) (agree x) es
 
--- what a map has for each name after one was put there
-pub put_at : {X : Type 0} (key : RustLinked) (old new : List (RustLinked × X)) (entry : X) → ((x : RustLinked) → lookup (λ k. bytes_eq x.name.items k.name.items && option_eq eqb x.unit k.unit) new ≡ cond (bytes_eq key.name.items x.name.items && option_eq eqb key.unit x.unit) (Some entry) (lookup (λ k. bytes_eq x.name.items k.name.items && option_eq eqb x.unit k.unit) old)) → (x : RustLinked) → lookup (λ k. same_linked (plain_linked x) (plain_linked k)) new ≡ (if same_linked (plain_linked key) (plain_linked x) then Some entry else lookup (λ k. same_linked (plain_linked x) (plain_linked k)) old)
+-- what a map has for each name after one was put there, or taken away
+pub put_at : {X : Type 0} (key : RustLinked) (old new : List (RustLinked × X)) (entry : Option X) → ((x : RustLinked) → lookup (λ k. bytes_eq x.name.items k.name.items && option_eq eqb x.unit k.unit) new ≡ cond (bytes_eq key.name.items x.name.items && option_eq eqb key.unit x.unit) entry (lookup (λ k. bytes_eq x.name.items k.name.items && option_eq eqb x.unit k.unit) old)) → (x : RustLinked) → lookup (λ k. same_linked (plain_linked x) (plain_linked k)) new ≡ (if same_linked (plain_linked key) (plain_linked x) then entry else lookup (λ k. same_linked (plain_linked x) (plain_linked k)) old)
 put_at key old new entry put x =
     sym (entry_same x new) ∙ put x
-    ∙ ap (λ t. cond t (Some entry) (lookup (λ k. bytes_eq x.name.items k.name.items && option_eq eqb x.unit k.unit) old)) (agree key x)
-    ∙ ap (λ o. cond (same_linked (plain_linked key) (plain_linked x)) (Some entry) o) (entry_same x old)
+    ∙ ap (λ t. cond t entry (lookup (λ k. bytes_eq x.name.items k.name.items && option_eq eqb x.unit k.unit) old)) (agree key x)
+    ∙ ap (λ o. cond (same_linked (plain_linked key) (plain_linked x)) entry o) (entry_same x old)

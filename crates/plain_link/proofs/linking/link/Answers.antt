@@ -2,7 +2,7 @@ use Rattle.core_meaning.specs.Linking.{Links}
 use Rattle.plain_link.specs.PlainUnits.{plain_units}
 use Rattle.plain_link.specs.Faults.{NotLinked}
 use Rattle.plain_link.proofs.FaultLaws.{passed_on}
-use Rattle.plain_link.proofs.GlobalsLaws.{links_same, not_linked_same}
+use Rattle.plain_link.specs.GlobalsLaws.{links_same, not_linked_same}
 use Rattle.plain_link.proofs.linking.link.Goals as goal
 
 pub returns-in_err-refuse_faults : goal.returns-in_err-refuse_faults
