@@ -1,0 +1,4 @@
+pub mod BodyLaws
+pub mod FunctionLaws
+pub mod OwnerLaws
+pub mod ProgramLaws

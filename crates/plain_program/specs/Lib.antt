@@ -1,0 +1,4 @@
+pub mod Owners
+pub mod Bodies
+pub mod Functions
+pub mod Globals
