@@ -105,7 +105,7 @@ entries_step scope globals ty path n tree none behind = joined_to_none (entry_in
 entries_step scope globals ty path n tree (more comma rest) behind =
     regrouped (part_for scope.structs ty n) BadConstant (first_token tree behind) (λ element. initial scope globals element (path_for ty path n) tree behind) (λ first. initial_entries scope globals ty path (n + 1) rest behind >>= (λ others. give (first ++ others)))
 
-next_behind : (m : ℕ) (parts : List Tree) → behind_comma (plain_trees (drop m parts)) ≡ plain_trees (drop (suc m) parts)
+pub next_behind : (m : ℕ) (parts : List Tree) → behind_comma (plain_trees (drop m parts)) ≡ plain_trees (drop (suc m) parts)
 next_behind zero [] = refl
 next_behind zero (x ∷ parts) = refl
 next_behind (suc m) [] = refl

@@ -1,19 +1,21 @@
 -- Steps in judging the declarations of locals.
-use Rattle.std.proofs.Common.{◌≡◌, ℕ, Bool, true, false, ◌||◌, List, [], ◌∷◌, ◌++◌, length, map, refl, sym, ap, ◌∙◌}
+use Rattle.std.proofs.Common.{◌≡◌, ℕ, ◌+◌, ◌<◌, ◌≤◌, Bool, true, false, ◌||◌, List, [], ◌∷◌, ◌++◌, length, map, drop, refl, sym, ap, arith, ◌∙◌, ◌⊎◌, inl, inr}
 use Rattle.std.specs.Prelude.{Option, Some, None, if◌then◌else◌}
 use Rattle.c_text.specs.Token.{PlainToken}
 use Rattle.c_types.specs.Types.{PlainType}
 use Rattle.c_tree.specs.declared.terminals.Terminal.TheVariants as t
-use Rattle.c_tree.specs.Trees.{PlainTree, PlainTrees, leaf, node, none, more}
+use Rattle.c_tree.specs.Trees.{PlainTree, PlainTrees, leaf, node, none, more, plain_tree, plain_trees}
+use Rattle.c_tree.specs.declared.trees.Tree.{Tree}
 use Rattle.c_tree.specs.Grammar.{is_word}
 use Rattle.core_meaning.specs.Program.{PlainPart}
 use Rattle.core_meaning.specs.Checking.{local_entity, Checked, fine, refused, broken, with_bindings, unless_so, ◌>>=◌, give, declares}
 use Rattle.core_meaning.specs.Linking.{uses_in}
 use Rattle.core_meaning.specs.Entities.{Table, Local, Scope}
-use Rattle.core_meaning.specs.Declarations.{Based, Locals, with_local_in, with_local, plain_part, local_initial, one_local, with_items, locals_from, based, judged_locals, judged_object, is_new_local, object_type, declared_local, name_in}
+use Rattle.core_meaning.specs.Declarations.{Based, LocalItem, Locals, with_local_in, with_local, plain_part, local_initial, one_local, with_items, locals_from, based, judged_locals, judged_object, is_new_local, object_type, declared_local, name_in}
 use Rattle.std.proofs.Math.Path.{fun_ext}
+use Rattle.std.proofs.lemmas.Bool.{cases_lt}
 use Rattle.std.proofs.lemmas.Cmp.{nat_eq_equiv}
-use Rattle.std.proofs.lemmas.List.{append-nil}
+use Rattle.std.proofs.lemmas.List.{append-nil, append_assoc}
 use Rattle.c_tree.specs.declared.kinds.Kind.{Kind}
 use Rattle.core_meaning.specs.declared.refusals.TypeKind.TheVariants.{Redeclared}
 use Rattle.plain_scope.specs.Blocks.{outer, without_block}
@@ -23,7 +25,8 @@ use Rattle.c_tree.specs.declared.terminals.Terminal.{Terminal}
 use Rattle.c_tree.specs.Terminals.{terminal, same, number}
 use Rattle.plain_scope.specs.declared.errors.ElabError.{ElabError}
 use Rattle.plain_scope.specs.Judgements.{Gives, Binds, RefusedAs}
-use Rattle.plain_scope.specs.JudgementLaws.{gives_then, refused_then}
+use Rattle.plain_scope.specs.JudgementLaws.{gives_then, refused_first, refused_then}
+use Rattle.plain_declarations.specs.Progress.{Continues, continues_with, continues_to, continues_refused}
 use Rattle.plain_declarations.specs.Sequences.{bind_nothing, gives_of, refused_of}
 
 -- ---- initialisers
@@ -105,21 +108,22 @@ named_refused scope slots ty kind parts name initialiser error is r =
 
 -- ---- the locals of a declaration
 
--- a local, and those behind it
-abbrev pub local_then : Scope → List PlainType → PlainType → PlainTree → Option PlainTree → PlainTrees → Checked Locals
-local_then scope slots ty tree initialiser rest = do
-  first ← one_local scope slots ty tree initialiser
-  others ← locals_from first.scope first.slots ty rest
-  give (with_items first.items others)
+-- what stands behind a declarator's sign, if the sign says that it initialises
+abbrev pub initialiser_by : PlainTree → PlainTree → Option PlainTree
+initialiser_by sign next = if parts.is_word t.Assign sign then Some next else None
 
--- a local with its initialiser, and those behind the comma
-abbrev pub initialised_then : Scope → List PlainType → PlainType → PlainTree → PlainTree → PlainTrees → Checked Locals
-initialised_then scope slots ty tree initialiser none = one_local scope slots ty tree (Some initialiser)
-initialised_then scope slots ty tree initialiser (more comma rest) = local_then scope slots ty tree (Some initialiser) rest
+-- the first local of a list of declarators
+abbrev pub first_local : Scope → List PlainType → PlainType → PlainTrees → Checked Locals
+first_local scope slots ty none = broken
+first_local scope slots ty (more tree none) = one_local scope slots ty tree None
+first_local scope slots ty (more tree (more sign none)) = broken
+first_local scope slots ty (more tree (more sign (more next rest))) = one_local scope slots ty tree (initialiser_by sign next)
 
-pub locals_by_sign : (scope : Scope) (slots : List PlainType) (ty : PlainType) (tree sign next : PlainTree) (rest : PlainTrees) → locals_from scope slots ty (more tree (more sign (more next rest))) ≡ (if is_word (t.Assign ∷ []) sign then initialised_then scope slots ty tree next rest else local_then scope slots ty tree None (more next rest))
-locals_by_sign scope slots ty tree sign next none = refl
-locals_by_sign scope slots ty tree sign next (more comma rest) = refl
+-- how many trees of a list are its first declarator with what initialises it
+abbrev pub first_size : PlainTrees → ℕ
+first_size none = 1
+first_size (more tree none) = 1
+first_size (more tree (more sign rest)) = if parts.is_word t.Assign sign then 3 else 1
 
 -- the locals of a declaration, by its words and declarators
 abbrev pub locals_of : Scope → List PlainType → PlainTrees → PlainTrees → Checked Locals
@@ -131,21 +135,77 @@ one_word : (wanted : Terminal) (tree : PlainTree) → is_word (wanted ∷ []) tr
 one_word wanted (leaf token) = or_none (same (terminal token) wanted) ∙ nat_eq_equiv.symm (number (terminal token)) (number wanted)
 one_word wanted (node kind parts) = refl
 
-pub sign_gives : (scope : Scope) (slots : List PlainType) (ty : PlainType) (list : PlainTrees) (tree sign next : PlainTree) (rest : PlainTrees) (given : Locals) (before after : List ℕ → Bool) → list ≡ more tree (more sign (more next rest)) → parts.is_word t.Assign sign ≡ true → Gives (initialised_then scope slots ty tree next rest) given before after → Gives (locals_from scope slots ty list) given before after
-sign_gives scope slots ty list tree sign next rest given before after front is g =
-    gives_of (locals_from scope slots ty list) (initialised_then scope slots ty tree next rest) given before after (ap (locals_from scope slots ty) front ∙ locals_by_sign scope slots ty tree sign next rest ∙ ap (λ b. if b then initialised_then scope slots ty tree next rest else local_then scope slots ty tree None (more next rest)) (one_word t.Assign sign ∙ is)) g
+-- a local, and those behind it
+abbrev pub then_locals : PlainType → Checked Locals → PlainTrees → Checked Locals
+then_locals ty one rest = do
+  first ← one
+  others ← locals_from first.scope first.slots ty rest
+  give (with_items first.items others)
 
-pub sign_refused : (scope : Scope) (slots : List PlainType) (ty : PlainType) (list : PlainTrees) (tree sign next : PlainTree) (rest : PlainTrees) (error : ElabError) → list ≡ more tree (more sign (more next rest)) → parts.is_word t.Assign sign ≡ true → RefusedAs (initialised_then scope slots ty tree next rest) error → RefusedAs (locals_from scope slots ty list) error
-sign_refused scope slots ty list tree sign next rest error front is r =
-    refused_of (locals_from scope slots ty list) (initialised_then scope slots ty tree next rest) error (ap (locals_from scope slots ty) front ∙ locals_by_sign scope slots ty tree sign next rest ∙ ap (λ b. if b then initialised_then scope slots ty tree next rest else local_then scope slots ty tree None (more next rest)) (one_word t.Assign sign ∙ is)) r
+by_sign : (scope : Scope) (slots : List PlainType) (ty : PlainType) (tree sign next comma : PlainTree) (rest : PlainTrees) → locals_from scope slots ty (more tree (more sign (more next (more comma rest)))) ≡ (if parts.is_word t.Assign sign then then_locals ty (one_local scope slots ty tree (Some next)) rest else then_locals ty (one_local scope slots ty tree None) (more next (more comma rest)))
+by_sign scope slots ty tree sign next comma rest = ap (λ b. if b then then_locals ty (one_local scope slots ty tree (Some next)) rest else then_locals ty (one_local scope slots ty tree None) (more next (more comma rest))) (one_word t.Assign sign)
 
-pub no_sign_gives : (scope : Scope) (slots : List PlainType) (ty : PlainType) (list : PlainTrees) (tree sign next : PlainTree) (rest : PlainTrees) (given : Locals) (before after : List ℕ → Bool) → list ≡ more tree (more sign (more next rest)) → parts.is_word t.Assign sign ≡ false → Gives (local_then scope slots ty tree None (more next rest)) given before after → Gives (locals_from scope slots ty list) given before after
-no_sign_gives scope slots ty list tree sign next rest given before after front is g =
-    gives_of (locals_from scope slots ty list) (local_then scope slots ty tree None (more next rest)) given before after (ap (locals_from scope slots ty) front ∙ locals_by_sign scope slots ty tree sign next rest ∙ ap (λ b. if b then initialised_then scope slots ty tree next rest else local_then scope slots ty tree None (more next rest)) (one_word t.Assign sign ∙ is)) g
+by_last_sign : (scope : Scope) (slots : List PlainType) (ty : PlainType) (tree sign next : PlainTree) → locals_from scope slots ty (more tree (more sign (more next none))) ≡ (if parts.is_word t.Assign sign then one_local scope slots ty tree (Some next) else then_locals ty (one_local scope slots ty tree None) (more next none))
+by_last_sign scope slots ty tree sign next = ap (λ b. if b then one_local scope slots ty tree (Some next) else then_locals ty (one_local scope slots ty tree None) (more next none)) (one_word t.Assign sign)
 
-pub no_sign_refused : (scope : Scope) (slots : List PlainType) (ty : PlainType) (list : PlainTrees) (tree sign next : PlainTree) (rest : PlainTrees) (error : ElabError) → list ≡ more tree (more sign (more next rest)) → parts.is_word t.Assign sign ≡ false → RefusedAs (local_then scope slots ty tree None (more next rest)) error → RefusedAs (locals_from scope slots ty list) error
-no_sign_refused scope slots ty list tree sign next rest error front is r =
-    refused_of (locals_from scope slots ty list) (local_then scope slots ty tree None (more next rest)) error (ap (locals_from scope slots ty) front ∙ locals_by_sign scope slots ty tree sign next rest ∙ ap (λ b. if b then initialised_then scope slots ty tree next rest else local_then scope slots ty tree None (more next rest)) (one_word t.Assign sign ∙ is)) r
+more_behind : (scope : Scope) (slots : List PlainType) (ty : PlainType) (a b c d : Tree) (rest : List Tree) (sign : Bool) → (if sign then then_locals ty (one_local scope slots ty (plain_tree a) (Some (plain_tree c))) (plain_trees rest) else then_locals ty (one_local scope slots ty (plain_tree a) None) (plain_trees (c ∷ d ∷ rest))) ≡ then_locals ty (one_local scope slots ty (plain_tree a) (if sign then Some (plain_tree c) else None)) (plain_trees (drop ((if sign then 3 else 1) + 1) (a ∷ b ∷ c ∷ d ∷ rest)))
+more_behind scope slots ty a b c d rest true = refl
+more_behind scope slots ty a b c d rest false = refl
+
+one_behind : (scope : Scope) (slots : List PlainType) (ty : PlainType) (a b c : Tree) (sign : Bool) → (if sign then 3 else 1) < 3 → (if sign then one_local scope slots ty (plain_tree a) (Some (plain_tree c)) else then_locals ty (one_local scope slots ty (plain_tree a) None) (plain_trees (c ∷ []))) ≡ then_locals ty (one_local scope slots ty (plain_tree a) (if sign then Some (plain_tree c) else None)) (plain_trees (drop ((if sign then 3 else 1) + 1) (a ∷ b ∷ c ∷ [])))
+one_behind scope slots ty a b c true small = absurd (omega arith)
+one_behind scope slots ty a b c false small = refl
+
+none_behind : (scope : Scope) (slots : List PlainType) (ty : PlainType) (a c : Tree) (sign : Bool) → 3 ≤ (if sign then 3 else 1) → (if sign then one_local scope slots ty (plain_tree a) (Some (plain_tree c)) else then_locals ty (one_local scope slots ty (plain_tree a) None) (plain_trees (c ∷ []))) ≡ one_local scope slots ty (plain_tree a) (if sign then Some (plain_tree c) else None)
+none_behind scope slots ty a c true large = refl
+none_behind scope slots ty a c false large = absurd (omega arith)
+
+-- behind the first local of a list
+next_local : (scope : Scope) (slots : List PlainType) (ty : PlainType) (list : List Tree) → first_size (plain_trees list) < length list → locals_from scope slots ty (plain_trees list) ≡ then_locals ty (first_local scope slots ty (plain_trees list)) (plain_trees (drop (first_size (plain_trees list) + 1) list))
+next_local scope slots ty [] inside = absurd (omega arith)
+next_local scope slots ty (a ∷ []) inside = absurd (omega arith)
+next_local scope slots ty (a ∷ b ∷ []) inside = refl
+next_local scope slots ty (a ∷ b ∷ c ∷ []) inside =
+    by_last_sign scope slots ty (plain_tree a) (plain_tree b) (plain_tree c) ∙ one_behind scope slots ty a b c (parts.is_word t.Assign (plain_tree b)) inside
+next_local scope slots ty (a ∷ b ∷ c ∷ d ∷ rest) inside =
+    by_sign scope slots ty (plain_tree a) (plain_tree b) (plain_tree c) (plain_tree d) (plain_trees rest) ∙ more_behind scope slots ty a b c d rest (parts.is_word t.Assign (plain_tree b))
+
+three_at_most : (sign : Bool) → (if sign then 3 else 1) ≤ 3
+three_at_most true = omega arith
+three_at_most false = omega arith
+
+-- the last local of a list
+last_local : (scope : Scope) (slots : List PlainType) (ty : PlainType) (list : List Tree) → length list ≤ first_size (plain_trees list) → locals_from scope slots ty (plain_trees list) ≡ first_local scope slots ty (plain_trees list)
+last_local scope slots ty [] over = refl
+last_local scope slots ty (a ∷ []) over = refl
+last_local scope slots ty (a ∷ b ∷ []) over = refl
+last_local scope slots ty (a ∷ b ∷ c ∷ []) over =
+    by_last_sign scope slots ty (plain_tree a) (plain_tree b) (plain_tree c) ∙ none_behind scope slots ty a c (parts.is_word t.Assign (plain_tree b)) over
+last_local scope slots ty (a ∷ b ∷ c ∷ d ∷ rest) over =
+    let most = three_at_most (parts.is_word t.Assign (plain_tree b)) in absurd (omega arith)
+
+locals_first : (scope : Scope) (slots : List PlainType) (ty : PlainType) (list : List Tree) (error : ElabError) → RefusedAs (first_local scope slots ty (plain_trees list)) error → (first_size (plain_trees list) < length list) ⊎ (length list ≤ first_size (plain_trees list)) → RefusedAs (locals_from scope slots ty (plain_trees list)) error
+locals_first scope slots ty list error r (inl inside) =
+    refused_of (locals_from scope slots ty (plain_trees list)) (then_locals ty (first_local scope slots ty (plain_trees list)) (plain_trees (drop (first_size (plain_trees list) + 1) list))) error (next_local scope slots ty list inside) (refused_first (first_local scope slots ty (plain_trees list)) (λ first. locals_from first.scope first.slots ty (plain_trees (drop (first_size (plain_trees list) + 1) list)) >>= (λ others. give (with_items first.items others))) error r)
+locals_first scope slots ty list error r (inr over) =
+    refused_of (locals_from scope slots ty (plain_trees list)) (first_local scope slots ty (plain_trees list)) error (last_local scope slots ty list over) r
+
+-- ---- how far a loop over declarators has come
+
+pub locals_refused : (scope : Scope) (slots : List PlainType) (ty : PlainType) (list : List Tree) (items : List LocalItem) (error : ElabError) (whole : Checked Locals) (before between : List ℕ → Bool) → Continues whole (locals_from scope slots ty (plain_trees list)) (with_items items) before between → RefusedAs (first_local scope slots ty (plain_trees list)) error → RefusedAs whole error
+locals_refused scope slots ty list items error whole before between c r =
+    continues_refused whole (locals_from scope slots ty (plain_trees list)) (with_items items) before between error c (locals_first scope slots ty list error r (cases_lt (first_size (plain_trees list)) (length list)))
+
+items_so_far : (items added : List LocalItem) (y : Locals) → with_items items (with_items added y) ≡ with_items (items ++ added) y
+items_so_far items added y = ap (λ l. record y { items = l }) (sym (append_assoc items added y.items))
+
+pub locals_continue : (scope : Scope) (slots : List PlainType) (ty : PlainType) (list : List Tree) (items all : List LocalItem) (given : Locals) (whole : Checked Locals) (before between after : List ℕ → Bool) → first_size (plain_trees list) < length list → Continues whole (locals_from scope slots ty (plain_trees list)) (with_items items) before between → Gives (first_local scope slots ty (plain_trees list)) given between after → all ≡ items ++ given.items → Continues whole (locals_from given.scope given.slots ty (plain_trees (drop (first_size (plain_trees list) + 1) list))) (with_items all) before after
+locals_continue scope slots ty list items all given whole before between after inside c g with_all =
+    continues_with whole (locals_from scope slots ty (plain_trees list)) (with_items items) before between after (first_local scope slots ty (plain_trees list)) (λ first. locals_from first.scope first.slots ty (plain_trees (drop (first_size (plain_trees list) + 1) list))) (λ first others. with_items first.items others) given (with_items all) c (next_local scope slots ty list inside) g (λ y. items_so_far items given.items y ∙ ap (λ l. with_items l y) (sym with_all))
+
+pub locals_end : (scope : Scope) (slots : List PlainType) (ty : PlainType) (list : List Tree) (items : List LocalItem) (given : Locals) (whole : Checked Locals) (before between after : List ℕ → Bool) → length list ≤ first_size (plain_trees list) → Continues whole (locals_from scope slots ty (plain_trees list)) (with_items items) before between → Gives (first_local scope slots ty (plain_trees list)) given between after → Gives whole (with_items items given) before after
+locals_end scope slots ty list items given whole before between after over c g =
+    continues_to whole (locals_from scope slots ty (plain_trees list)) (with_items items) before between after given c (gives_of (locals_from scope slots ty (plain_trees list)) (first_local scope slots ty (plain_trees list)) given between after (last_local scope slots ty list over) g)
 
 -- the words and declarators of a declaration
 locals_by_parts : (scope : Scope) (slots : List PlainType) (words list end : PlainTree) (naming declarators : PlainTrees) → parts_in words ≡ Some naming → parts_in list ≡ Some declarators → judged_locals scope slots (more words (more list (more end none))) ≡ locals_of scope slots naming declarators

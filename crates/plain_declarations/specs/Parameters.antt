@@ -1,19 +1,24 @@
 -- Steps in judging parameters.
-use Rattle.std.proofs.Common.{◌≡◌, ℕ, Bool, true, false, List, [], ◌∷◌, ◌++◌, length, refl, sym, ap, ◌∙◌}
+use Rattle.std.proofs.Common.{◌≡◌, ℕ, suc, ◌+◌, ◌*◌, ◌<◌, ◌≤◌, Bool, true, false, List, [], ◌∷◌, ◌++◌, length, drop, get_or, refl, sym, ap, arith, ◌∙◌}
+use Rattle.std.proofs.Math.Seq.{drop-cons}
+use Rattle.std.proofs.Math.ListN.{drop_of_length-le}
+use Rattle.c_tree.specs.declared.trees.Tree.{Tree}
+use Rattle.plain_declarations.specs.Entries.{behind_comma, next_behind}
+use Rattle.plain_declarations.specs.Progress.{Continues, continues_on, continues_to, continues_refused}
 use Rattle.std.specs.Prelude.{Option, Some, None}
 use Rattle.std.proofs.lemmas.List.{append-nil}
 use Rattle.c_text.specs.Token.{PlainToken}
 use Rattle.c_types.specs.Types.{PlainType}
 use Rattle.c_tree.specs.declared.kinds.Kind.{Kind}
 use Rattle.c_tree.specs.declared.kinds.Kind.TheVariants as k
-use Rattle.c_tree.specs.Trees.{PlainTree, PlainTrees, leaf, node, none, more}
+use Rattle.c_tree.specs.Trees.{PlainTree, PlainTrees, leaf, node, none, more, plain_tree, plain_trees}
 use Rattle.core_meaning.specs.declared.refusals.TypeKind.TheVariants.{Redeclared, Incomplete}
 use Rattle.core_meaning.specs.Checking.{Binding, Checked, fine, refused, broken, with_bindings, ◌>>=◌, give, unless_so}
 use Rattle.core_meaning.specs.Entities.{Scope}
 use Rattle.core_meaning.specs.Declarations.{Parameter, parameter_type, may_be_parameter, is_new_parameter, token_of, name_in, declares_name, parameter_entity, declared_parameter, based, one_parameter, parameters_from}
 use Rattle.plain_scope.specs.declared.errors.ElabError.{ElabError}
 use Rattle.plain_scope.specs.Judgements.{Gives, RefusedAs}
-use Rattle.plain_scope.specs.JudgementLaws.{gives_nothing_used, gives_then, refused_first, refused_then}
+use Rattle.plain_scope.specs.JudgementLaws.{gives_nothing_used, refused_first, refused_then}
 use Rattle.c_tree.specs.declared.terminals.Terminal.TheVariants as t
 use Rattle.c_tree.specs.Grammar.{are_words, is_absent, is_lone_void}
 use Rattle.std.proofs.Common.{◌&&◌}
@@ -128,30 +133,40 @@ pub parameter_refused : (defining : Bool) (scope : Scope) (before : List Paramet
 parameter_refused defining scope before tree words declarator parts naming behind first error a b c d r =
     refused_of (one_parameter defining scope before tree behind) (words_then defining scope before naming declarator first) error (parameter_node defining scope before tree words declarator parts naming behind first a b c d) r
 
--- the parameters behind a comma
-abbrev pub parameters_behind : Bool → Scope → List Parameter → PlainTrees → PlainToken → Checked (List Parameter)
-parameters_behind defining scope before none behind = give before
-parameters_behind defining scope before (more comma rest) behind = parameters_from defining scope before rest behind
+-- ---- the parameters of a list
 
-one_then : (defining : Bool) (scope : Scope) (before : List Parameter) (tree : PlainTree) (rest : PlainTrees) (behind : PlainToken) → parameters_from defining scope before (more tree rest) behind ≡ (one_parameter defining scope before tree behind >>= (λ p. parameters_behind defining scope (before ++ p ∷ []) rest behind))
+-- the parameters from one on, behind those before them
+abbrev pub parameters_at : Bool → Scope → List Parameter → ℕ → List Tree → PlainToken → Checked (List Parameter)
+parameters_at defining scope before n list behind = parameters_from defining scope before (plain_trees (drop (2 * n) list)) behind
+
+one_then : (defining : Bool) (scope : Scope) (before : List Parameter) (tree : PlainTree) (rest : PlainTrees) (behind : PlainToken) → parameters_from defining scope before (more tree rest) behind ≡ (one_parameter defining scope before tree behind >>= (λ p. parameters_from defining scope (before ++ p ∷ []) (behind_comma rest) behind))
 one_then defining scope before tree none behind = refl
 one_then defining scope before tree (more comma rest) behind = refl
 
-pub one_then_gives : (defining : Bool) (scope : Scope) (before all given : List Parameter) (list rest : PlainTrees) (tree : PlainTree) (behind : PlainToken) (p : Parameter) (old between new : List ℕ → Bool) → list ≡ more tree rest → Gives (one_parameter defining scope before tree behind) p old between → all ≡ before ++ p ∷ [] → Gives (parameters_behind defining scope all rest behind) given between new → Gives (parameters_from defining scope before list behind) given old new
-one_then_gives defining scope before all given list rest tree behind p old between new front g with_p h =
-    let second : Gives (parameters_behind defining scope (before ++ p ∷ []) rest behind) given between new = rw (sym with_p) h in
-    gives_of (parameters_from defining scope before list behind) (one_parameter defining scope before tree behind >>= (λ p. parameters_behind defining scope (before ++ p ∷ []) rest behind)) given old new (ap (λ l. parameters_from defining scope before l behind) front ∙ one_then defining scope before tree rest behind) (gives_then (one_parameter defining scope before tree behind) (λ p. parameters_behind defining scope (before ++ p ∷ []) rest behind) p given old between new g second)
+next_parameter : (defining : Bool) (scope : Scope) (before : List Parameter) (n : ℕ) (list : List Tree) (tree : Tree) (behind : PlainToken) → 2 * n < length list → tree ≡ get_or list (2 * n) tree → parameters_at defining scope before n list behind ≡ (one_parameter defining scope before (plain_tree tree) behind >>= (λ p. parameters_at defining scope (before ++ p ∷ []) (n + 1) list behind))
+next_parameter defining scope before n list tree behind inside is =
+    let front : drop (2 * n) list ≡ tree ∷ drop (suc (2 * n)) list = drop-cons list (2 * n) tree inside ∙ ap (λ t. t ∷ drop (suc (2 * n)) list) (sym is) in
+    let two : suc (suc (2 * n)) ≡ 2 * (n + 1) = omega arith in
+    let last : behind_comma (plain_trees (drop (suc (2 * n)) list)) ≡ plain_trees (drop (2 * (n + 1)) list) = next_behind (suc (2 * n)) list ∙ ap (λ k. plain_trees (drop k list)) two in
+    ap (λ l. parameters_from defining scope before (plain_trees l) behind) front
+    ∙ one_then defining scope before (plain_tree tree) (plain_trees (drop (suc (2 * n)) list)) behind
+    ∙ ap (λ l. one_parameter defining scope before (plain_tree tree) behind >>= (λ p. parameters_from defining scope (before ++ p ∷ []) l behind)) last
 
-pub one_then_refused : (defining : Bool) (scope : Scope) (before : List Parameter) (list rest : PlainTrees) (tree : PlainTree) (behind : PlainToken) (error : ElabError) → list ≡ more tree rest → RefusedAs (one_parameter defining scope before tree behind) error → RefusedAs (parameters_from defining scope before list behind) error
-one_then_refused defining scope before list rest tree behind error front r =
-    refused_of (parameters_from defining scope before list behind) (one_parameter defining scope before tree behind >>= (λ p. parameters_behind defining scope (before ++ p ∷ []) rest behind)) error (ap (λ l. parameters_from defining scope before l behind) front ∙ one_then defining scope before tree rest behind) (refused_first (one_parameter defining scope before tree behind) (λ p. parameters_behind defining scope (before ++ p ∷ []) rest behind) error r)
+-- what is left of a list behind one parameter
+pub parameters_continue : (defining : Bool) (scope : Scope) (before all : List Parameter) (n : ℕ) (list : List Tree) (tree : Tree) (behind : PlainToken) (p : Parameter) (whole : Checked (List Parameter)) (old between new : List ℕ → Bool) → 2 * n < length list → tree ≡ get_or list (2 * n) tree → Continues whole (parameters_at defining scope before n list behind) (λ found. found) old between → Gives (one_parameter defining scope before (plain_tree tree) behind) p between new → all ≡ before ++ p ∷ [] → Continues whole (parameters_at defining scope all (n + 1) list behind) (λ found. found) old new
+parameters_continue defining scope before all n list tree behind p whole old between new inside is c g with_p =
+    rw with_p (continues_on whole (parameters_at defining scope before n list behind) (λ found. found) old between new (one_parameter defining scope before (plain_tree tree) behind) (λ q. parameters_at defining scope (before ++ q ∷ []) (n + 1) list behind) p c (next_parameter defining scope before n list tree behind inside is) g)
 
-pub others_refused : (defining : Bool) (scope : Scope) (before all : List Parameter) (list rest : PlainTrees) (tree : PlainTree) (behind : PlainToken) (p : Parameter) (old between : List ℕ → Bool) (error : ElabError) → list ≡ more tree rest → Gives (one_parameter defining scope before tree behind) p old between → all ≡ before ++ p ∷ [] → RefusedAs (parameters_behind defining scope all rest behind) error → RefusedAs (parameters_from defining scope before list behind) error
-others_refused defining scope before all list rest tree behind p old between error front g with_p r =
-    let second : RefusedAs (parameters_behind defining scope (before ++ p ∷ []) rest behind) error = rw (sym with_p) r in
-    refused_of (parameters_from defining scope before list behind) (one_parameter defining scope before tree behind >>= (λ p. parameters_behind defining scope (before ++ p ∷ []) rest behind)) error (ap (λ l. parameters_from defining scope before l behind) front ∙ one_then defining scope before tree rest behind) (refused_then (one_parameter defining scope before tree behind) (λ p. parameters_behind defining scope (before ++ p ∷ []) rest behind) p g.bindings error g.judged second)
+pub parameters_refused : (defining : Bool) (scope : Scope) (before : List Parameter) (n : ℕ) (list : List Tree) (tree : Tree) (behind : PlainToken) (error : ElabError) (whole : Checked (List Parameter)) (old between : List ℕ → Bool) → 2 * n < length list → tree ≡ get_or list (2 * n) tree → Continues whole (parameters_at defining scope before n list behind) (λ found. found) old between → RefusedAs (one_parameter defining scope before (plain_tree tree) behind) error → RefusedAs whole error
+parameters_refused defining scope before n list tree behind error whole old between inside is c r =
+    continues_refused whole (parameters_at defining scope before n list behind) (λ found. found) old between error c (refused_of (parameters_at defining scope before n list behind) (one_parameter defining scope before (plain_tree tree) behind >>= (λ p. parameters_at defining scope (before ++ p ∷ []) (n + 1) list behind)) error (next_parameter defining scope before n list tree behind inside is) (refused_first (one_parameter defining scope before (plain_tree tree) behind) (λ p. parameters_at defining scope (before ++ p ∷ []) (n + 1) list behind) error r))
 
-pub ruleset steps = (one_then_gives, one_then_refused, others_refused)
+no_parameter_left : (defining : Bool) (scope : Scope) (before : List Parameter) (n : ℕ) (list : List Tree) (behind : PlainToken) → length list ≤ 2 * n → parameters_at defining scope before n list behind ≡ give before
+no_parameter_left defining scope before n list behind over = rw (drop_of_length-le list {i = 2 * n} over) refl
+
+pub parameters_end : (defining : Bool) (scope : Scope) (all : List Parameter) (n : ℕ) (list : List Tree) (behind : PlainToken) (whole : Checked (List Parameter)) (old new : List ℕ → Bool) → length list ≤ 2 * n → Continues whole (parameters_at defining scope all n list behind) (λ found. found) old new → Gives whole all old new
+parameters_end defining scope all n list behind whole old new over c =
+    continues_to whole (parameters_at defining scope all n list behind) (λ found. found) old new new all c (gives_nothing_used (parameters_at defining scope all n list behind) all new (no_parameter_left defining scope all n list behind over))
 
 -- ---- the lone `void`
 

@@ -45,6 +45,21 @@ continues_with whole left complete before between after first rest add x next c 
   used = λ name. g.used name ∙ rw (uses_in_both c.bindings g.bindings name) (rw (c.used name) (or_assoc (before name) (uses_in c.bindings name) (uses_in g.bindings name)));
 }
 
+-- a step whose result leads to what is left
+one_more : {A B : Type 0} (bindings more : List Binding) (left : Checked B) (complete : B → A) → with_bindings bindings (with_bindings more left >>= (λ y. give (complete y))) ≡ with_bindings (bindings ++ more) (left >>= (λ y. give (complete y)))
+one_more bindings more (fine y others) complete =
+    let e : bindings ++ ((more ++ others) ++ []) ≡ (bindings ++ more) ++ (others ++ []) = simp (append-nil, append_assoc) in
+    ap (fine (complete y)) e
+one_more bindings more (refused kind token) complete = refl
+one_more bindings more broken complete = refl
+
+pub continues_on : {A B X : Type 0} (whole : Checked A) (left : Checked B) (complete : B → A) (before between after : List ℕ → Bool) (first : Checked X) (rest : X → Checked B) (x : X) → Continues whole left complete before between → left ≡ (first >>= rest) → Gives first x between after → Continues whole (rest x) complete before after
+continues_on whole left complete before between after first rest x c is g = record {
+  bindings = c.bindings ++ g.bindings;
+  judged = c.judged ∙ ap (λ (d : Checked _). with_bindings c.bindings (d >>= (λ y. give (complete y)))) (is ∙ ap (λ (d : Checked _). d >>= rest) g.judged) ∙ one_more c.bindings g.bindings (rest x) complete;
+  used = λ name. g.used name ∙ rw (uses_in_both c.bindings g.bindings name) (rw (c.used name) (or_assoc (before name) (uses_in c.bindings name) (uses_in g.bindings name)));
+}
+
 completed : {A B : Type 0} (bindings more : List Binding) (y : B) (complete : B → A) → with_bindings bindings (fine y more >>= (λ z. give (complete z))) ≡ fine (complete y) (bindings ++ more)
 completed bindings more y complete = ap (λ l. fine (complete y) (bindings ++ l)) (append-nil more)
 

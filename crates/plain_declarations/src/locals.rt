@@ -10,7 +10,7 @@ ghost use Rattle.plain_scope.specs.PlainScope.{plain_scope};
 ghost use Rattle.plain_scope.specs.Judgements.{Judges};
 ghost use Rattle.plain_declarations.specs.PlainDeclared.{plain_initial};
 ghost use Rattle.plain_declarations.specs.PlainLocals.{plain_locals};
-ghost use Rattle.plain_declarations.specs.Locals.{parts_given, placed_local, typed_local, local_by_type, local_then, initialised_then, locals_of};
+ghost use Rattle.plain_declarations.specs.Locals.{parts_given, placed_local, typed_local, local_by_type, initialiser_by, first_size, first_local, locals_of};
 
 use crate::initialisers::{Initial, initialised};
 use crate::shapes::{node_parts, three_parts};
@@ -214,87 +214,62 @@ fn one_local(
     }
 }
 
-fn single(alloc: Global, item: LocalItem) -> Result<Vec<LocalItem>, NoMemory>
-    ensures { IfOk result (λ items. items.items ≡ item ∷ []) }
+/// What stands behind a declarator's sign, if the sign says that it initialises.
+fn initialiser_by<'t>(sign: &Tree, next: &'t Tree) -> Option<&'t Tree>
+    ensures { option_map (λ t. plain_tree t.now) result ≡ initialiser_by (plain_tree sign.now) (plain_tree next.now) }
 {
-    let mut items = Vec::new(alloc);
-    items.push(item)?;
-    Ok(items)
-}
-
-/// The declared locals, the first of them and then the others.
-fn joined(
-    alloc: Global,
-    first: LocalItem,
-    others: Vec<LocalItem>,
-) -> Result<Vec<LocalItem>, NoMemory>
-    ensures { IfOk result (λ items. items.items ≡ first ∷ others.items) }
-{
-    let mut items = single(alloc, first)?;
-    let mut others = others;
-    items.append(&mut others)?;
-    Ok(items)
-}
-
-/// A local, and those behind it.
-#[cycle(locals)]
-#[tactic(auto, using(plain_scope::specs::JudgementLaws::gives_then, plain_scope::specs::JudgementLaws::refused_first, crate::specs::Sequences::gives_as, crate::specs::Sequences::refused_behind))]
-fn local_then(
-    alloc: Global,
-    scope: &mut Scope,
-    used: &mut Used,
-    slots: &mut Vec<CType>,
-    base: &CType,
-    tree: &Tree,
-    initialiser: Option<&Tree>,
-    rest: &[Tree],
-) -> Result<Vec<LocalItem>, ElabError>
-    ensures judged { Judges (local_then (plain_scope scope.old) (map plain_type slots.old.items) (plain_type base.now) (plain_tree tree.now) (option_map (λ t. plain_tree t.now) initialiser.entry) (plain_trees rest.now)) (λ items. plain_locals scope.new slots.new.items items.items) used.old used.new result }
-    ensures outside { OnOk result (without_block (plain_scope scope.new) ≡ without_block (plain_scope scope.old)) }
-{
-    let first = one_local(alloc, scope, used, slots, base, tree, initialiser)?;
-    let others = locals_from(alloc, scope, used, slots, base, rest)?;
-    Ok(joined(alloc, first, others)?)
-}
-
-/// A local with its initialiser, and those behind the comma.
-#[cycle(locals)]
-fn initialised_then(
-    alloc: Global,
-    scope: &mut Scope,
-    used: &mut Used,
-    slots: &mut Vec<CType>,
-    base: &CType,
-    tree: &Tree,
-    initialiser: &Tree,
-    rest: &[Tree],
-) -> Result<Vec<LocalItem>, ElabError>
-    ensures judged { Judges (initialised_then (plain_scope scope.old) (map plain_type slots.old.items) (plain_type base.now) (plain_tree tree.now) (plain_tree initialiser.now) (plain_trees rest.now)) (λ items. plain_locals scope.new slots.new.items items.items) used.old used.new result }
-    ensures outside { OnOk result (without_block (plain_scope scope.new) ≡ without_block (plain_scope scope.old)) }
-{
-    match rest.split_first() {
-        None => {
-            let item = one_local(alloc, scope, used, slots, base, tree, Some(initialiser))?;
-            Ok(single(alloc, item)?)
-        }
-        Some((_, others)) => {
-            let items = local_then(
-                alloc,
-                scope,
-                used,
-                slots,
-                base,
-                tree,
-                Some(initialiser),
-                others,
-            )?;
-            Ok(items)
-        }
+    if is_word(sign, Terminal::Assign) {
+        Some(next)
+    } else {
+        None
     }
 }
 
+/// How many trees of a list are its first declarator with what initialises it.
+fn first_size(list: &[Tree]) -> usize
+    ensures { result ≡ first_size (plain_trees list.now) }
+{
+    let Some((_, behind)) = list.split_first() else {
+        return 1;
+    };
+    let Some((sign, _)) = behind.split_first() else {
+        return 1;
+    };
+    if is_word(sign, Terminal::Assign) {
+        3
+    } else {
+        1
+    }
+}
+
+/// The first local of a list of declarators.
+fn first_local(
+    alloc: Global,
+    scope: &mut Scope,
+    used: &mut Used,
+    slots: &mut Vec<CType>,
+    base: &CType,
+    list: &[Tree],
+) -> Result<LocalItem, ElabError>
+    ensures judged { Judges (first_local (plain_scope scope.old) (map plain_type slots.old.items) (plain_type base.now) (plain_trees list.now)) (λ item. plain_locals scope.new slots.new.items (item ∷ [])) used.old used.new result }
+    ensures outside { OnOk result (without_block (plain_scope scope.new) ≡ without_block (plain_scope scope.old)) }
+{
+    let Some((tree, behind)) = list.split_first() else {
+        return Err(ElabError::Memory);
+    };
+    let Some((sign, rest)) = behind.split_first() else {
+        let item = one_local(alloc, scope, used, slots, base, tree, None)?;
+        return Ok(item);
+    };
+    let Some((next, _)) = rest.split_first() else {
+        return Err(ElabError::Memory);
+    };
+    let initialiser = initialiser_by(sign, next);
+    let item = one_local(alloc, scope, used, slots, base, tree, initialiser)?;
+    Ok(item)
+}
+
 /// The locals of a list of declarators, one after the other.
-#[cycle(locals)]
 fn locals_from(
     alloc: Global,
     scope: &mut Scope,
@@ -306,23 +281,19 @@ fn locals_from(
     ensures judged { Judges (spec.locals_from (plain_scope scope.old) (map plain_type slots.old.items) (plain_type base.now) (plain_trees list.now)) (λ items. plain_locals scope.new slots.new.items items.items) used.old used.new result }
     ensures outside { OnOk result (without_block (plain_scope scope.new) ≡ without_block (plain_scope scope.old)) }
 {
-    let Some((tree, behind)) = list.split_first() else {
-        return Err(ElabError::Memory);
-    };
-    let Some((sign, rest)) = behind.split_first() else {
-        let item = one_local(alloc, scope, used, slots, base, tree, None)?;
-        return Ok(single(alloc, item)?);
-    };
-    let Some((next, others)) = rest.split_first() else {
-        return Err(ElabError::Memory);
-    };
-    if is_word(sign, Terminal::Assign) {
-        let items = initialised_then(alloc, scope, used, slots, base, tree, next, others)?;
-        Ok(items)
-    } else {
-        let items = local_then(alloc, scope, used, slots, base, tree, None, rest)?;
-        Ok(items)
+    let mut items = Vec::new(alloc);
+    let mut place = 0;
+    while place < list.len() {
+        let (_, left) = list.split_at(place);
+        let size = first_size(left);
+        let item = first_local(alloc, scope, used, slots, base, left)?;
+        items.push(item)?;
+        if left.len() <= size {
+            return Ok(items);
+        }
+        place += size + 1;
     }
+    Err(ElabError::Memory)
 }
 
 #[tactic(auto, using(crate::specs::Locals::base_gives, crate::specs::Locals::base_refused, plain_scope::specs::JudgementLaws::refused_first))]

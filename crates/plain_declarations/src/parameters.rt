@@ -9,15 +9,14 @@ ghost use Rattle.core_meaning.specs.Declarations as spec;
 ghost use Rattle.plain_scope.specs.PlainScope.{plain_scope};
 ghost use Rattle.plain_scope.specs.Judgements.{Answers, Judges};
 ghost use Rattle.plain_declarations.specs.PlainParameters.{plain_name, plain_parameter};
-ghost use Rattle.plain_declarations.specs.Parameters.{nameless, named_type, named, is_declarator, words_then, parameters_behind, are_void, is_void_parameter, is_void_node};
+ghost use Rattle.plain_declarations.specs.Parameters.{nameless, named_type, named, is_declarator, words_then, are_void, is_void_parameter, is_void_node};
 
 use crate::shapes::{node_parts, two_parts};
 use crate::types::{base_of, count_of_size, has_no_size, starred};
-use crate::words::{behind_word, is_left_out, is_nothing, name_in};
+use crate::words::{behind_word, entry_count, is_left_out, is_nothing, name_in};
 use c_text::Token;
 use c_tree::{Kind, Terminal, Tree};
 use c_types::CType;
-use cond_formula::NoMemory;
 use core_meaning::TypeKind;
 use plain_scope::{ElabError, Scope, Used, first_token, is_void, is_word, unless};
 use std::alloc::Global;
@@ -313,69 +312,26 @@ fn one_parameter<'t>(
     Ok(p)
 }
 
-fn with_parameter<'t>(
-    before: Vec<Parameter<'t>>,
-    p: Parameter<'t>,
-) -> Result<Vec<Parameter<'t>>, NoMemory>
-    ensures { IfOk result (λ all. map plain_parameter all.items ≡ map plain_parameter before.entry.items ++ plain_parameter p.entry ∷ []) }
-{
-    let mut all = before;
-    all.push(p)?;
-    Ok(all)
-}
-
-/// The parameters of a list, behind those before them.
-#[cycle(parameters)]
-#[tactic(auto, using(crate::specs::Parameters::steps, plain_scope::specs::JudgementLaws::gives_nothing_used))]
+/// The parameters of a list, one after the other.
+#[tactic(auto, using(plain_scope::specs::JudgementLaws::refused_first))]
 fn parameters_from<'t>(
     alloc: Global,
     scope: &Scope,
     used: &mut Used,
     defining: bool,
-    before: Vec<Parameter<'t>>,
     list: &'t [Tree],
     behind: &Token,
 ) -> Result<Vec<Parameter<'t>>, ElabError>
-    ensures { Judges (spec.parameters_from defining (plain_scope scope.now) (map plain_parameter before.entry.items) (plain_trees list.now) (plain_token behind.now)) (λ all. map plain_parameter all.items) used.old used.new result }
+    ensures { Judges (spec.parameters_from defining (plain_scope scope.now) [] (plain_trees list.now) (plain_token behind.now)) (λ all. map plain_parameter all.items) used.old used.new result }
 {
-    let Some((tree, rest)) = list.split_first() else {
-        return Ok(before);
-    };
-    let p = one_parameter(
-        alloc,
-        scope,
-        used,
-        defining,
-        before.as_slice(),
-        tree,
-        behind,
-    )?;
-    let all = with_parameter(before, p)?;
-    let found = parameters_behind(alloc, scope, used, defining, all, rest, behind)?;
-    Ok(found)
-}
-
-/// The parameters behind a comma.
-#[cycle(parameters)]
-#[tactic(auto, using(plain_scope::specs::JudgementLaws::gives_nothing_used))]
-fn parameters_behind<'t>(
-    alloc: Global,
-    scope: &Scope,
-    used: &mut Used,
-    defining: bool,
-    before: Vec<Parameter<'t>>,
-    rest: &'t [Tree],
-    behind: &Token,
-) -> Result<Vec<Parameter<'t>>, ElabError>
-    ensures { Judges (parameters_behind defining (plain_scope scope.now) (map plain_parameter before.entry.items) (plain_trees rest.now) (plain_token behind.now)) (λ all. map plain_parameter all.items) used.old used.new result }
-{
-    match rest.split_first() {
-        None => Ok(before),
-        Some((_, others)) => {
-            let found = parameters_from(alloc, scope, used, defining, before, others, behind)?;
-            Ok(found)
-        }
+    let mut all = Vec::new(alloc);
+    for number in 0..entry_count(list) {
+        let before = all.as_slice();
+        let tree = &list[2 * number];
+        let p = one_parameter(alloc, scope, used, defining, before, tree, behind)?;
+        all.push(p)?;
     }
+    Ok(all)
 }
 
 // ---- lists of parameters
@@ -447,7 +403,7 @@ fn listed<'t>(
     if is_lone_void(list) {
         Ok(Vec::new(alloc))
     } else {
-        let all = parameters_from(alloc, scope, used, defining, Vec::new(alloc), list, behind)?;
+        let all = parameters_from(alloc, scope, used, defining, list, behind)?;
         Ok(all)
     }
 }
