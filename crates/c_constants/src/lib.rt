@@ -8,6 +8,3 @@ mod quoted;
 
 pub use numbers::{is_decimal, is_integer, is_long, is_unsigned, number_value};
 pub use quoted::{is_character, is_text, quoted_values};
-
-#[cfg(test)]
-mod tests;

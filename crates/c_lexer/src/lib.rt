@@ -15,6 +15,3 @@ pub use laws::{lines_are_one, texts_have_lines};
 pub use lines::lex;
 pub use pieces::{Piece, PieceKind, longest_piece};
 pub use splices::{TextBytes, spliced};
-
-#[cfg(test)]
-mod tests;

@@ -30,14 +30,3 @@ pub fn is_file_name(name: &[u8]) -> bool
     name.split(|byte| *byte == b'/')
         .all(|part| is_component(part))
 }
-
-#[cfg(test)]
-mod tests {
-    use super::*;
-
-    #[test]
-    fn names_stay_in_the_folder(rt: HostRuntime) {
-        assert!(rt; is_file_name(b"a-1/b+c.h") && is_file_name(b"..."));
-        assert!(rt; !is_file_name(b"") && !is_file_name(b"/a") && !is_file_name(b"a/../b"));
-    }
-}

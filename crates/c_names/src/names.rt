@@ -116,20 +116,3 @@ pub fn is_new_name(word: &[u8]) -> bool
 {
     is_identifier(word) && !is_keyword(word) && !is_taken(word) && !word.starts_with(b"__")
 }
-
-#[cfg(test)]
-mod tests {
-    use super::*;
-
-    #[test]
-    fn words_are_told_apart(rt: HostRuntime) {
-        assert!(rt; is_identifier(b"_a9") && !is_identifier(b"9a") && !is_identifier(b""));
-        assert!(rt; is_keyword(b"_Static_assert") && !is_keyword(b"Int"));
-        assert!(rt;
-            is_new_name(b"z")
-                && !is_new_name(b"while")
-                && !is_new_name(b"EOF")
-                && !is_new_name(b"__z")
-        );
-    }
-}

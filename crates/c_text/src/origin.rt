@@ -47,23 +47,3 @@ impl Origin {
         self.file != BUILT_IN_FILE
     }
 }
-
-#[cfg(test)]
-mod tests {
-    use super::*;
-
-    #[test]
-    fn built_in_text_stays(rt: HostRuntime) {
-        let span = Span { start: 4, end: 7 };
-        let mut origin = Origin {
-            file: 0,
-            span,
-            place: Place::Text,
-            site: span,
-            site_file: 0,
-        };
-        assert!(rt; origin.editable());
-        origin.file = BUILT_IN_FILE;
-        assert!(rt; !origin.editable());
-    }
-}

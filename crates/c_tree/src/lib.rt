@@ -17,6 +17,3 @@ pub use laws::{
 pub use spellings::terminal;
 pub use terminals::Terminal;
 pub use trees::{Tree, spell};
-
-#[cfg(test)]
-mod tests;

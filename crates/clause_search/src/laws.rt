@@ -16,15 +16,3 @@ pub fn least_assignments_are_the_same()
 pub fn clauses_depend_on_their_variables()
     ensures { VariablesLaw }
 {}
-
-#[cfg(test)]
-mod tests {
-    use super::*;
-
-    #[test]
-    fn the_laws_can_be_cited() {
-        least_is_least_on_the_first_variables();
-        least_assignments_are_the_same();
-        clauses_depend_on_their_variables();
-    }
-}

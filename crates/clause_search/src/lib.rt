@@ -8,8 +8,6 @@ mod grounds;
 mod laws;
 mod literals;
 mod numbers;
-#[cfg(test)]
-mod tests;
 mod trail;
 mod turns;
 mod watched;

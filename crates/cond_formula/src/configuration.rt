@@ -37,19 +37,3 @@ impl Config {
         (self.bits >> feature) & 1 == 1
     }
 }
-
-#[cfg(test)]
-mod tests {
-    use super::*;
-
-    #[test]
-    fn has_reads_one_bit(rt: HostRuntime) {
-        let config = Config { bits: 5 };
-        assert!(rt; config.has(0));
-        assert!(rt; !config.has(1));
-        assert!(rt; config.has(2));
-        let last = Config { bits: 1 << 127 };
-        assert!(rt; last.has(127));
-        assert!(rt; !last.has(0));
-    }
-}

@@ -31,19 +31,3 @@ impl Cube {
         (self.value ^ other.value) & self.mask & other.mask != 0
     }
 }
-
-#[cfg(test)]
-mod tests {
-    use super::*;
-
-    #[test]
-    fn cubes_clash_on_a_shared_feature(rt: HostRuntime) {
-        let first = Cube { mask: 3, value: 1 };
-        let second = Cube { mask: 6, value: 4 };
-        let third = Cube { mask: 6, value: 2 };
-        assert!(rt; first.holds(Config { bits: 5 }));
-        assert!(rt; !first.holds(Config { bits: 7 }));
-        assert!(rt; !first.clashes(&second));
-        assert!(rt; first.clashes(&third));
-    }
-}

@@ -63,21 +63,3 @@ fn some_holds(parts: &[Formula], c: Config) -> bool
     }
     false
 }
-
-#[cfg(test)]
-mod tests {
-    use super::*;
-    use std::test::Fail;
-
-    #[test]
-    fn value_follows_the_connectives(rt: HostRuntime) -> Result<(), Fail> {
-        let alloc = rt.alloc();
-        let both = Formula::and(alloc, Formula::Var(0), Formula::Var(2))?;
-        let neither = Formula::not(alloc, both)?;
-        let formula = Formula::or(alloc, neither, Formula::Var(200))?.try_clone(alloc)?;
-        for (bits, want) in [(5u128, false), (4, true), (0, true)] {
-            assert_eq!(rt; formula.value(Config { bits }), want, "at {bits}");
-        }
-        Ok(())
-    }
-}

@@ -6,13 +6,3 @@ ghost use Rattle.cond_formula.specs.Readings.{OneReading};
 pub fn expression_texts_have_one_meaning()
     ensures { OneReading }
 {}
-
-#[cfg(test)]
-mod tests {
-    use super::*;
-
-    #[test]
-    fn the_law_can_be_cited() {
-        expression_texts_have_one_meaning();
-    }
-}

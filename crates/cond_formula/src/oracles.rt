@@ -42,17 +42,3 @@ impl Oracle for PlainOracle {
         May::Maybe
     }
 }
-
-#[cfg(test)]
-mod tests {
-    use super::*;
-
-    fn asked<O: Oracle>(oracle: &mut O) -> May {
-        oracle.may(&Formula::False)
-    }
-
-    #[test]
-    fn the_plain_oracle_knows_nothing(rt: HostRuntime) {
-        assert!(rt; asked(&mut PlainOracle) != May::No);
-    }
-}

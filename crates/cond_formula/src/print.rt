@@ -163,27 +163,3 @@ fn write_separator(operator: Operator, index: usize, text: &mut Vec<u8>) -> Resu
     }
     Ok(())
 }
-
-#[cfg(test)]
-mod tests {
-    use super::*;
-    use std::test::Fail;
-
-    #[test]
-    fn prints_parentheses_where_operators_nest(rt: HostRuntime) -> Result<(), Fail> {
-        let alloc = rt.alloc();
-        let names = vec![in alloc;
-            String::from_str(alloc, "A")?,
-            String::from_str(alloc, "B")?,
-        ]?;
-        let without_a = Formula::not(alloc, Formula::Var(0))?;
-        let b_alone = Formula::and(alloc, without_a, Formula::Var(1))?;
-        let either = Formula::or(alloc, b_alone, Formula::Var(0))?;
-        let text = either.print_if(alloc, &names)?;
-        assert_eq!(rt;
-            text.as_slice(),
-            b"(!defined(A) && defined(B)) || defined(A)".as_slice()
-        );
-        Ok(())
-    }
-}

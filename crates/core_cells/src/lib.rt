@@ -11,6 +11,3 @@ pub use parts::{Stand, is_inside, is_scalar, part_count, part_type, stand_of, ty
 pub use values::{
     Location, Pointer, Scalar, Step, Value, is_same_path, is_same_pointer, is_true, path_of,
 };
-
-#[cfg(test)]
-mod tests;

@@ -12,6 +12,3 @@ pub use memory::{Memory, Object};
 pub use operations::{changed, converted, in_type, operated};
 pub use pointers::{Indices, element, first_element};
 pub use texts::{byte_of, text_at};
-
-#[cfg(test)]
-mod tests;

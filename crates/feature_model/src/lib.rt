@@ -9,8 +9,6 @@ mod lexer;
 mod model;
 mod reader;
 mod signs;
-#[cfg(test)]
-mod tests;
 mod tokens;
 
 pub use constraints::parse_constraint;

@@ -16,6 +16,3 @@ pub use parameters::{Parameter, declared_parameters};
 pub use shapes::{node_parts, three_parts, two_parts};
 pub use types::{base_of, declared_base, is_character_type, judge_object, object_type, starred};
 pub use words::{behind_word, is_gone, is_left_out, name_in};
-
-#[cfg(test)]
-mod tests;

@@ -12,6 +12,3 @@ pub use constancy::{MOST_ELEMENTS, constant_value, count, is_constant, value_if_
 pub use constants::{character, text_bytes, type_of_number};
 pub use expressions::{condition, entry_count, judged, valued};
 pub use sizes::{MOST_SCALARS, is_small};
-
-#[cfg(test)]
-mod tests;

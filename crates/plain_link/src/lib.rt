@@ -17,6 +17,3 @@ pub use built_in::built_in_named;
 pub use definitions::{Defined, Definite, Definitions};
 pub use left::Left;
 pub use linking::link;
-
-#[cfg(test)]
-mod tests;

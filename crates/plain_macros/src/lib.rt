@@ -14,6 +14,3 @@ mod table;
 pub use meaning::Meaning;
 pub use replacement::{Replacement, replaced};
 pub use table::Table;
-
-#[cfg(test)]
-mod tests;

@@ -10,6 +10,3 @@ pub use listing::{is_wanted, linked_in, listed};
 pub use numbering::{main_number, numbered};
 pub use places::{Linked, Listing};
 pub use texts::Texts;
-
-#[cfg(test)]
-mod tests;

@@ -14,6 +14,3 @@ pub use operators::{
     Left, assigned_place, assignment, cast_to, chosen, combined, condition_value, indexed, logical,
     prefixed, stepped,
 };
-
-#[cfg(test)]
-mod tests;

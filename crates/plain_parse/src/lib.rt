@@ -18,6 +18,3 @@ mod wordings;
 mod words;
 
 pub use parser::{ParseError, parse};
-
-#[cfg(test)]
-mod tests;

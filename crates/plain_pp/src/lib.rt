@@ -14,8 +14,6 @@ mod readings;
 mod refusals;
 mod roles;
 mod sources;
-#[cfg(test)]
-mod tests;
 mod units;
 mod walk;
 

@@ -14,6 +14,3 @@ pub use globals::globals_of;
 pub use owners::{keys_of, types_of};
 pub use programs::program;
 pub use structs::layouts;
-
-#[cfg(test)]
-mod tests;

@@ -16,6 +16,3 @@ pub use typing::{
     is_pointer, is_scalar, is_struct, is_void, may_be_assigned, promoted, promoted_type, same_type,
     type_of,
 };
-
-#[cfg(test)]
-mod tests;

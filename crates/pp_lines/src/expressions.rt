@@ -11,8 +11,6 @@ mod operators;
 mod outcomes;
 mod reader;
 mod signs;
-#[cfg(test)]
-mod tests;
 
 use crate::expressions::outcomes::{HIGHEST, Outcome};
 use crate::expressions::reader::outcome_of;

@@ -9,8 +9,6 @@ mod names;
 mod parse;
 mod projects;
 mod shape;
-#[cfg(test)]
-mod tests;
 mod units;
 
 pub use errors::ProjectError;

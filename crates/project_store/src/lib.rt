@@ -26,6 +26,3 @@ pub use sink::{Sink, SinkFailed};
 pub use store::{Store, StoreFault, WriteFailed};
 pub use sure_sink::SureSink;
 pub use sure_store::SureStore;
-
-#[cfg(test)]
-mod tests;

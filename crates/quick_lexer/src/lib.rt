@@ -13,6 +13,3 @@ pub use pieces::{Piece, first_piece, first_solid_piece};
 pub use renaming::{push_renamed_line, renamed};
 pub use symbols::{Symbol, word_symbol};
 pub use words::{is_blank, is_name, is_number};
-
-#[cfg(test)]
-mod tests;

@@ -7,8 +7,6 @@ mod moves;
 mod parser;
 mod spots;
 mod tested;
-#[cfg(test)]
-mod tests;
 
 pub use laws::{
     complete_is_written, declared_behind_int, malformed_is_refused, names_are_alike,

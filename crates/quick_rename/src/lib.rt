@@ -11,8 +11,6 @@ ghost use Rattle.quick_rename.specs.Readings.{IsWhole};
 mod fault;
 mod form;
 mod scan;
-#[cfg(test)]
-mod tests;
 mod visit;
 
 use crate::form::{Reading, read};

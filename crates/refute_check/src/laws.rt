@@ -6,13 +6,3 @@ ghost use Rattle.refute_check.specs.Refutations.{RefutationLaw};
 pub fn refuted_clauses_are_unsatisfiable()
     ensures { RefutationLaw }
 {}
-
-#[cfg(test)]
-mod tests {
-    use super::*;
-
-    #[test]
-    fn the_law_can_be_cited() {
-        refuted_clauses_are_unsatisfiable();
-    }
-}

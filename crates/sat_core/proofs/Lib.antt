@@ -6,4 +6,3 @@ pub mod AcceptanceLaws
 pub mod NumberingLaws
 pub mod ConfigLaws
 pub mod LeastLaws
-pub mod FormulaLaws

@@ -22,15 +22,3 @@ pub fn refuted_formulas_have_no_model()
 pub fn refutations_are_accepted()
     ensures { AcceptanceLaw }
 {}
-
-#[cfg(test)]
-mod tests {
-    use super::*;
-
-    #[test]
-    fn the_laws_can_be_cited() {
-        translations_are_equisatisfiable();
-        refuted_formulas_have_no_model();
-        refutations_are_accepted();
-    }
-}

@@ -5,8 +5,6 @@ mod answers;
 mod configs;
 mod laws;
 mod solver;
-#[cfg(test)]
-mod tests;
 mod translation;
 
 pub use answers::{Answer, Proof};
