@@ -1,0 +1,9 @@
+pub mod Bindings
+pub mod Blocks
+pub mod Steps
+pub mod PlainJudged
+pub mod Laws
+pub mod Kinds
+pub mod Answers
+pub mod Within
+pub mod Items

@@ -1,0 +1,9 @@
+//! Statements and blocks (ISO/IEC 9899:2011, 6.8).
+#![tactic(auto)]
+
+mod cores;
+mod simple;
+mod starts;
+mod statements;
+
+pub use statements::statement_items;
