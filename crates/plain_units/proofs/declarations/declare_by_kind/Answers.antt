@@ -1,0 +1,35 @@
+use Rattle.std.proofs.Common.{rules}
+use Rattle.std.specs.Prelude.{Option, option_map}
+use Rattle.c_text.specs.Token.{PlainToken, plain_token}
+use Rattle.c_types.specs.Types.{PlainType, plain_type}
+use Rattle.c_tree.specs.Trees.{PlainTree, PlainTrees, plain_tree, plain_trees}
+use Rattle.core_meaning.specs.UnitNames.{UnitState, Storage, declared_function, declared_object}
+use Rattle.plain_scope.specs.Judgements.{RefusedAs}
+use Rattle.plain_declarations.specs.Sequences.{refused_of}
+use Rattle.plain_units.specs.PlainStates.{plain_state, plain_storage}
+use Rattle.plain_units.specs.Declarators.{declared_by_kind, for_function, for_object}
+use Rattle.plain_units.proofs.declarations.declare_by_kind.Goals as goal
+
+pub returns-in_err-declare_in_scope-in-FunctionDeclarator : goal.returns-in_err-declare_in_scope-in-FunctionDeclarator
+returns-in_err-declare_in_scope-in-FunctionDeclarator c = λ globals.
+    let unit : UnitState = plain_state globals c.args.unit.now in
+    let storage : Storage = plain_storage c.args.storage in
+    let ty : PlainType = plain_type c.args.base.now in
+    let initialiser : Option PlainTree = option_map (λ t. plain_tree t.now) c.args.initialiser in
+    let rest : PlainTrees = plain_trees c.args.rest.now in
+    let parts : PlainTrees = plain_trees c.args.parts.now in
+    let name : PlainToken = plain_token c.args.name.now in
+    let outer : RefusedAs (declared_by_kind globals unit storage ty c.args.kind parts name initialiser rest) c.in_err-declare_in_scope-in-FunctionDeclarator.field-0.0 = refused_of (declared_by_kind globals unit storage ty c.args.kind parts name initialiser rest) (declared_function unit storage ty parts name initialiser) c.in_err-declare_in_scope-in-FunctionDeclarator.field-0.0 (for_function globals unit storage ty c.args.kind parts name initialiser rest c.in-FunctionDeclarator.is) (c.in_err-declare_in_scope-in-FunctionDeclarator.ensures globals) in
+    search (rules, outer)
+
+pub returns-in_err-declare_object-in_default : goal.returns-in_err-declare_object-in_default
+returns-in_err-declare_object-in_default c = λ globals.
+    let unit : UnitState = plain_state globals c.args.unit.now in
+    let storage : Storage = plain_storage c.args.storage in
+    let ty : PlainType = plain_type c.args.base.now in
+    let initialiser : Option PlainTree = option_map (λ t. plain_tree t.now) c.args.initialiser in
+    let rest : PlainTrees = plain_trees c.args.rest.now in
+    let parts : PlainTrees = plain_trees c.args.parts.now in
+    let name : PlainToken = plain_token c.args.name.now in
+    let outer : RefusedAs (declared_by_kind globals unit storage ty c.args.kind parts name initialiser rest) c.in_err-declare_object-in_default.field-0.0 = refused_of (declared_by_kind globals unit storage ty c.args.kind parts name initialiser rest) (declared_object globals unit storage ty c.args.kind parts name initialiser rest) c.in_err-declare_object-in_default.field-0.0 (for_object globals unit storage ty c.args.kind parts name initialiser rest c.in_default.not-FunctionDeclarator) (c.in_err-declare_object-in_default.ensures globals) in
+    search (rules, outer)

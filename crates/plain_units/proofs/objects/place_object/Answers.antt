@@ -1,0 +1,62 @@
+use Rattle.std.proofs.Common.{◌≡◌, rules}
+use Rattle.std.specs.Prelude.{Option, option_map, is_some}
+use Rattle.c_text.specs.Token.{PlainToken, plain_token}
+use Rattle.c_types.specs.Types.{PlainType, plain_type}
+use Rattle.c_tree.specs.Trees.{PlainTree, PlainTrees, plain_tree, plain_trees}
+use Rattle.core_meaning.specs.Checking.{give}
+use Rattle.core_meaning.specs.Entities.{Scope, variable}
+use Rattle.core_meaning.specs.UnitNames.{UnitState, Storage, with_name, with_scope, judged_global, defined_object}
+use Rattle.plain_scope.specs.PlainScope.{plain_scope, uses_of}
+use Rattle.plain_scope.specs.Judgements.{Gives, RefusedAs}
+use Rattle.plain_units.specs.PlainStates.{plain_state, plain_storage}
+use Rattle.plain_units.specs.Placing.{placed_object, placed_gives, name_refused, judged_refused, definition_refused}
+use Rattle.plain_units.proofs.objects.place_object.Goals as goal
+
+pub returns-in_err-declare_name : goal.returns-in_err-declare_name
+returns-in_err-declare_name c = λ globals.
+    let unit : UnitState = plain_state globals c.args.unit.now in
+    let storage : Storage = plain_storage c.args.storage in
+    let ty : PlainType = plain_type c.args.ty.now in
+    let name : PlainToken = plain_token c.args.name.now in
+    let initialiser : Option PlainTree = option_map (λ t. plain_tree t.now) c.args.initialiser in
+    let named : RefusedAs (with_name (plain_scope c.args.unit.now.scope) name (variable ty) storage) c.in_err-declare_name.field-0.0 = search rules in
+    let outer : RefusedAs (placed_object globals unit storage ty name initialiser (plain_trees c.args.rest.now)) c.in_err-declare_name.field-0.0 = name_refused globals unit storage ty name initialiser (plain_trees c.args.rest.now) c.in_err-declare_name.field-0.0 named in
+    search (rules, outer)
+
+pub returns-in_err-judge_global : goal.returns-in_err-judge_global
+returns-in_err-judge_global c = λ globals.
+    let unit : UnitState = plain_state globals c.args.unit.now in
+    let storage : Storage = plain_storage c.args.storage in
+    let ty : PlainType = plain_type c.args.ty.now in
+    let name : PlainToken = plain_token c.args.name.now in
+    let initialiser : Option PlainTree = option_map (λ t. plain_tree t.now) c.args.initialiser in
+    let scope : Scope = plain_scope c.declare_name.new.scope in
+    let named : with_name (plain_scope c.args.unit.now.scope) name (variable ty) storage ≡ give scope = search rules in
+    let judged : RefusedAs (judged_global storage (is_some initialiser) scope ty name (plain_trees c.args.rest.now)) c.in_err-judge_global.field-0.0 = search rules in
+    let outer : RefusedAs (placed_object globals unit storage ty name initialiser (plain_trees c.args.rest.now)) c.in_err-judge_global.field-0.0 = judged_refused globals unit storage ty name initialiser (plain_trees c.args.rest.now) scope c.in_err-judge_global.field-0.0 named judged in
+    search (rules, outer)
+
+pub returns-in_err-define_object : goal.returns-in_err-define_object
+returns-in_err-define_object c = λ globals.
+    let unit : UnitState = plain_state globals c.args.unit.now in
+    let storage : Storage = plain_storage c.args.storage in
+    let ty : PlainType = plain_type c.args.ty.now in
+    let name : PlainToken = plain_token c.args.name.now in
+    let initialiser : Option PlainTree = option_map (λ t. plain_tree t.now) c.args.initialiser in
+    let scope : Scope = plain_scope c.declare_name.new.scope in
+    let named : with_name (plain_scope c.args.unit.now.scope) name (variable ty) storage ≡ give scope = search rules in
+    let judged : judged_global storage (is_some initialiser) scope ty name (plain_trees c.args.rest.now) ≡ give tt = search rules in
+    let outer : RefusedAs (placed_object globals unit storage ty name initialiser (plain_trees c.args.rest.now)) c.in_err-define_object.field-0.0 = definition_refused globals unit storage ty name initialiser (plain_trees c.args.rest.now) scope c.in_err-define_object.field-0.0 named judged (c.in_err-define_object.ensures globals) in
+    search (rules, outer)
+
+pub returns : goal.returns
+returns c = λ globals.
+    let unit : UnitState = plain_state globals c.args.unit.now in
+    let storage : Storage = plain_storage c.args.storage in
+    let ty : PlainType = plain_type c.args.ty.now in
+    let name : PlainToken = plain_token c.args.name.now in
+    let initialiser : Option PlainTree = option_map (λ t. plain_tree t.now) c.args.initialiser in
+    let scope : Scope = plain_scope c.declare_name.new.scope in
+    let named : with_name (plain_scope c.args.unit.now.scope) name (variable ty) storage ≡ give scope = search rules in
+    let judged : judged_global storage (is_some initialiser) scope ty name (plain_trees c.args.rest.now) ≡ give tt = search rules in
+    placed_gives globals unit storage ty name initialiser (plain_trees c.args.rest.now) scope (plain_state globals c.define_object.new.unit) (uses_of c.args.used.now) (uses_of c.define_object.new.used) named judged (c.in_ok-define_object.ensures globals)

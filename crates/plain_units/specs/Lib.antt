@@ -1,0 +1,16 @@
+pub mod PlainStates
+pub mod FileNames
+pub mod Completion
+pub mod UnitShapes
+pub mod FirstScalars
+pub mod Binding
+pub mod Leading
+pub mod Objects
+pub mod Members
+pub mod Structs
+pub mod Placing
+pub mod Functions
+pub mod Parameters
+pub mod Declarators
+pub mod Items
+pub mod Closing

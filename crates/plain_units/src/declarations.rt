@@ -1,0 +1,247 @@
+//! The declarators of a declaration at file scope (6.7).
+ghost use Rattle.std.specs.Prelude.{ℕ, None, Some, option_map};
+ghost use Rattle.c_text.specs.Token.{plain_token};
+ghost use Rattle.c_types.specs.Types.{plain_type};
+ghost use Rattle.c_tree.specs.Trees.{node, plain_tree, plain_trees};
+ghost use Rattle.core_meaning.specs.UnitNames as spec;
+ghost use Rattle.plain_scope.specs.Judgements.{Judges};
+ghost use Rattle.plain_units.specs.PlainStates.{plain_state, plain_storage};
+ghost use Rattle.plain_units.specs.Declarators.{declared_by_kind, declared_then, initialised_then};
+
+use crate::definitions::Unit;
+use crate::functions::declare_function;
+use crate::names::Storage;
+use crate::objects::declare_object;
+use c_text::Token;
+use c_tree::{Kind, Terminal, Tree};
+use c_types::CType;
+use plain_declarations::name_in;
+use plain_scope::{ElabError, Used, is_word};
+use std::alloc::Global;
+
+fn declare_in_scope(
+    alloc: Global,
+    unit: &mut Unit,
+    used: &mut Used,
+    storage: Storage,
+    base: &CType,
+    parts: &[Tree],
+    name: &Token,
+    initialiser: Option<&Tree>,
+) -> Result<(), ElabError>
+    ensures { (globals : ℕ) → Judges (spec.declared_function (plain_state globals unit.old) (plain_storage storage) (plain_type base.now) (plain_trees parts.now) (plain_token name.now) (option_map (λ t. plain_tree t.now) initialiser.entry)) (λ u. plain_state globals unit.new) used.old used.new result }
+{
+    declare_function(
+        alloc,
+        &mut unit.scope,
+        used,
+        storage,
+        base,
+        parts,
+        name,
+        initialiser,
+    )?;
+    Ok(())
+}
+
+/// Declares a function or an object, by the kind of its declarator.
+fn declare_by_kind(
+    alloc: Global,
+    unit: &mut Unit,
+    used: &mut Used,
+    storage: Storage,
+    base: &CType,
+    kind: Kind,
+    parts: &[Tree],
+    name: &Token,
+    initialiser: Option<&Tree>,
+    rest: &[Tree],
+) -> Result<(), ElabError>
+    ensures { (globals : ℕ) → Judges (declared_by_kind globals (plain_state globals unit.old) (plain_storage storage) (plain_type base.now) kind (plain_trees parts.now) (plain_token name.now) (option_map (λ t. plain_tree t.now) initialiser.entry) (plain_trees rest.now)) (λ u. plain_state globals unit.new) used.old used.new result }
+{
+    match kind {
+        Kind::FunctionDeclarator => {
+            declare_in_scope(alloc, unit, used, storage, base, parts, name, initialiser)?;
+            Ok(())
+        }
+        _ => {
+            declare_object(
+                alloc,
+                unit,
+                used,
+                storage,
+                base,
+                kind,
+                parts,
+                name,
+                initialiser,
+                rest,
+            )?;
+            Ok(())
+        }
+    }
+}
+
+fn declare_named(
+    alloc: Global,
+    unit: &mut Unit,
+    used: &mut Used,
+    storage: Storage,
+    base: &CType,
+    kind: Kind,
+    parts: &[Tree],
+    initialiser: Option<&Tree>,
+    rest: &[Tree],
+) -> Result<(), ElabError>
+    ensures { (globals : ℕ) → Judges (spec.declared_one globals (plain_state globals unit.old) (plain_storage storage) (plain_type base.now) (node kind (plain_trees parts.now)) (option_map (λ t. plain_tree t.now) initialiser.entry) (plain_trees rest.now)) (λ u. plain_state globals unit.new) used.old used.new result }
+{
+    match name_in(parts) {
+        Some(name) => {
+            declare_by_kind(
+                alloc,
+                unit,
+                used,
+                storage,
+                base,
+                kind,
+                parts,
+                name,
+                initialiser,
+                rest,
+            )?;
+            Ok(())
+        }
+        None => Err(ElabError::Memory),
+    }
+}
+
+/// A declarator with its initialiser, and what stands behind the declaration in the unit.
+#[tactic(auto, using(c_tree::specs::TreeLaws::tree_kinds))]
+fn declare_one(
+    alloc: Global,
+    unit: &mut Unit,
+    used: &mut Used,
+    storage: Storage,
+    base: &CType,
+    tree: &Tree,
+    initialiser: Option<&Tree>,
+    rest: &[Tree],
+) -> Result<(), ElabError>
+    ensures { (globals : ℕ) → Judges (spec.declared_one globals (plain_state globals unit.old) (plain_storage storage) (plain_type base.now) (plain_tree tree.now) (option_map (λ t. plain_tree t.now) initialiser.entry) (plain_trees rest.now)) (λ u. plain_state globals unit.new) used.old used.new result }
+{
+    match tree {
+        Tree::Leaf(_) => Err(ElabError::Memory),
+        Tree::Node(kind, parts) => {
+            declare_named(
+                alloc,
+                unit,
+                used,
+                storage,
+                base,
+                *kind,
+                parts,
+                initialiser,
+                rest,
+            )?;
+            Ok(())
+        }
+    }
+}
+
+/// A declarator, and those behind it.
+#[cycle(declarators)]
+fn declare_then(
+    alloc: Global,
+    unit: &mut Unit,
+    used: &mut Used,
+    storage: Storage,
+    base: &CType,
+    tree: &Tree,
+    initialiser: Option<&Tree>,
+    others: &[Tree],
+    rest: &[Tree],
+) -> Result<(), ElabError>
+    ensures { (globals : ℕ) → Judges (declared_then globals (plain_state globals unit.old) (plain_storage storage) (plain_type base.now) (plain_tree tree.now) (option_map (λ t. plain_tree t.now) initialiser.entry) (plain_trees others.now) (plain_trees rest.now)) (λ u. plain_state globals unit.new) used.old used.new result }
+{
+    declare_one(alloc, unit, used, storage, base, tree, initialiser, rest)?;
+    declare_from(alloc, unit, used, storage, base, others, rest)?;
+    Ok(())
+}
+
+/// A declarator with its initialiser, and those behind the comma.
+#[cycle(declarators)]
+fn initialised_then(
+    alloc: Global,
+    unit: &mut Unit,
+    used: &mut Used,
+    storage: Storage,
+    base: &CType,
+    tree: &Tree,
+    initialiser: &Tree,
+    others: &[Tree],
+    rest: &[Tree],
+) -> Result<(), ElabError>
+    ensures { (globals : ℕ) → Judges (initialised_then globals (plain_state globals unit.old) (plain_storage storage) (plain_type base.now) (plain_tree tree.now) (plain_tree initialiser.now) (plain_trees others.now) (plain_trees rest.now)) (λ u. plain_state globals unit.new) used.old used.new result }
+{
+    match others.split_first() {
+        None => {
+            declare_one(
+                alloc,
+                unit,
+                used,
+                storage,
+                base,
+                tree,
+                Some(initialiser),
+                rest,
+            )?;
+            Ok(())
+        }
+        Some((_, others)) => {
+            declare_then(
+                alloc,
+                unit,
+                used,
+                storage,
+                base,
+                tree,
+                Some(initialiser),
+                others,
+                rest,
+            )?;
+            Ok(())
+        }
+    }
+}
+
+/// The declarators of a declaration, with what stands behind it in the unit.
+#[cycle(declarators)]
+pub fn declare_from(
+    alloc: Global,
+    unit: &mut Unit,
+    used: &mut Used,
+    storage: Storage,
+    base: &CType,
+    list: &[Tree],
+    rest: &[Tree],
+) -> Result<(), ElabError>
+    ensures { (globals : ℕ) → Judges (spec.declared_from globals (plain_state globals unit.old) (plain_storage storage) (plain_type base.now) (plain_trees list.now) (plain_trees rest.now)) (λ u. plain_state globals unit.new) used.old used.new result }
+{
+    let Some((tree, behind)) = list.split_first() else {
+        return Err(ElabError::Memory);
+    };
+    let Some((sign, signed)) = behind.split_first() else {
+        declare_one(alloc, unit, used, storage, base, tree, None, rest)?;
+        return Ok(());
+    };
+    let Some((next, others)) = signed.split_first() else {
+        return Err(ElabError::Memory);
+    };
+    if is_word(sign, Terminal::Assign) {
+        initialised_then(alloc, unit, used, storage, base, tree, next, others, rest)?;
+        Ok(())
+    } else {
+        declare_then(alloc, unit, used, storage, base, tree, None, signed, rest)?;
+        Ok(())
+    }
+}
