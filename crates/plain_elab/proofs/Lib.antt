@@ -1,0 +1,4 @@
+pub mod JudgingLaws
+pub mod TextLaws
+pub mod NumberLaws
+pub mod WholeLaws

@@ -1,0 +1,5 @@
+use Rattle.plain_elab.specs.PlainStates.{HaveNoNumbers}
+use Rattle.plain_elab.proofs.judging.unnumbered.Given as goal
+
+abbrev pub invariant-loop-index : goal.invariant-loop-index
+invariant-loop-index l = HaveNoNumbers l.all.items

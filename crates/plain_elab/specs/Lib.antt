@@ -1,0 +1,3 @@
+pub mod TextParts
+pub mod PlainStates
+pub mod Elaborated
