@@ -24,7 +24,7 @@ use Rattle.plain_expressions.proofs.Shapes.{half_of_parts}
 use Rattle.plain_expressions.specs.Steps.{passed_argument}
 use Rattle.plain_expressions.specs.Continuing.{Continues, followed_by}
 use Rattle.plain_expressions.proofs.NodeLaws.{no_arguments}
-use Rattle.plain_expressions.proofs.Bindings.{then_then}
+use Rattle.plain_scope.specs.Bindings.{then_then}
 use Rattle.plain_expressions.proofs.Answering.{gives_as, refused_as, refused_behind, gives_last}
 
 -- the parts behind an entry and its comma

@@ -1,6 +1,5 @@
 pub mod TextFacts
 pub mod Shapes
-pub mod Bindings
 pub mod NodeLaws
 pub mod Answering
 pub mod ArgumentLaws

@@ -19,7 +19,7 @@ use Rattle.plain_scope.specs.Parts.{parts_in}
 use Rattle.plain_scope.specs.Judgements.{Gives}
 use Rattle.plain_scope.specs.JudgementLaws.{gives_then}
 use Rattle.plain_expressions.proofs.Answering.{gives_as, gives_last}
-use Rattle.plain_expressions.proofs.Bindings.{give_then, then_then, then_same}
+use Rattle.plain_scope.specs.Bindings.{give_then, then_then, then_same}
 
 -- ---- two values
 

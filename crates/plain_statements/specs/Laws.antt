@@ -17,7 +17,7 @@ use Rattle.plain_scope.specs.Judgements.{Gives, RefusedAs}
 use Rattle.plain_scope.specs.JudgementLaws.{gives_nothing_used}
 use Rattle.plain_declarations.specs.Words.{is_gone}
 use Rattle.plain_declarations.specs.Sequences.{gives_of, refused_of}
-use Rattle.plain_statements.specs.Bindings.{then_same}
+use Rattle.plain_scope.specs.Bindings.{then_same}
 use Rattle.plain_statements.specs.Steps.{nothing_returned, returned_as, value_of, evaluated, returned_value, value_refused}
 
 -- ---- parts that may be left out

@@ -1,4 +1,3 @@
-pub mod Bindings
 pub mod Blocks
 pub mod Steps
 pub mod PlainJudged
