@@ -1,0 +1,9 @@
+pub mod Actions
+pub mod Continued
+pub mod Finish
+pub mod Forms
+pub mod Stacks
+pub mod StackLaws
+pub mod Pieces
+pub mod PieceForms
+pub mod PieceLaws
