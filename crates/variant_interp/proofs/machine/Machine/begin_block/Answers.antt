@@ -1,0 +1,6 @@
+use Rattle.std.proofs.Common.{refl}
+use Rattle.variant_interp.proofs.MachineLemmas.{stacks_come}
+use Rattle.variant_interp.proofs.machine.Machine.begin_block.Goals as goal
+
+pub returns : goal.returns
+returns c = stacks_come c.args.self.now c.then.new.self _ _ _ c.in_ok-then.ensures.actions c.then.ensures.operands refl

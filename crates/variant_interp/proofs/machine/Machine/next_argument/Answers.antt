@@ -1,0 +1,40 @@
+use Rattle.std.proofs.Common.{◌∷◌, ◌-◌, length, take, drop, map, reverse, sym, ap, ◌∙◌}
+use Rattle.core_meaning.specs.Plain.{plain_expression, plain_arguments}
+use Rattle.core_cells.specs.Forms.{plain_value}
+use Rattle.interp_actions.specs.Actions.{expression_action, use_action, call_action, argument_action, arguments_action}
+use Rattle.interp_actions.specs.Forms.{plain_actions, plain_operand}
+use Rattle.interp_actions.specs.Pieces.{operands_in}
+use Rattle.interp_actions.specs.Stacks.{actions_of}
+use Rattle.variant_interp.specs.Machines.{outcome_with}
+use Rattle.variant_interp.proofs.ListLemmas.{first_of, none_left, all_given}
+use Rattle.variant_interp.proofs.MachineLemmas.{does_from, plain_stacks_come}
+use Rattle.variant_interp.proofs.machine.Machine.next_argument.Goals as goal
+
+pub returns-in_ok-flow-in-empty : goal.returns-in_ok-flow-in-empty
+returns-in_ok-flow-in-empty c =
+    let m = c.args.self.now in
+    let f = c.args.function in
+    let es = c.args.arguments.now in
+    let items = c.args.values.items in
+    let before = reverse (map plain_value items) in
+    does_from c.in_ok-flow-in-empty.flow (call_action f (map plain_value items)) (arguments_action f (plain_arguments es) before) m m c.call.new.self
+    (sym
+    (ap (λ xs. outcome_with (arguments_action f (plain_arguments xs) before) m) (none_left es c.in-empty.len_below)
+    ∙ ap (λ vs. outcome_with (call_action f vs) m) (all_given items)))
+    c.in_ok-flow-in-empty.ensures
+
+pub returns-in_ok-then_two-in-len1-up : goal.returns-in_ok-then_two-in-len1-up
+returns-in_ok-then_two-in-len1-up c =
+    let m = c.args.self.now in
+    let f = c.args.function in
+    let es = c.args.arguments.now in
+    let e = c.argument-item.result in
+    let rest = plain_arguments (take (length es - 1) (drop 1 es)) in
+    let before = reverse (map plain_value c.args.values.items) in
+    let pushed = c.in_ok-then_argument-in-len1-up.ensures in
+    plain_stacks_come m c.then_two.new.self
+    (expression_action (plain_expression e) ∷ use_action ∷ argument_action f rest before ∷ plain_actions m.frame.types.now m.frame.slots.items (actions_of m.control)) (operands_in m.control) _
+    (ap (plain_actions m.frame.types.now m.frame.slots.items) c.in_ok-then_two-in-len1-up.ensures.actions
+    ∙ ap (λ ts. expression_action (plain_expression e) ∷ use_action ∷ ts) (pushed.actions m.frame.types.now m.frame.slots.items))
+    (ap (map plain_operand) (c.then_two.ensures.operands ∙ pushed.operands))
+    (sym (ap (λ xs. outcome_with (arguments_action f (plain_arguments xs) before) m) (first_of es e c.in-len1-up.len_at_least c.argument-item.is)))

@@ -1,0 +1,229 @@
+//! Statements (6.8).
+ghost use Rattle.std.specs.Prelude.{IfOk};
+ghost use Rattle.core_meaning.specs.Plain.{plain_expression, plain_statement, plain_items};
+ghost use Rattle.core_meaning.specs.Program as program_form;
+ghost use Rattle.interp_actions.specs.Forms.{plain_turns, plain_ending};
+ghost use Rattle.interp_actions.specs.Actions as plain;
+ghost use Rattle.variant_interp.specs.Machines.{Does};
+
+use crate::machine::Machine;
+use cond_formula::NoMemory;
+use core_cells::Value;
+use core_meaning::{Expression, Item, Statement};
+use interp_actions::{Action, Ending, Flow, Operand, Turns, begin_full};
+
+impl<'a> Machine<'a> {
+    /// Begins a statement (6.8).
+    #[tactic(auto, using(core_meaning::specs::PlainLaws::statement_kinds))]
+    pub fn begin_statement(&mut self, statement: &'a Statement) -> Result<Flow, NoMemory>
+        ensures { IfOk result (λ flow. Does flow (plain.statement_action (plain_statement statement.now)) self.old self.new) }
+    {
+        match statement {
+            Statement::Block(items) => self.begin_block(items),
+            Statement::Expression(expression) => self.begin_evaluate(expression),
+            Statement::If(condition, first, second) => self.begin_if(condition, first, second),
+            Statement::Loop {
+                asks_first,
+                condition,
+                step,
+                body,
+            } => self.begin_loop(*asks_first, condition, step, body),
+            Statement::Break => self.begin_break(),
+            Statement::Continue => self.begin_continue(),
+            Statement::Return => self.begin_return(),
+            Statement::ReturnValue(value) => self.begin_return_value(value),
+        }
+    }
+
+    fn begin_block(&mut self, items: &'a [Item]) -> Result<Flow, NoMemory>
+        ensures { IfOk result (λ flow. Does flow (plain.statement_action (program_form.block (plain_items items.now))) self.old self.new) }
+    {
+        self.control.then(Action::Items(items))?;
+        Ok(Flow::Goes)
+    }
+
+    fn begin_if(
+        &mut self,
+        condition: &'a Expression,
+        first: &'a Statement,
+        second: &'a Statement,
+    ) -> Result<Flow, NoMemory>
+        ensures { IfOk result (λ flow. Does flow (plain.statement_action (program_form.selection (plain_expression condition.now) (plain_statement first.now) (plain_statement second.now))) self.old self.new) }
+    {
+        self.control.then(Action::If(first, second))?;
+        begin_full(&mut self.control, self.alloc, &mut self.temporaries)?;
+        self.control
+            .then_two(Action::Expression(condition), Action::Test)?;
+        Ok(Flow::Goes)
+    }
+
+    fn begin_return_value(&mut self, value: &'a Expression) -> Result<Flow, NoMemory>
+        ensures { IfOk result (λ flow. Does flow (plain.statement_action (program_form.return_value (plain_expression value.now))) self.old self.new) }
+    {
+        self.control.then(Action::ReturnValue)?;
+        begin_full(&mut self.control, self.alloc, &mut self.temporaries)?;
+        self.control
+            .then_two(Action::Expression(value), Action::Used)?;
+        Ok(Flow::Goes)
+    }
+
+    fn begin_evaluate(&mut self, expression: &'a Expression) -> Result<Flow, NoMemory>
+        ensures { IfOk result (λ flow. Does flow (plain.statement_action (program_form.evaluate (plain_expression expression.now))) self.old self.new) }
+    {
+        self.control.then(Action::Falls)?;
+        begin_full(&mut self.control, self.alloc, &mut self.temporaries)?;
+        self.control.then(Action::Expression(expression))?;
+        Ok(Flow::Goes)
+    }
+
+    fn begin_break(&mut self) -> Result<Flow, NoMemory>
+        ensures { IfOk result (λ flow. Does flow (plain.statement_action program_form.break_loop) self.old self.new) }
+    {
+        self.control.put(Operand::Ending(Ending::Breaks))?;
+        Ok(Flow::Goes)
+    }
+
+    fn begin_continue(&mut self) -> Result<Flow, NoMemory>
+        ensures { IfOk result (λ flow. Does flow (plain.statement_action program_form.continue_loop) self.old self.new) }
+    {
+        self.control.put(Operand::Ending(Ending::Continues))?;
+        Ok(Flow::Goes)
+    }
+
+    fn begin_return(&mut self) -> Result<Flow, NoMemory>
+        ensures { IfOk result (λ flow. Does flow (plain.statement_action program_form.return_nothing) self.old self.new) }
+    {
+        self.control
+            .put(Operand::Ending(Ending::Returns(Value::Nothing)))?;
+        Ok(Flow::Goes)
+    }
+
+    // ---- loops
+
+    fn begin_loop(
+        &mut self,
+        asks_first: bool,
+        condition: &'a Expression,
+        step: &'a Expression,
+        body: &'a Statement,
+    ) -> Result<Flow, NoMemory>
+        ensures { IfOk result (λ flow. Does flow (plain.statement_action (program_form.loop asks_first (plain_expression condition.now) (plain_expression step.now) (plain_statement body.now))) self.old self.new) }
+    {
+        let turns = Turns {
+            condition,
+            step,
+            body,
+            bound_behind: self.frame.bound,
+        };
+        if asks_first {
+            let flow = self.asks(turns)?;
+            Ok(flow)
+        } else {
+            let begun = self.begin_turn(turns)?;
+            Ok(begun)
+        }
+    }
+
+    fn asks(&mut self, turns: Turns<'a>) -> Result<Flow, NoMemory>
+        ensures { IfOk result (λ flow. Does flow (plain.asking_action (plain_turns turns.entry)) self.old self.new) }
+    {
+        self.control.then(Action::Turn(turns))?;
+        begin_full(&mut self.control, self.alloc, &mut self.temporaries)?;
+        self.control
+            .then_two(Action::Expression(turns.condition), Action::Test)?;
+        Ok(Flow::Goes)
+    }
+
+    /// The step of a loop is done, and its condition comes next (6.8.5.3).
+    pub fn asks_again(&mut self, turns: Turns<'a>) -> Result<Flow, NoMemory>
+        ensures { IfOk result (λ flow. Does flow (plain.asks_action (plain_turns turns.entry)) self.old self.new) }
+    {
+        match self.control.take_value() {
+            None => Ok(Flow::Fails),
+            Some(value) => {
+                let flow = self.asks_past(value, turns)?;
+                Ok(flow)
+            }
+        }
+    }
+
+    /// The value isn't kept.
+    fn asks_past(&mut self, _value: Value<'a>, turns: Turns<'a>) -> Result<Flow, NoMemory>
+        ensures { IfOk result (λ flow. Does flow (plain.asking_action (plain_turns turns.entry)) self.old self.new) }
+    {
+        self.asks(turns)
+    }
+
+    /// What follows the body of a turn, and then the next test of the condition.
+    fn begin_step(&mut self, turns: Turns<'a>) -> Result<Flow, NoMemory>
+        ensures { IfOk result (λ flow. Does flow (plain.step_action (plain_turns turns.entry)) self.old self.new) }
+    {
+        self.control.then(Action::Asks(turns))?;
+        begin_full(&mut self.control, self.alloc, &mut self.temporaries)?;
+        self.control.then(Action::Expression(turns.step))?;
+        Ok(Flow::Goes)
+    }
+
+    /// The condition of a loop is on top: a turn begins where it holds, else the loop is left (6.8.5).
+    pub fn turn(&mut self, turns: Turns<'a>) -> Result<Flow, NoMemory>
+        ensures { IfOk result (λ flow. Does flow (plain.turn_action (plain_turns turns.entry)) self.old self.new) }
+    {
+        match self.control.take_truth() {
+            None => Ok(Flow::Fails),
+            Some(true) => {
+                let flow = self.begin_turn(turns)?;
+                Ok(flow)
+            }
+            Some(false) => {
+                let flow = self.leave_loop(turns, Ending::Falls)?;
+                Ok(flow)
+            }
+        }
+    }
+
+    fn begin_turn(&mut self, turns: Turns<'a>) -> Result<Flow, NoMemory>
+        ensures { IfOk result (λ flow. Does flow (plain.job_action (plain_turns turns.entry)) self.old self.new) }
+    {
+        if self.frame.bound == 0 {
+            return Ok(Flow::Stops);
+        }
+        self.frame.bound -= 1;
+        self.control
+            .then_two(Action::Statement(turns.body), Action::AfterTurn(turns))?;
+        Ok(Flow::Goes)
+    }
+
+    /// The body of a turn ended: the loop takes its step, or is left (6.8.6.2, 6.8.6.3).
+    pub fn after_turn(&mut self, turns: Turns<'a>) -> Result<Flow, NoMemory>
+        ensures { IfOk result (λ flow. Does flow (plain.after_turn_action (plain_turns turns.entry)) self.old self.new) }
+    {
+        match self.control.take_ending() {
+            None => Ok(Flow::Fails),
+            Some(Ending::Falls) => {
+                let flow = self.begin_step(turns)?;
+                Ok(flow)
+            }
+            Some(Ending::Continues) => {
+                let flow = self.begin_step(turns)?;
+                Ok(flow)
+            }
+            Some(Ending::Breaks) => {
+                let flow = self.leave_loop(turns, Ending::Falls)?;
+                Ok(flow)
+            }
+            Some(Ending::Returns(value)) => {
+                let flow = self.leave_loop(turns, Ending::Returns(value))?;
+                Ok(flow)
+            }
+        }
+    }
+
+    /// What follows the loop has the bound that the loop began with.
+    fn leave_loop(&mut self, turns: Turns<'a>, ending: Ending<'a>) -> Result<Flow, NoMemory>
+        ensures { IfOk result (λ flow. Does flow (plain.leave_action (plain_turns turns.entry) (plain_ending ending.entry)) self.old self.new) }
+    {
+        self.frame.bound = turns.bound_behind;
+        self.control.put(Operand::Ending(ending))?;
+        Ok(Flow::Goes)
+    }
+}
