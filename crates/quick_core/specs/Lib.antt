@@ -1,0 +1,3 @@
+pub mod Present
+pub mod CoreProgram
+pub mod Laws
