@@ -1,0 +1,11 @@
+pub mod Spelled
+pub mod Decimals
+pub mod Judging
+pub mod JudgedCode
+pub mod JudgedUnit
+pub mod Readiness
+pub mod LinkedUnit
+pub mod Texts
+pub mod Elaborated
+pub mod Alike
+pub mod Links
