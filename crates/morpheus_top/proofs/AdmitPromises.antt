@@ -6,7 +6,7 @@ use Rattle.project_file.specs.Faults.{Fault}
 use Rattle.project_file.specs.Laws.{ProjectsHaveNoFault}
 use Rattle.project_store.specs.Reads.{SaysProject, HasFault}
 use Rattle.morpheus_top.specs.declared.replies.Reply.{Reply}
-use Rattle.morpheus_top.specs.declared.replies.Reply.TheVariants.{Renamed, Usage, ReadFault, WriteFault, WantOfMemory, NotQuick, BadProject, Admits, AdmitsNothing, Tokens}
+use Rattle.morpheus_top.specs.declared.replies.Reply.TheVariants.{Renamed, Usage, ReadFault, WriteFault, WantOfMemory, NotQuick, BadProject, Admits, AdmitsNothing, Tokens, Run}
 use Rattle.text_edits.specs.Files.{Lookup}
 use Rattle.morpheus_top.specs.Words.{AsksAdmit}
 use Rattle.morpheus_top.specs.Replies.{status_of, report_of, fault_view}
@@ -14,16 +14,18 @@ use Rattle.morpheus_top.specs.Admit.{AdmitsLeast, AdmitsNone}
 use Rattle.morpheus_top.specs.States.{StoreState, SinkState}
 use Rattle.morpheus_top.specs.Calls.{SaysReadFault, IsUsageIn, HasFaultIn, Holds, Answers}
 use Rattle.morpheus_top.specs.Promises.{IsOneOf, NoFault, FitsReports, PrintsLeast, PrintsFault}
-use Rattle.morpheus_top.proofs.Promises.{one_command, one_project, no_tokens_for_admit, is_not, settled, first_of_three, second_of_three, third_of_three, no_read_rise, no_read_there, taken_is}
+use Rattle.morpheus_top.proofs.Promises.{one_command, one_project, no_tokens_for_admit, no_run_for_admit, is_not, is_no_run, settled, first_of_three, second_of_three, third_of_three, no_read_rise, no_read_there, taken_is}
 
 -- words that ask for a project are of use, and what they ask for is its first fault
 no_usage_for_admit : (words : List (List ℕ)) (told : Type 0) (files : Lookup) (name : List ℕ) → AsksAdmit words name → IsUsageIn words told files → ⊥
 no_usage_for_admit words told files name a (inl u) = u.no_admit name a
-no_usage_for_admit words told files name a (inr x) = no_tokens_for_admit words name x.0 a x.1
+no_usage_for_admit words told files name a (inr (inl x)) = no_tokens_for_admit words name x.0 a x.1
+no_usage_for_admit words told files name a (inr (inr x)) = no_run_for_admit words name x.0 a x.1
 
 fault_for_admit : (words : List (List ℕ)) (told : Type 0) (files : Lookup) (name : List ℕ) (fault : Fault) → AsksAdmit words name → HasFaultIn words told files fault → HasFault told files name fault
 fault_for_admit words told files name fault a (inl x) = subst (λ n. HasFault told files n fault) (one_project words x.0 name x.1 a) x.2
-fault_for_admit words told files name fault a (inr x) = absurd (no_tokens_for_admit words name x.0 a x.1)
+fault_for_admit words told files name fault a (inr (inl x)) = absurd (no_tokens_for_admit words name x.0 a x.1)
+fault_for_admit words told files name fault a (inr (inr x)) = absurd (no_run_for_admit words name x.0 a x.1)
 
 -- what a reply to words that ask for a project comes to, where no read failed
 data Outcome (b : StoreState) (name : List ℕ) (reply : Reply) : Type 0 where
@@ -41,6 +43,7 @@ outcome words b a name asked no_read (NotQuick o) h = absurd (one_command words 
 outcome words b a name asked no_read (BadProject f) h =
     refused (fault_view f) (fault_for_admit words b.tells b.file name (fault_view f) asked h.first) refl
 outcome words b a name asked no_read (Tokens r) h = absurd (no_tokens_for_admit words name h.query asked h.asked)
+outcome words b a name asked no_read (Run r) h = absurd (no_run_for_admit words name h.query asked h.asked)
 outcome words b a name asked no_read (Admits n) h =
     found h.least.project (subst (λ m. SaysProject b.tells b.file m h.least.project) (one_project words h.project name h.asked asked) h.least.has_project) refl
 outcome words b a name asked no_read AdmitsNothing h =
@@ -112,6 +115,7 @@ bad_project_lem words b a s t status A e name asked =
     faulted (Admits n) h k = absurd (omega arith)
     faulted AdmitsNothing h k = absurd (omega arith)
     faulted (Tokens r) h k = absurd (is_not r 5 (λ e. omega arith) (λ e. omega arith) k)
+    faulted (Run r) h k = absurd (is_no_run r 5 (λ e. omega arith) (λ e. omega arith) (λ e. omega arith) (λ e. omega arith) k)
 
 -- where a store tells what it holds, what was read of it stands there
 pub told_fault : (b : StoreState) (name : List ℕ) (fault : Fault) → b.tells → HasFault b.tells b.file name fault → HasFault (Unit {0}) b.file name fault
@@ -136,6 +140,7 @@ prints_fault_lem words b a s t status A e tells sink name asked =
     printed (Admits n) h k took = absurd (omega arith)
     printed AdmitsNothing h k took = absurd (omega arith)
     printed (Tokens r) h k took = absurd (is_not r 5 (λ e. omega arith) (λ e. omega arith) k)
+    printed (Run r) h k took = absurd (is_no_run r 5 (λ e. omega arith) (λ e. omega arith) (λ e. omega arith) (λ e. omega arith) k)
 
 pub prints_least_lem : (words : List (List ℕ)) (b a : StoreState) (s t : SinkState) (status : ℕ) → Answers words b a s t status → status ≡ 0 → b.tells → s.tells → (name : List ℕ) → AsksAdmit words name → PrintsLeast name b.file s.taken t.taken
 prints_least_lem words b a s t status A e tells sink name asked =
@@ -167,3 +172,4 @@ prints_least_lem words b a s t status A e tells sink name asked =
     printed AdmitsNothing h k took =
         inr (told_none (subst (λ n. AdmitsNone b.tells b.file n) (one_project words h.project name h.asked asked) h.none), took)
     printed (Tokens r) h k took = absurd (no_tokens_for_admit words name h.query asked h.asked)
+    printed (Run r) h k took = absurd (no_run_for_admit words name h.query asked h.asked)

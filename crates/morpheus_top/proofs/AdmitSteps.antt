@@ -4,7 +4,7 @@ use Rattle.cond_formula.specs.Conditions.{VarsBelow}
 use Rattle.project_file.specs.Projects.{PlainProject, IsProject}
 use Rattle.project_store.specs.Reads.{SaysProject}
 use Rattle.morpheus_top.specs.declared.replies.Reply.{Reply}
-use Rattle.morpheus_top.specs.declared.replies.Reply.TheVariants.{Renamed, Usage, ReadFault, WriteFault, WantOfMemory, NotQuick, BadProject, Admits, AdmitsNothing, Tokens}
+use Rattle.morpheus_top.specs.declared.replies.Reply.TheVariants.{Renamed, Usage, ReadFault, WriteFault, WantOfMemory, NotQuick, BadProject, Admits, AdmitsNothing, Tokens, Run}
 use Rattle.morpheus_top.specs.Words.{AsksAdmit}
 use Rattle.morpheus_top.specs.Admit.{Found}
 use Rattle.morpheus_top.specs.States.{StoreState, Kept}
@@ -44,3 +44,4 @@ module _ (words : List (List ℕ)) (name : List ℕ) (asked : AsksAdmit words na
   found_holds project says (NotQuick offset) found = absurd found
   found_holds project says (BadProject fault) found = absurd found
   found_holds project says (Tokens reply) found = absurd found
+  found_holds project says (Run reply) found = absurd found

@@ -9,3 +9,9 @@ mod UnitLaws
 mod TokensPromises
 mod TokensSteps
 mod ReadErrors
+mod ProductLaws
+mod ProductSteps
+mod RunWords
+mod RunLaws
+mod RunSteps
+mod RunPromises

@@ -4,15 +4,19 @@ use Rattle.quick_form.specs.Renaming.{token_count}
 use Rattle.quick_form.specs.Quick.{Takes, KeepsBehaviour, RenamingKeepsBehaviour}
 use Rattle.project_store.specs.Room.{LacksRoom}
 use Rattle.morpheus_top.specs.declared.replies.Reply.{Reply}
-use Rattle.morpheus_top.specs.declared.replies.Reply.TheVariants.{Renamed, Usage, ReadFault, WriteFault, WantOfMemory, NotQuick, BadProject, Admits, AdmitsNothing, Tokens}
+use Rattle.morpheus_top.specs.declared.replies.Reply.TheVariants.{Renamed, Usage, ReadFault, WriteFault, WantOfMemory, NotQuick, BadProject, Admits, AdmitsNothing, Tokens, Run}
 use Rattle.quick_form.specs.Words.{is_name}
 use Rattle.c_names.specs.Names.{is_new_name}
 use Rattle.text_edits.specs.Files.{Lookup}
 use Rattle.project_file.specs.Faults.{Fault}
 use Rattle.morpheus_top.specs.declared.replies.TokensReply.{TokensReply}
 use Rattle.morpheus_top.specs.declared.replies.TokensReply.TheVariants.{NotAdmitted, NotPresent, NotAccepted, Printed}
-use Rattle.morpheus_top.specs.Words.{Renaming, UnitQuery, target, names_in, AsksQuick, AsksAdmit, AsksTokens, IsUsage, Reads}
-use Rattle.morpheus_top.specs.Replies.{status_of, status_of_tokens, report_of}
+use Rattle.morpheus_top.specs.declared.replies.RunReply.{RunReply}
+use Rattle.morpheus_top.specs.declared.replies.RunReply.TheVariants as run
+use Rattle.morpheus_top.specs.Words.{Renaming, UnitQuery, RunQuery, target, names_in, AsksQuick, AsksAdmit, AsksTokens, AsksRun, IsUsage, Reads}
+use Rattle.morpheus_top.specs.Replies.{status_of, status_of_tokens, status_of_run, report_of}
+use Rattle.morpheus_top.specs.Tokens.{IsReadFor}
+use Rattle.morpheus_top.specs.Runs.{IsReadForRun}
 use Rattle.morpheus_top.specs.States.{StoreState, SinkState, Kept}
 use Rattle.morpheus_top.specs.Calls.{TakesFile, RefusesFile, HasPlace, renamed_file, WritesFile, WritesPart, LacksRoomFor, SaysReadFault, SaysWriteFault, SaysNotQuick, SaysRenamed, IsUsageIn, HasFaultIn, ReadsIn, Holds, BreaksOff, Answers}
 use Rattle.morpheus_top.specs.Promises.{IsOneOf, NoFault, SinkLacksRoom, IsRoomFor, PrintsPlace, BehaviourIsKept}
@@ -62,18 +66,37 @@ one_query words p q a b =
     let h : List (List ℕ) → UnitQuery = λ x. record { project = q.project; unit = q.unit; names = x } in
     ap f project ∙ (ap g unit ∙ ap h names)
 
+-- words that ask for a run ask for nothing else
+pub no_run_for_quick : (words : List (List ℕ)) (r : Renaming) (q : RunQuery) → AsksQuick words r → AsksRun words q → ⊥
+no_run_for_quick words r q a b =
+    let e : codes "quick" ∷ r.file ∷ r.old ∷ r.new ∷ r.out ∷ [] ≡ codes "run" ∷ q.project ∷ b.names ∷ b.bound ∷ b.input ∷ [] = sym a.words_are ∙ b.words_are in cc
+
+pub no_run_for_admit : (words : List (List ℕ)) (name : List ℕ) (q : RunQuery) → AsksAdmit words name → AsksRun words q → ⊥
+no_run_for_admit words name q a b =
+    let e : codes "admit" ∷ name ∷ [] ≡ codes "run" ∷ q.project ∷ b.names ∷ b.bound ∷ b.input ∷ [] = sym a.words_are ∙ b.words_are in cc
+
+pub no_run_for_tokens : (words : List (List ℕ)) (q : UnitQuery) (r : RunQuery) → AsksTokens words q → AsksRun words r → ⊥
+no_run_for_tokens words q r a b =
+    let e : codes "tokens" ∷ q.project ∷ q.unit ∷ a.text ∷ [] ≡ codes "run" ∷ r.project ∷ b.names ∷ b.bound ∷ b.input ∷ [] = sym a.words_are ∙ b.words_are in cc
+
 -- such words are of use, and have no other fault
 no_usage_for_quick : (words : List (List ℕ)) (told : Type 0) (files : Lookup) (r : Renaming) → AsksQuick words r → IsUsageIn words told files → ⊥
 no_usage_for_quick words told files r a (inl u) = u.no_quick r a
-no_usage_for_quick words told files r a (inr x) = no_tokens_for_quick words r x.0 a x.1
+no_usage_for_quick words told files r a (inr (inl x)) = no_tokens_for_quick words r x.0 a x.1
+no_usage_for_quick words told files r a (inr (inr x)) = no_run_for_quick words r x.0 a x.1
 
 no_fault_for_quick : (words : List (List ℕ)) (told : Type 0) (files : Lookup) (r : Renaming) (fault : Fault) → AsksQuick words r → HasFaultIn words told files fault → ⊥
 no_fault_for_quick words told files r fault a (inl x) = one_command words r x.0 a x.1
-no_fault_for_quick words told files r fault a (inr x) = no_tokens_for_quick words r x.0 a x.1
+no_fault_for_quick words told files r fault a (inr (inl x)) = no_tokens_for_quick words r x.0 a x.1
+no_fault_for_quick words told files r fault a (inr (inr x)) = no_run_for_quick words r x.0 a x.1
 
 pub no_tokens_read_alone : (words : List (List ℕ)) (file : List ℕ) (q : UnitQuery) → Reads words file → AsksTokens words q → ⊥
 no_tokens_read_alone words file q (inl x) b = no_tokens_for_quick words x.0 q x.1 b
 no_tokens_read_alone words file q (inr a) b = no_tokens_for_admit words file q a b
+
+pub no_run_read_alone : (words : List (List ℕ)) (file : List ℕ) (q : RunQuery) → Reads words file → AsksRun words q → ⊥
+no_run_read_alone words file q (inl x) b = no_run_for_quick words x.0 q x.1 b
+no_run_read_alone words file q (inr a) b = no_run_for_admit words file q a b
 
 -- the statuses of replies about tokens
 pub is_not : (r : TokensReply) (n : ℕ) → (n ≡ 0 → ⊥) → (n ≡ 9 → ⊥) → status_of_tokens r ≡ n → ⊥
@@ -81,6 +104,14 @@ is_not NotAdmitted n z t e = t (sym e)
 is_not NotPresent n z t e = t (sym e)
 is_not NotAccepted n z t e = t (sym e)
 is_not (Printed tokens) n z t e = z (sym e)
+
+-- and about runs
+pub is_no_run : (r : RunReply) (n : ℕ) → (n ≡ 0 → ⊥) → (n ≡ 9 → ⊥) → (n ≡ 10 → ⊥) → (n ≡ 11 → ⊥) → status_of_run r ≡ n → ⊥
+is_no_run run.NotAdmitted n a b c d e = b (sym e)
+is_no_run (run.NotAccepted stage) n a b c d e = b (sym e)
+is_no_run (run.Ended output status) n a b c d e = a (sym e)
+is_no_run (run.Undefined output) n a b c d e = c (sym e)
+is_no_run (run.Running output) n a b c d e = d (sym e)
 
 -- words that ask for a command that reads a file alone ask for no other
 pub one_file : (words : List (List ℕ)) (file other : List ℕ) → Reads words file → Reads words other → file ≡ other
@@ -104,6 +135,7 @@ on_usage words b a (BadProject f) h e = absurd (omega arith)
 on_usage words b a (Admits n) h e = absurd (omega arith)
 on_usage words b a AdmitsNothing h e = absurd (omega arith)
 on_usage words b a (Tokens r) h e = absurd (is_not r 2 (λ k. omega arith) (λ k. omega arith) e)
+on_usage words b a (Run r) h e = absurd (is_no_run r 2 (λ k. omega arith) (λ k. omega arith) (λ k. omega arith) (λ k. omega arith) e)
 
 on_read_fault : (words : List (List ℕ)) (b a : StoreState) (r : Reply) → Holds words b a r → status_of r ≡ 3 → SaysReadFault words b a
 on_read_fault words b a (Renamed n) h e = absurd (omega arith)
@@ -116,6 +148,7 @@ on_read_fault words b a (BadProject f) h e = absurd (omega arith)
 on_read_fault words b a (Admits n) h e = absurd (omega arith)
 on_read_fault words b a AdmitsNothing h e = absurd (omega arith)
 on_read_fault words b a (Tokens r) h e = absurd (is_not r 3 (λ k. omega arith) (λ k. omega arith) e)
+on_read_fault words b a (Run r) h e = absurd (is_no_run r 3 (λ k. omega arith) (λ k. omega arith) (λ k. omega arith) (λ k. omega arith) e)
 
 on_write_fault : (words : List (List ℕ)) (b a : StoreState) (r : Reply) → Holds words b a r → status_of r ≡ 4 → SaysWriteFault words b a
 on_write_fault words b a (Renamed n) h e = absurd (omega arith)
@@ -128,6 +161,7 @@ on_write_fault words b a (BadProject f) h e = absurd (omega arith)
 on_write_fault words b a (Admits n) h e = absurd (omega arith)
 on_write_fault words b a AdmitsNothing h e = absurd (omega arith)
 on_write_fault words b a (Tokens r) h e = absurd (is_not r 4 (λ k. omega arith) (λ k. omega arith) e)
+on_write_fault words b a (Run r) h e = absurd (is_no_run r 4 (λ k. omega arith) (λ k. omega arith) (λ k. omega arith) (λ k. omega arith) e)
 
 on_not_quick : (words : List (List ℕ)) (b a : StoreState) (r : Reply) → Holds words b a r → status_of r ≡ 12 → (offset : ℕ) × (r ≡ NotQuick offset) × SaysNotQuick words b a offset
 on_not_quick words b a (Renamed n) h e = absurd (omega arith)
@@ -140,6 +174,7 @@ on_not_quick words b a (BadProject f) h e = absurd (omega arith)
 on_not_quick words b a (Admits n) h e = absurd (omega arith)
 on_not_quick words b a AdmitsNothing h e = absurd (omega arith)
 on_not_quick words b a (Tokens r) h e = absurd (is_not r 12 (λ k. omega arith) (λ k. omega arith) e)
+on_not_quick words b a (Run r) h e = absurd (is_no_run r 12 (λ k. omega arith) (λ k. omega arith) (λ k. omega arith) (λ k. omega arith) e)
 
 on_renamed : (words : List (List ℕ)) (b a : StoreState) (s : Renaming) → AsksQuick words s → (r : Reply) → Holds words b a r → status_of r ≡ 0 → (n : ℕ) × SaysRenamed words b a n
 on_renamed words b a s asked (Renamed n) h e = (n, h)
@@ -152,6 +187,7 @@ on_renamed words b a s asked (BadProject f) h e = absurd (omega arith)
 on_renamed words b a s asked (Admits n) h e = absurd (one_command words s h.project asked h.asked)
 on_renamed words b a s asked AdmitsNothing h e = absurd (one_command words s h.project asked h.asked)
 on_renamed words b a s asked (Tokens r) h e = absurd (no_tokens_for_quick words s h.query asked h.asked)
+on_renamed words b a s asked (Run r) h e = absurd (no_run_for_quick words s h.query asked h.asked)
 
 on_others : (words : List (List ℕ)) (b a : StoreState) (r : Reply) → Holds words b a r → (status_of r ≡ 0 → ⊥) → (status_of r ≡ 4 → ⊥) → Kept b a
 on_others words b a (Renamed n) h p q = absurd (p refl)
@@ -164,6 +200,7 @@ on_others words b a (BadProject f) h p q = h.kept
 on_others words b a (Admits n) h p q = absurd (p refl)
 on_others words b a AdmitsNothing h p q = absurd (p refl)
 on_others words b a (Tokens r) h p q = h.kept
+on_others words b a (Run r) h p q = h.kept
 
 pub usage_lem : (words : List (List ℕ)) (b a : StoreState) (s t : SinkState) (status : ℕ) → Answers words b a s t status → status ≡ 2 → IsUsageIn words b.tells b.file
 usage_lem words b a s t status A e = on_usage words b a A.reply A.holds (settled words b a s t status 2 A e (λ k. omega arith))
@@ -195,6 +232,7 @@ sink_fault_lem words b a s t status A e =
     no_six (Admits n) e = omega arith
     no_six AdmitsNothing e = omega arith
     no_six (Tokens r) e = is_not r 6 (λ k. omega arith) (λ k. omega arith) e
+    no_six (Run r) e = is_no_run r 6 (λ k. omega arith) (λ k. omega arith) (λ k. omega arith) (λ k. omega arith) e
 
 same_bytes : (b : StoreState) (r r' : Renaming) (bytes bytes' : List ℕ) → r' ≡ r → b.file r.file ≡ Some bytes → b.file r'.file ≡ Some bytes' → bytes' ≡ bytes
 same_bytes b r r' bytes bytes' e p q =
@@ -221,6 +259,7 @@ taken_reply words b a r bytes asked tells takes no_read no_write (BadProject f) 
 taken_reply words b a r bytes asked tells takes no_read no_write (Admits n) h = absurd (one_command words r h.project asked h.asked)
 taken_reply words b a r bytes asked tells takes no_read no_write AdmitsNothing h = absurd (one_command words r h.project asked h.asked)
 taken_reply words b a r bytes asked tells takes no_read no_write (Tokens reply) h = absurd (no_tokens_for_quick words r h.query asked h.asked)
+taken_reply words b a r bytes asked tells takes no_read no_write (Run reply) h = absurd (no_run_for_quick words r h.query asked h.asked)
 
 -- a file that isn't taken is refused, unless memory ends or the store fails
 refused_reply : (words : List (List ℕ)) (b a : StoreState) (r : Renaming) → AsksQuick words r → b.tells → RefusesFile r b.file → (SaysReadFault words b a → ⊥) → (SaysWriteFault words b a → ⊥) → (reply : Reply) → Holds words b a reply → (status_of reply ≡ 12) ⊎ (status_of reply ≡ 7)
@@ -238,15 +277,18 @@ refused_reply words b a r asked tells refuses no_read no_write (BadProject f) h 
 refused_reply words b a r asked tells refuses no_read no_write (Admits n) h = absurd (one_command words r h.project asked h.asked)
 refused_reply words b a r asked tells refuses no_read no_write AdmitsNothing h = absurd (one_command words r h.project asked h.asked)
 refused_reply words b a r asked tells refuses no_read no_write (Tokens reply) h = absurd (no_tokens_for_quick words r h.query asked h.asked)
+refused_reply words b a r asked tells refuses no_read no_write (Run reply) h = absurd (no_run_for_quick words r h.query asked h.asked)
 
 no_reading : (words : List (List ℕ)) (told : Type 0) (files : Lookup) (file : List ℕ) → IsUsage words → ReadsIn words told files file → ⊥
 no_reading words told files file u (inl (inl x)) = u.no_quick x.0 x.1
 no_reading words told files file u (inl (inr a)) = u.no_admit file a
-no_reading words told files file u (inr x) = u.no_tokens x.0 x.1
+no_reading words told files file u (inr (inl x)) = u.no_tokens x.0 x.1
+no_reading words told files file u (inr (inr x)) = u.no_run x.0 x.1
 
 no_faulty : (words : List (List ℕ)) (told : Type 0) (files : Lookup) (fault : Fault) → IsUsage words → HasFaultIn words told files fault → ⊥
 no_faulty words told files fault u (inl x) = u.no_admit x.0 x.1
-no_faulty words told files fault u (inr x) = u.no_tokens x.0 x.1
+no_faulty words told files fault u (inr (inl x)) = u.no_tokens x.0 x.1
+no_faulty words told files fault u (inr (inr x)) = u.no_run x.0 x.1
 
 usage_reply : (words : List (List ℕ)) (b a : StoreState) → IsUsage words → (reply : Reply) → Holds words b a reply → (status_of reply ≡ 2) ⊎ (status_of reply ≡ 7)
 usage_reply words b a u (Renamed n) h = absurd (u.no_quick h.renaming h.asked)
@@ -259,6 +301,7 @@ usage_reply words b a u (BadProject f) h = absurd (no_faulty words b.tells b.fil
 usage_reply words b a u (Admits n) h = absurd (u.no_admit h.project h.asked)
 usage_reply words b a u AdmitsNothing h = absurd (u.no_admit h.project h.asked)
 usage_reply words b a u (Tokens reply) h = absurd (u.no_tokens h.query h.asked)
+usage_reply words b a u (Run reply) h = absurd (u.no_run h.query h.asked)
 
 pub first_of_three : (x y z n : ℕ) → n ≡ x → IsOneOf (x ∷ y ∷ z ∷ []) n
 first_of_three x y z n e = (0, lit< tt, sym e)
@@ -307,10 +350,15 @@ refuses_lem words b a s t status A r asked tells refuses f =
       | inr k ↦ absurd (f.report k.1.rose)
     ]
 
+-- words that ask for a command that reads a file alone don't ask for what reads more
+read_for_more : (words : List (List ℕ)) (b : StoreState) (file other : List ℕ) → Reads words file → (((q : UnitQuery) × AsksTokens words q × IsReadFor b.tells b.file q other) ⊎ ((q : RunQuery) × AsksRun words q × IsReadForRun b.tells b.file q other)) → ⊥
+read_for_more words b file other reads (inl x) = no_tokens_read_alone words file x.0 reads x.1
+read_for_more words b file other reads (inr x) = no_run_read_alone words file x.0 reads x.1
+
 -- of a store that tells its room a file is absent where a read fault is reported
 absent_alone : (words : List (List ℕ)) (b a : StoreState) (file : List ℕ) → Reads words file → b.tells_room → SaysReadFault words b a → b.file file ≡ None
 absent_alone words b a file reads room h =
-    sym (ap b.file (elim h.reads [ inl r ↦ one_file words h.file file r reads | inr x ↦ absurd (no_tokens_read_alone words file x.0 reads x.1) ]))
+    sym (ap b.file (elim h.reads [ inl r ↦ one_file words h.file file r reads | inr x ↦ absurd (read_for_more words b file h.file reads x) ]))
     ∙ h.absent room
 
 -- a told room that holds the file is no cause of a read fault, nor one that is enough of a write fault
@@ -384,13 +432,13 @@ untouched_lem words b a s t status A p q k =
       | inr e ↦ absurd (k e.0)
     ]
 
-status_is : (r : Reply) → IsOneOf (0 ∷ 2 ∷ 3 ∷ 4 ∷ 5 ∷ 6 ∷ 7 ∷ 9 ∷ 12 ∷ []) (status_of r)
+status_is : (r : Reply) → IsOneOf (0 ∷ 2 ∷ 3 ∷ 4 ∷ 5 ∷ 6 ∷ 7 ∷ 9 ∷ 10 ∷ 11 ∷ 12 ∷ []) (status_of r)
 status_is (Renamed n) = (0, lit< tt, refl)
 status_is Usage = (1, lit< tt, refl)
 status_is ReadFault = (2, lit< tt, refl)
 status_is WriteFault = (3, lit< tt, refl)
 status_is WantOfMemory = (6, lit< tt, refl)
-status_is (NotQuick o) = (8, lit< tt, refl)
+status_is (NotQuick o) = (10, lit< tt, refl)
 status_is (BadProject f) = (4, lit< tt, refl)
 status_is (Admits n) = (0, lit< tt, refl)
 status_is AdmitsNothing = (0, lit< tt, refl)
@@ -398,12 +446,17 @@ status_is (Tokens NotAdmitted) = (7, lit< tt, refl)
 status_is (Tokens NotPresent) = (7, lit< tt, refl)
 status_is (Tokens NotAccepted) = (7, lit< tt, refl)
 status_is (Tokens (Printed tokens)) = (0, lit< tt, refl)
+status_is (Run run.NotAdmitted) = (7, lit< tt, refl)
+status_is (Run (run.NotAccepted stage)) = (7, lit< tt, refl)
+status_is (Run (run.Ended output status)) = (0, lit< tt, refl)
+status_is (Run (run.Undefined output)) = (8, lit< tt, refl)
+status_is (Run (run.Running output)) = (9, lit< tt, refl)
 
-pub statuses_lem : (words : List (List ℕ)) (b a : StoreState) (s t : SinkState) (status : ℕ) → Answers words b a s t status → IsOneOf (0 ∷ 2 ∷ 3 ∷ 4 ∷ 5 ∷ 6 ∷ 7 ∷ 9 ∷ 12 ∷ []) status
+pub statuses_lem : (words : List (List ℕ)) (b a : StoreState) (s t : SinkState) (status : ℕ) → Answers words b a s t status → IsOneOf (0 ∷ 2 ∷ 3 ∷ 4 ∷ 5 ∷ 6 ∷ 7 ∷ 9 ∷ 10 ∷ 11 ∷ 12 ∷ []) status
 statuses_lem words b a s t status A =
     elim A.told [
-      | inl e ↦ subst (IsOneOf (0 ∷ 2 ∷ 3 ∷ 4 ∷ 5 ∷ 6 ∷ 7 ∷ 9 ∷ 12 ∷ [])) (sym e.0) (status_is A.reply)
-      | inr e ↦ subst (IsOneOf (0 ∷ 2 ∷ 3 ∷ 4 ∷ 5 ∷ 6 ∷ 7 ∷ 9 ∷ 12 ∷ [])) (sym e.0) (5, lit< tt, refl)
+      | inl e ↦ subst (IsOneOf (0 ∷ 2 ∷ 3 ∷ 4 ∷ 5 ∷ 6 ∷ 7 ∷ 9 ∷ 10 ∷ 11 ∷ 12 ∷ [])) (sym e.0) (status_is A.reply)
+      | inr e ↦ subst (IsOneOf (0 ∷ 2 ∷ 3 ∷ 4 ∷ 5 ∷ 6 ∷ 7 ∷ 9 ∷ 10 ∷ 11 ∷ 12 ∷ [])) (sym e.0) (5, lit< tt, refl)
     ]
 
 pub behaviour_lem : RenamingKeepsBehaviour → ((w : List ℕ) → is_new_name w ≡ true → is_name w ≡ true) → (words : List (List ℕ)) (b a : StoreState) (s t : SinkState) (status : ℕ) → Answers words b a s t status → status ≡ 0 → b.tells → (r : Renaming) → AsksQuick words r → BehaviourIsKept r b.file a.file

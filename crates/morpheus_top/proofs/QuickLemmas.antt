@@ -10,7 +10,7 @@ use Rattle.quick_rename.specs.declared.Answer.{Answer as File}
 use Rattle.quick_rename.specs.declared.Answer.TheVariants as file
 use Rattle.quick_rename.specs.Answer.{IsRenamed, IsAnswer}
 use Rattle.morpheus_top.specs.declared.replies.Reply.{Reply}
-use Rattle.morpheus_top.specs.declared.replies.Reply.TheVariants.{Renamed, Usage, ReadFault, WriteFault, WantOfMemory, NotQuick, BadProject, Admits, AdmitsNothing, Tokens}
+use Rattle.morpheus_top.specs.declared.replies.Reply.TheVariants.{Renamed, Usage, ReadFault, WriteFault, WantOfMemory, NotQuick, BadProject, Admits, AdmitsNothing, Tokens, Run}
 use Rattle.morpheus_top.specs.declared.quick.Plan.{Plan}
 use Rattle.morpheus_top.specs.declared.quick.Plan.TheVariants.{Say, Write}
 use Rattle.morpheus_top.specs.Words.{Renaming, target, AsksQuick}
@@ -137,6 +137,7 @@ read_and_ran words r bytes before middle after (BadProject fault) a p f h = absu
 read_and_ran words r bytes before middle after (Admits names) a p f h = absurd h
 read_and_ran words r bytes before middle after AdmitsNothing a p f h = absurd h
 read_and_ran words r bytes before middle after (Tokens reply) a p f h = absurd h
+read_and_ran words r bytes before middle after (Run reply) a p f h = absurd h
 
 -- the file wasn't read
 pub read_failed : (words : List (List ℕ)) (r : Renaming) (before after : StoreState) → AsksQuick words r → Kept before after → Rose before.read_faults after.read_faults → (before.tells_room → before.file r.file ≡ None) → (reply : Reply) → reply ≡ ReadFault → Holds words before after reply

@@ -8,7 +8,7 @@ use Rattle.project_file.specs.declared.errors.ProjectError.TheVariants as error
 use Rattle.project_store.specs.Faults.{Rose}
 use Rattle.project_store.specs.Reads.{HasFault, IsAbsent}
 use Rattle.morpheus_top.specs.declared.replies.Reply.{Reply}
-use Rattle.morpheus_top.specs.declared.replies.Reply.TheVariants.{Renamed, Usage, ReadFault, WriteFault, WantOfMemory, NotQuick, BadProject, Admits, AdmitsNothing, Tokens}
+use Rattle.morpheus_top.specs.declared.replies.Reply.TheVariants.{Renamed, Usage, ReadFault, WriteFault, WantOfMemory, NotQuick, BadProject, Admits, AdmitsNothing, Tokens, Run}
 use Rattle.morpheus_top.specs.Admit.{Reports, IsReplyTo}
 use Rattle.morpheus_top.specs.States.{StoreState, Kept}
 use Rattle.morpheus_top.specs.Calls.{ReadsIn, HasFaultIn, Holds}
@@ -37,6 +37,7 @@ module _ (words : List (List ℕ)) (name : List ℕ) (before after : StoreState)
   fault_holds fault has (Admits names) is = absurd is
   fault_holds fault has AdmitsNothing is = absurd is
   fault_holds fault has (Tokens reply) is = absurd is
+  fault_holds fault has (Run reply) is = absurd is
 
   -- there is no project
   pub error_holds : (e : ProjectError) → Why (HasFault before.tells before.file name) (IsAbsent before.tells_room before.file name) e → (e ≡ error.Read → Rose before.read_faults after.read_faults) → (reply : Reply) → IsReplyTo e reply → Holds words before after reply

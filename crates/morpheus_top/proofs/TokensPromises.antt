@@ -4,7 +4,7 @@ use Rattle.c_text.specs.Token.{PlainToken, plain_token}
 use Rattle.text_edits.specs.Files.{Lookup}
 use Rattle.project_file.specs.Faults.{Fault}
 use Rattle.morpheus_top.specs.declared.replies.Reply.{Reply}
-use Rattle.morpheus_top.specs.declared.replies.Reply.TheVariants.{Renamed, Usage, ReadFault, WriteFault, WantOfMemory, NotQuick, BadProject, Admits, AdmitsNothing, Tokens}
+use Rattle.morpheus_top.specs.declared.replies.Reply.TheVariants.{Renamed, Usage, ReadFault, WriteFault, WantOfMemory, NotQuick, BadProject, Admits, AdmitsNothing, Tokens, Run}
 use Rattle.morpheus_top.specs.declared.replies.TokensReply.{TokensReply}
 use Rattle.morpheus_top.specs.declared.replies.TokensReply.TheVariants.{NotAdmitted, NotPresent, NotAccepted, Printed}
 use Rattle.morpheus_top.specs.Words.{Renaming, UnitQuery, AsksQuick, AsksTokens, ReadsAlone}
@@ -13,21 +13,25 @@ use Rattle.morpheus_top.specs.Tokens.{IsMisfit, HasAnyFault, IsUnitRefused, IsRe
 use Rattle.morpheus_top.specs.States.{StoreState, SinkState, Kept}
 use Rattle.morpheus_top.specs.Calls.{SaysReadFault, IsUsageIn, HasFaultIn, ReadsIn, Holds, Answers}
 use Rattle.morpheus_top.specs.Promises.{IsOneOf, NoFault, FitsReports, PrintsAnyFault, PrintsTokens, PrintsRefusal, LacksFile, HasFilesFor}
-use Rattle.morpheus_top.proofs.Promises.{one_command, no_tokens_for_quick, no_tokens_for_admit, no_tokens_read_alone, one_query, is_not, settled, read_fault_lem, no_read_rise, taken_is}
+use Rattle.morpheus_top.proofs.Promises.{one_command, no_tokens_for_quick, no_tokens_for_admit, no_tokens_read_alone, no_run_for_quick, no_run_for_tokens, one_query, is_not, is_no_run, settled, read_fault_lem, no_read_rise, taken_is}
 use Rattle.morpheus_top.proofs.AdmitPromises.{with_status}
-use Rattle.morpheus_top.proofs.UnitLaws.{Laws, misfit_or_faulty, misfit_or_refused, misfit_or_given, faulty_or_refused, faulty_or_given, refused_or_given, told_fault, told_not_admitted, told_not_present, told_not_preprocessed, told_given, told_read_for}
+use Rattle.morpheus_top.proofs.ProductLaws.{Laws}
+use Rattle.morpheus_top.proofs.UnitLaws.{misfit_or_faulty, misfit_or_refused, misfit_or_given, faulty_or_refused, faulty_or_given, refused_or_given, told_fault, told_not_admitted, told_not_present, told_not_preprocessed, told_given, told_read_for}
 
 misfit_for : (words : List (List ℕ)) (told : Type 0) (files : Lookup) (q : UnitQuery) → AsksTokens words q → IsUsageIn words told files → IsMisfit told files q
 misfit_for words told files q a (inl u) = absurd (u.no_tokens q a)
-misfit_for words told files q a (inr x) = subst (λ p. IsMisfit told files p) (one_query words x.0 q x.1 a) x.2
+misfit_for words told files q a (inr (inr x)) = absurd (no_run_for_tokens words q x.0 a x.1)
+misfit_for words told files q a (inr (inl x)) = subst (λ p. IsMisfit told files p) (one_query words x.0 q x.1 a) x.2
 
 fault_for : (words : List (List ℕ)) (told : Type 0) (files : Lookup) (q : UnitQuery) (fault : Fault) → AsksTokens words q → HasFaultIn words told files fault → HasAnyFault told files q fault
 fault_for words told files q fault a (inl x) = absurd (no_tokens_for_admit words x.0 q x.1 a)
-fault_for words told files q fault a (inr x) = subst (λ p. HasAnyFault told files p fault) (one_query words x.0 q x.1 a) x.2
+fault_for words told files q fault a (inr (inr x)) = absurd (no_run_for_tokens words q x.0 a x.1)
+fault_for words told files q fault a (inr (inl x)) = subst (λ p. HasAnyFault told files p fault) (one_query words x.0 q x.1 a) x.2
 
 read_for : (words : List (List ℕ)) (told : Type 0) (files : Lookup) (q : UnitQuery) (name : List ℕ) → AsksTokens words q → ReadsIn words told files name → IsReadFor told files q name
 read_for words told files q name a (inl r) = absurd (no_tokens_read_alone words name q r a)
-read_for words told files q name a (inr x) = subst (λ p. IsReadFor told files p name) (one_query words x.0 q x.1 a) x.2
+read_for words told files q name a (inr (inr x)) = absurd (no_run_for_tokens words q x.0 a x.1)
+read_for words told files q name a (inr (inl x)) = subst (λ p. IsReadFor told files p name) (one_query words x.0 q x.1 a) x.2
 
 -- what a reply to words that ask for a unit's tokens comes to, where no read failed
 data Outcome (b : StoreState) (q : UnitQuery) (reply : Reply) : Type 0 where
@@ -53,6 +57,7 @@ outcome words b a q asked no_read (NotQuick o) h = absurd (no_tokens_for_quick w
 outcome words b a q asked no_read (BadProject f) h = faulty (fault_view f) (fault_for words b.tells b.file q (fault_view f) asked h.first) refl
 outcome words b a q asked no_read (Admits n) h = absurd (no_tokens_for_admit words h.project q h.asked asked)
 outcome words b a q asked no_read AdmitsNothing h = absurd (no_tokens_for_admit words h.project q h.asked asked)
+outcome words b a q asked no_read (Run r) h = absurd (no_run_for_tokens words q h.query asked h.asked)
 outcome words b a q asked no_read (Tokens r) h =
     about_outcome b q r (subst (λ p. IsReplyAbout b.tells b.file p r) (one_query words h.query q h.asked asked) h.about)
 
@@ -119,6 +124,7 @@ module _ (words : List (List ℕ)) (b a : StoreState) (s t : SinkState) (status 
       faulted (Admits n) h k = absurd (omega arith)
       faulted AdmitsNothing h k = absurd (omega arith)
       faulted (Tokens r) h k = absurd (is_not r 5 (λ e. omega arith) (λ e. omega arith) k)
+      faulted (Run r) h k = absurd (is_no_run r 5 (λ e. omega arith) (λ e. omega arith) (λ e. omega arith) (λ e. omega arith) k)
 
   pub prints_source_fault_lem : status ≡ 5 → b.tells → s.tells → PrintsAnyFault q b.file s.taken t.taken
   prints_source_fault_lem e tells sink =
@@ -136,6 +142,7 @@ module _ (words : List (List ℕ)) (b a : StoreState) (s t : SinkState) (status 
       printed (Admits n) h k took = absurd (omega arith)
       printed AdmitsNothing h k took = absurd (omega arith)
       printed (Tokens r) h k took = absurd (is_not r 5 (λ e. omega arith) (λ e. omega arith) k)
+      printed (Run r) h k took = absurd (is_no_run r 5 (λ e. omega arith) (λ e. omega arith) (λ e. omega arith) (λ e. omega arith) k)
 
   -- a reply about a unit
   about : (reply : Reply) → Holds words b a reply → (status_of reply ≡ 0) ⊎ (status_of reply ≡ 9) → (r : TokensReply) × (reply ≡ Tokens r) × IsReplyAbout b.tells b.file q r
@@ -148,6 +155,7 @@ module _ (words : List (List ℕ)) (b a : StoreState) (s t : SinkState) (status 
   about (BadProject f) h k = absurd (elim k [ inl e ↦ omega arith | inr e ↦ omega arith ])
   about (Admits n) h k = absurd (no_tokens_for_admit words h.project q h.asked asked)
   about AdmitsNothing h k = absurd (no_tokens_for_admit words h.project q h.asked asked)
+  about (Run r) h k = absurd (no_run_for_tokens words q h.query asked h.asked)
   about (Tokens r) h k = (r, refl, subst (λ p. IsReplyAbout b.tells b.file p r) (one_query words h.query q h.asked asked) h.about)
 
   pub not_accepted_lem : status ≡ 9 → IsUnitRefused b.tells b.file q
@@ -214,10 +222,11 @@ module _ (words : List (List ℕ)) (b a : StoreState) (s t : SinkState) (status 
         | inr k ↦ let less = k.1.lacks sink in let most = fits A.reply A.holds in absurd (omega (arith, less, most))
       ]
 
--- words that ask for a project, or for a unit's tokens, ask for nothing that writes
+-- words that ask for a project, for a unit's tokens or for a run ask for nothing that writes
 no_quick : (words : List (List ℕ)) (r : Renaming) → ReadsAlone words → AsksQuick words r → ⊥
 no_quick words r (inl x) a = one_command words r x.0 a x.1
-no_quick words r (inr x) a = no_tokens_for_quick words r x.0 a x.1
+no_quick words r (inr (inl x)) a = no_tokens_for_quick words r x.0 a x.1
+no_quick words r (inr (inr x)) a = no_run_for_quick words r x.0 a x.1
 
 pub reads_only_lem : (words : List (List ℕ)) (b a : StoreState) (s t : SinkState) (status : ℕ) → Answers words b a s t status → ReadsAlone words → Kept b a
 reads_only_lem words b a s t status A reads = kept A.reply A.holds
@@ -233,3 +242,4 @@ reads_only_lem words b a s t status A reads = kept A.reply A.holds
     kept (Admits n) h = h.kept
     kept AdmitsNothing h = h.kept
     kept (Tokens r) h = h.kept
+    kept (Run r) h = h.kept

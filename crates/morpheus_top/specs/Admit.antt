@@ -10,7 +10,7 @@ use Rattle.project_file.specs.declared.errors.ProjectError.TheVariants.{NotToml,
 use Rattle.project_store.specs.Reads.{SaysProject}
 use Rattle.morpheus_top.specs.Replies.{fault_view}
 use Rattle.morpheus_top.specs.declared.replies.Reply.{Reply}
-use Rattle.morpheus_top.specs.declared.replies.Reply.TheVariants.{Renamed, Usage, ReadFault, WriteFault, WantOfMemory, NotQuick, BadProject, Admits, AdmitsNothing, Tokens}
+use Rattle.morpheus_top.specs.declared.replies.Reply.TheVariants.{Renamed, Usage, ReadFault, WriteFault, WantOfMemory, NotQuick, BadProject, Admits, AdmitsNothing, Tokens, Run}
 use Rattle.text_edits.specs.Files.{Lookup}
 
 -- The features that are on in the least configuration that the project in the file of this name admits.
@@ -44,6 +44,7 @@ Found project WriteFault = ⊥
 Found project (NotQuick offset) = ⊥
 Found project (BadProject fault) = ⊥
 Found project (Tokens reply) = ⊥
+Found project (Run reply) = ⊥
 
 -- the fault is reported, unless memory ends
 abbrev pub Reports : Fault → Reply → Type 0
@@ -57,6 +58,7 @@ Reports fault (NotQuick offset) = ⊥
 Reports fault (Admits names) = ⊥
 Reports fault AdmitsNothing = ⊥
 Reports fault (Tokens reply) = ⊥
+Reports fault (Run reply) = ⊥
 
 -- the reply where a project isn't had for this cause
 abbrev pub IsReplyTo : ProjectError → Reply → Type 0

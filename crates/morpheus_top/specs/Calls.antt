@@ -8,14 +8,16 @@ use Rattle.text_edits.specs.Files.{Lookup}
 use Rattle.project_store.specs.Lookup.{PutsFile, LeavesPart}
 use Rattle.project_store.specs.Faults.{Rose}
 use Rattle.project_store.specs.Room.{LacksRoom}
-use Rattle.morpheus_top.specs.Words.{Renaming, UnitQuery, target, AsksQuick, AsksAdmit, AsksTokens, IsUsage, Reads}
+use Rattle.morpheus_top.specs.Words.{Renaming, UnitQuery, RunQuery, target, AsksQuick, AsksAdmit, AsksTokens, AsksRun, IsUsage, Reads}
 use Rattle.morpheus_top.specs.declared.replies.Reply.{Reply}
-use Rattle.morpheus_top.specs.declared.replies.Reply.TheVariants.{Renamed, Usage, ReadFault, WriteFault, WantOfMemory, NotQuick, BadProject, Admits, AdmitsNothing, Tokens}
+use Rattle.morpheus_top.specs.declared.replies.Reply.TheVariants.{Renamed, Usage, ReadFault, WriteFault, WantOfMemory, NotQuick, BadProject, Admits, AdmitsNothing, Tokens, Run}
 use Rattle.project_file.specs.Faults.{Fault}
 use Rattle.project_store.specs.Reads.{HasFault}
 use Rattle.morpheus_top.specs.declared.replies.TokensReply.{TokensReply}
 use Rattle.morpheus_top.specs.Admit.{AdmitsLeast, AdmitsNone}
+use Rattle.morpheus_top.specs.declared.replies.RunReply.{RunReply}
 use Rattle.morpheus_top.specs.Tokens.{IsMisfit, HasAnyFault, IsReadFor, IsReplyAbout}
+use Rattle.morpheus_top.specs.Runs.{IsRunMisfit, HasRunFault, IsReadForRun, IsReplyAboutRun}
 use Rattle.morpheus_top.specs.Replies.{status_of, report_of, fault_view}
 use Rattle.morpheus_top.specs.Sinks.{TookFront}
 use Rattle.morpheus_top.specs.States.{StoreState, SinkState, Kept}
@@ -60,17 +62,21 @@ pub record LacksRoomFor (r : Renaming) (files : Lookup) (names_left bytes_left :
 
 -- the words ask for nothing, or for what the project doesn't have
 abbrev pub IsUsageIn : List (List ℕ) → Type 0 → Lookup → Type 0
-IsUsageIn words told files = IsUsage words ⊎ ((q : UnitQuery) × AsksTokens words q × IsMisfit told files q)
+IsUsageIn words told files =
+    IsUsage words
+    ⊎ (((q : UnitQuery) × AsksTokens words q × IsMisfit told files q) ⊎ ((q : RunQuery) × AsksRun words q × IsRunMisfit told files q))
 
 -- the words ask for a command that reads this file
 abbrev pub ReadsIn : List (List ℕ) → Type 0 → Lookup → List ℕ → Type 0
-ReadsIn words told files file = Reads words file ⊎ ((q : UnitQuery) × AsksTokens words q × IsReadFor told files q file)
+ReadsIn words told files file =
+    Reads words file
+    ⊎ (((q : UnitQuery) × AsksTokens words q × IsReadFor told files q file) ⊎ ((q : RunQuery) × AsksRun words q × IsReadForRun told files q file))
 
--- the words ask for a project that has this fault
+-- the words ask for a project that has this fault, or whose files or input have it
 abbrev pub HasFaultIn : List (List ℕ) → Type 0 → Lookup → Fault → Type 0
 HasFaultIn words told files fault =
     ((project : List ℕ) × AsksAdmit words project × HasFault told files project fault)
-    ⊎ ((q : UnitQuery) × AsksTokens words q × HasAnyFault told files q fault)
+    ⊎ (((q : UnitQuery) × AsksTokens words q × HasAnyFault told files q fault) ⊎ ((q : RunQuery) × AsksRun words q × HasRunFault told files q fault))
 
 pub record SaysReadFault (words : List (List ℕ)) (before after : StoreState) : Type 0 where
   pub file : List ℕ
@@ -121,6 +127,12 @@ pub record SaysTokens (words : List (List ℕ)) (before after : StoreState) (rep
   pub kept : Kept before after
   pub about : IsReplyAbout before.tells before.file query reply
 
+pub record SaysRun (words : List (List ℕ)) (before after : StoreState) (reply : RunReply) : Type 0 where
+  pub query : RunQuery
+  pub asked : AsksRun words query
+  pub kept : Kept before after
+  pub about : IsReplyAboutRun before.tells before.file query reply
+
 -- the cause of a reply, and what it says of the store
 abbrev pub Holds : List (List ℕ) → StoreState → StoreState → Reply → Type 0
 Holds words before after (Renamed tokens) = SaysRenamed words before after tokens
@@ -133,6 +145,7 @@ Holds words before after (BadProject fault) = SaysBadProject words before after 
 Holds words before after (Admits names) = SaysAdmits words before after (map string_bytes names.items)
 Holds words before after AdmitsNothing = SaysAdmitsNothing words before after
 Holds words before after (Tokens reply) = SaysTokens words before after reply
+Holds words before after (Run reply) = SaysRun words before after reply
 
 -- the sink took the whole report
 abbrev pub Reports : SinkState → SinkState → Reply → Type 0

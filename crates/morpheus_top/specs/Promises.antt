@@ -1,5 +1,5 @@
 -- What a caller may rely on, status by status; all of it follows from `Answers`.
-use Rattle.std.specs.Prelude.{◌≡◌, ◌⊎◌, ℕ, ◌<◌, ◌≤◌, ◌+◌, List, ◌++◌, length, codes, decimal, Some, None, Contains}
+use Rattle.std.specs.Prelude.{◌≡◌, ◌⊎◌, ℕ, ℤ, ◌<◌, ◌≤◌, ◌+◌, List, ◌++◌, length, codes, decimal, Some, None, Contains}
 use Rattle.quick_form.specs.Quick.{KeepsBehaviour}
 use Rattle.quick_form.specs.Renaming.{token_count}
 use Rattle.text_edits.specs.Files.{Lookup}
@@ -8,12 +8,15 @@ use Rattle.project_store.specs.Room.{LacksRoom}
 use Rattle.morpheus_top.specs.declared.replies.Reply.{Reply}
 use Rattle.morpheus_top.specs.declared.replies.Reply.TheVariants.{Renamed}
 use Rattle.c_text.specs.Token.{PlainToken}
-use Rattle.morpheus_top.specs.Words.{Renaming, UnitQuery, target}
-use Rattle.morpheus_top.specs.Replies.{line, listed, fault_text, spellings, report_of}
+use Rattle.core_meaning.specs.Run as meaning
+use Rattle.project_program.specs.declared.programs.Stage.{Stage}
+use Rattle.morpheus_top.specs.Words.{Renaming, UnitQuery, RunQuery, target}
+use Rattle.morpheus_top.specs.Replies.{line, listed, fault_text, spellings, stage_name, run_text, ending, report_of}
 use Rattle.project_file.specs.Faults.{Fault}
 use Rattle.project_store.specs.Reads.{HasFault}
 use Rattle.morpheus_top.specs.Admit.{AdmitsLeast, AdmitsNone}
 use Rattle.morpheus_top.specs.Tokens.{HasAnyFault, IsReadFor, IsNotAdmitted, IsNotPresent, IsNotPreprocessed, GivesTokens}
+use Rattle.morpheus_top.specs.Runs.{HasRunFault, IsReadForRun, IsRunNotAdmitted, IsRunNotAccepted, RunsTo}
 use Rattle.morpheus_top.specs.States.{StoreState}
 use Rattle.morpheus_top.specs.Calls.{renamed_file, HasPlace, Holds}
 
@@ -70,6 +73,56 @@ PrintsRefusal q files before after =
     (IsNotAdmitted (Unit {0}) files q × (after ≡ before ++ line (codes "not admitted")))
     ⊎ ((IsNotPresent (Unit {0}) files q × (after ≡ before ++ line (codes "not present")))
     ⊎ (IsNotPreprocessed (Unit {0}) files q × (after ≡ before ++ line (codes "not accepted preprocess"))))
+
+-- The run ends.
+pub record RunEnds (told : Type 0) (files : Lookup) (q : RunQuery) : Type 0 where
+  pub output : List ℕ
+  pub status : ℤ
+  pub runs : RunsTo told files q (meaning.Ended output status)
+
+-- The run's behaviour is undefined.
+abbrev pub RunIsUndefined : Type 0 → Lookup → RunQuery → Type 0
+RunIsUndefined told files q = (output : List ℕ) × RunsTo told files q (meaning.Undefined output)
+
+-- The bound cuts the run off.
+abbrev pub RunIsCutOff : Type 0 → Lookup → RunQuery → Type 0
+RunIsCutOff told files q = (output : List ℕ) × RunsTo told files q (meaning.Running output)
+
+-- The sink took what the run put out, and the status with which it ended.
+abbrev pub PrintsEnd : RunQuery → Lookup → List ℕ → List ℕ → Type 0
+PrintsEnd q files before after =
+    (end : RunEnds (Unit {0}) files q) × (after ≡ before ++ run_text end.output (ending end.status))
+
+-- The sink took what the run put out up to what is undefined.
+abbrev pub PrintsUndefined : RunQuery → Lookup → List ℕ → List ℕ → Type 0
+PrintsUndefined q files before after =
+    (run : RunIsUndefined (Unit {0}) files q) × (after ≡ before ++ run_text run.0 (codes "undefined"))
+
+-- The sink took what the run put out up to the bound.
+abbrev pub PrintsRunning : RunQuery → Lookup → List ℕ → List ℕ → Type 0
+PrintsRunning q files before after =
+    (run : RunIsCutOff (Unit {0}) files q) × (after ≡ before ++ run_text run.0 (codes "running"))
+
+-- The sink took why there is no run.
+abbrev pub PrintsRunRefusal : RunQuery → Lookup → List ℕ → List ℕ → Type 0
+PrintsRunRefusal q files before after =
+    (IsRunNotAdmitted (Unit {0}) files q × (after ≡ before ++ line (codes "not admitted")))
+    ⊎ ((stage : Stage) × IsRunNotAccepted (Unit {0}) files q stage × (after ≡ before ++ line (codes "not accepted " ++ stage_name stage)))
+
+-- The sink took the report of a fault of the project file, of one of the project's files, or of the input.
+abbrev pub PrintsRunFault : RunQuery → Lookup → List ℕ → List ℕ → Type 0
+PrintsRunFault q files before after =
+    (fault : Fault) × HasRunFault (Unit {0}) files q fault × (after ≡ before ++ line (codes "bad project: " ++ fault_text fault))
+
+-- nothing stands under the name of a file that is read for the run
+pub record LacksRunFile (files : Lookup) (q : RunQuery) : Type 0 where
+  pub name : List ℕ
+  pub is_read : IsReadForRun (Unit {0}) files q name
+  pub absent : files name ≡ None
+
+-- each file that is read for the run is there
+abbrev pub HasFilesForRun : Lookup → RunQuery → Type 0
+HasFilesForRun files q = (name : List ℕ) → IsReadForRun (Unit {0}) files q name → (bytes : List ℕ) × (files name ≡ Some bytes)
 
 -- nothing stands under the name of a file that is read for the unit
 pub record LacksFile (files : Lookup) (q : UnitQuery) : Type 0 where

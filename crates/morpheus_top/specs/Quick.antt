@@ -1,5 +1,5 @@
 -- The steps of `quick`: what is planned for the bytes of a file, and what becomes of the plan.
-use Rattle.std.specs.Prelude.{◌≡◌, ℕ, ◌+◌, true, List, length, map, ◌⊎◌, ⊤}
+use Rattle.std.specs.Prelude.{◌≡◌, ℕ, ◌+◌, true, List, [], ◌∷◌, codes, length, map, option_map, ◌⊎◌, ⊤}
 use Rattle.std.specs.List.{list_all}
 use Rattle.std.specs.String.{string_bytes}
 use Rattle.quick_form.specs.Renaming.{token_count}
@@ -11,14 +11,16 @@ use Rattle.project_store.specs.Lookup.{PutsFile, LeavesPart}
 use Rattle.project_store.specs.Faults.{Rose}
 use Rattle.project_store.specs.Room.{LacksRoom}
 use Rattle.morpheus_top.specs.declared.replies.Reply.{Reply}
-use Rattle.morpheus_top.specs.declared.replies.Reply.TheVariants.{Renamed, Usage, ReadFault, WriteFault, WantOfMemory, NotQuick, BadProject, Admits, AdmitsNothing, Tokens}
+use Rattle.morpheus_top.specs.declared.replies.Reply.TheVariants.{Renamed, Usage, ReadFault, WriteFault, WantOfMemory, NotQuick, BadProject, Admits, AdmitsNothing, Tokens, Run}
 use Rattle.morpheus_top.specs.declared.words.Renaming.{Renaming as Words}
 use Rattle.morpheus_top.specs.declared.quick.Plan.{Plan}
 use Rattle.morpheus_top.specs.declared.quick.Plan.TheVariants.{Say, Write}
 use Rattle.morpheus_top.specs.declared.words.Command.{Command}
-use Rattle.morpheus_top.specs.declared.words.Command.TheVariants.{Quick, Admit, Tokens as TokensOf}
+use Rattle.morpheus_top.specs.declared.words.Command.TheVariants.{Quick, Admit, Tokens as TokensOf, Run as RunOf}
 use Rattle.morpheus_top.specs.declared.words.UnitWords.{UnitWords}
-use Rattle.morpheus_top.specs.Words.{Renaming, UnitQuery, target, AsksQuick, AsksAdmit, AsksTokens}
+use Rattle.morpheus_top.specs.declared.words.RunTexts.{RunTexts}
+use Rattle.morpheus_top.specs.declared.words.RunWords.{RunWords}
+use Rattle.morpheus_top.specs.Words.{Renaming, UnitQuery, RunQuery, target, AsksQuick, AsksAdmit, AsksTokens, AsksRun}
 use Rattle.morpheus_top.specs.States.{StoreState, Kept}
 use Rattle.morpheus_top.specs.Calls.{renamed_file}
 
@@ -30,17 +32,32 @@ asked r = record { file = r.file.now; old = r.old.now; new = r.new.now; out = r.
 abbrev pub query_of : UnitWords → UnitQuery
 query_of q = record { project = q.project.now; unit = q.unit.now; names = map (λ name. name.items) q.names.items }
 
+-- the words of `run`
+abbrev pub texts_of : RunTexts → List (List ℕ)
+texts_of t = codes "run" ∷ t.project.now ∷ t.names.now ∷ t.bound.now ∷ t.input.now ∷ []
+
+-- the run that the words ask for
+abbrev pub run_of : RunWords → RunQuery
+run_of q = record {
+  project = q.project.now;
+  names = map (λ name. name.items) q.names.items;
+  bound = q.bound;
+  input = option_map (λ name. name.now) q.input;
+}
+
 -- the words ask for this command
 abbrev pub AsksFor : List (List ℕ) → Command → Type 0
 AsksFor words (Quick renaming) = AsksQuick words (asked renaming)
 AsksFor words (Admit project) = AsksAdmit words project.now
 AsksFor words (TokensOf query) = AsksTokens words (query_of query)
+AsksFor words (RunOf query) = AsksRun words (run_of query)
 
 -- its names are lawful
 abbrev pub IsLawful : Command → Type 0
 IsLawful (Quick renaming) = is_name renaming.new.now ≡ true
 IsLawful (Admit project) = ⊤
 IsLawful (TokensOf query) = list_all is_new_name (query_of query).names ≡ true
+IsLawful (RunOf query) = list_all is_new_name (run_of query).names ≡ true
 
 pub record RefusesBytes (r : Renaming) (bytes : List ℕ) (reply : Reply) : Type 0 where
   pub offset : ℕ
@@ -102,3 +119,4 @@ Ran r bytes before after (BadProject fault) = ⊥
 Ran r bytes before after (Admits names) = ⊥
 Ran r bytes before after AdmitsNothing = ⊥
 Ran r bytes before after (Tokens reply) = ⊥
+Ran r bytes before after (Run reply) = ⊥

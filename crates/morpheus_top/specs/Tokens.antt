@@ -1,30 +1,18 @@
 -- What `tokens` says of a unit of a project that stands in a store, in one configuration.
-use Rattle.std.specs.Prelude.{◌≡◌, ◌⊎◌, ℕ, ◌+◌, Bool, true, false, List, [], ◌∷◌, if◌then◌else◌, Option, Some, None, Contains, slice_index_or, map}
-use Rattle.std.specs.List.{list_all, list_any}
+use Rattle.std.specs.Prelude.{◌≡◌, ◌⊎◌, ℕ, ◌+◌, Bool, true, false, List, [], ◌∷◌, if◌then◌else◌, Option, Some, None, map}
 use Rattle.std.specs.Str.{bytes_eq}
-use Rattle.text_edits.specs.Files.{PlainFile, Lookup}
+use Rattle.text_edits.specs.Files.{Lookup}
 use Rattle.cond_formula.specs.Conditions.{value}
 use Rattle.c_text.specs.Token.{PlainToken, plain_token}
 use Rattle.c_text.specs.Preprocessing.{Refusal, Sources, gives, is_refused, IsPreprocessed}
 use Rattle.project_file.specs.Projects.{PlainUnit, PlainProject}
 use Rattle.project_file.specs.Faults.{Fault}
-use Rattle.project_store.specs.Reads.{SaysProject, HasFault, AreFilesOf, IsTooLong, names_of}
 use Rattle.plain_pp.specs.Units.{sources_of, file_of}
 use Rattle.morpheus_top.specs.Words.{UnitQuery}
+use Rattle.morpheus_top.specs.Products as product
+use Rattle.morpheus_top.specs.Products.{on_by, are_features, admits_named, ProductRead}
 use Rattle.morpheus_top.specs.declared.replies.TokensReply.{TokensReply}
 use Rattle.morpheus_top.specs.declared.replies.TokensReply.TheVariants.{NotAdmitted, NotPresent, NotAccepted, Printed}
-
--- whether a feature is one of those that are named
-abbrev pub is_named : List (List ℕ) → List ℕ → Bool
-is_named names feature = list_any (bytes_eq feature) names
-
--- whether the feature with this number is
-abbrev pub on_by : List (List ℕ) → List (List ℕ) → ℕ → Bool
-on_by features names number = is_named names (slice_index_or features number [])
-
--- all the names are those of features
-abbrev pub are_features : List (List ℕ) → List (List ℕ) → Bool
-are_features features names = list_all (λ name. list_any (bytes_eq name) features) names
 
 -- a unit, and its number in the project
 pub record NumberedUnit : Type 0 where
@@ -45,59 +33,40 @@ pub record FitsProject (q : UnitQuery) (project : PlainProject) (asked : Numbere
   pub unit : unit_from 0 q.unit project.units ≡ Some asked
   pub known : are_features project.features q.names ≡ true
 
--- the project that the words name has no such unit, or not all of the features
-pub record IsMisfit (told : Type 0) (files : Lookup) (q : UnitQuery) : Type 0 where
-  pub project : PlainProject
-  pub says : SaysProject told files q.project project
-  pub misfit : (asked : NumberedUnit) → FitsProject q project asked → ⊥
+-- the project has the unit that the words name, and all the features
+abbrev pub HasUnit : UnitQuery → PlainProject → Type 0
+HasUnit q project = (asked : NumberedUnit) × FitsProject q project asked
 
--- the first of the project's files that is too long
-pub record IsOversized (told : Type 0) (files : Lookup) (q : UnitQuery) (fault : Fault) : Type 0 where
-  pub project : PlainProject
-  pub says : SaysProject told files q.project project
-  pub asked : NumberedUnit
-  pub fits : FitsProject q project asked
-  pub too_long : IsTooLong told files (names_of project) fault
+-- the project that the words name has no such unit, or not all of the features
+abbrev pub IsMisfit : Type 0 → Lookup → UnitQuery → Type 0
+IsMisfit told files q = product.IsMisfit told files q.project (HasUnit q)
 
 -- a fault of the project file, or of a file of the project
 abbrev pub HasAnyFault : Type 0 → Lookup → UnitQuery → Fault → Type 0
-HasAnyFault told files q fault = HasFault told files q.project fault ⊎ IsOversized told files q fault
-
--- a file of the project that the words fit
-pub record IsSourceName (told : Type 0) (files : Lookup) (q : UnitQuery) (name : List ℕ) : Type 0 where
-  pub project : PlainProject
-  pub says : SaysProject told files q.project project
-  pub asked : NumberedUnit
-  pub fits : FitsProject q project asked
-  pub listed : Contains (names_of project) name
+HasAnyFault told files q fault = product.HasAnyFault told files q.project (HasUnit q) fault
 
 -- a file that is read for the words: the project file, or one of the project's
 abbrev pub IsReadFor : Type 0 → Lookup → UnitQuery → List ℕ → Type 0
-IsReadFor told files q name = (name ≡ q.project) ⊎ IsSourceName told files q name
+IsReadFor told files q file = product.IsReadFor told files q.project (HasUnit q) file
 
 -- what is read for a unit: the project, which the words fit, and its files
-pub record UnitRead (told : Type 0) (files : Lookup) (q : UnitQuery) : Type 0 where
-  pub project : PlainProject
-  pub says : SaysProject told files q.project project
-  pub asked : NumberedUnit
-  pub fits : FitsProject q project asked
-  pub sources : List PlainFile
-  pub are_sources : AreFilesOf told files (names_of project) sources
+abbrev pub UnitRead : Type 0 → Lookup → UnitQuery → Type 0
+UnitRead told files q = ProductRead told files q.project (HasUnit q)
 
 module _ {told : Type 0} {files : Lookup} {q : UnitQuery} (r : UnitRead told files q) where
   -- whether the features that are named are a configuration that the project admits
   abbrev pub is_admitted : Bool
-  is_admitted = value (on_by r.project.features q.names) r.project.model
+  is_admitted = admits_named r.project q.names
 
   -- whether the unit is present there
   abbrev pub is_present : Bool
-  is_present = value (on_by r.project.features q.names) r.asked.unit.when
+  is_present = value (on_by r.project.features q.names) r.fits.0.unit.when
 
   abbrev pub sources_in : Sources
   sources_in = sources_of r.project r.sources (on_by r.project.features q.names)
 
   abbrev pub number_in : ℕ
-  number_in = file_of r.project r.asked.number
+  number_in = file_of r.project r.fits.0.number
 
 pub record IsNotAdmitted (told : Type 0) (files : Lookup) (q : UnitQuery) : Type 0 where
   pub unit_read : UnitRead told files q

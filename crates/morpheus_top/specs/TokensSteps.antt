@@ -11,17 +11,18 @@ use Rattle.project_store.specs.Faults.{Rose}
 use Rattle.project_store.specs.Reads.{AreFilesOf, IsTooLong, HasAbsent, names_of}
 use Rattle.plain_pp.specs.Units.{sources_of, file_of}
 use Rattle.morpheus_top.specs.declared.replies.Reply.{Reply}
-use Rattle.morpheus_top.specs.declared.replies.Reply.TheVariants.{Renamed, Usage, ReadFault, WriteFault, WantOfMemory, NotQuick, BadProject, Admits, AdmitsNothing, Tokens}
+use Rattle.morpheus_top.specs.declared.replies.Reply.TheVariants.{Renamed, Usage, ReadFault, WriteFault, WantOfMemory, NotQuick, BadProject, Admits, AdmitsNothing, Tokens, Run}
 use Rattle.morpheus_top.specs.declared.replies.TokensReply.{TokensReply}
 use Rattle.morpheus_top.specs.declared.replies.TokensReply.TheVariants.{NotAdmitted, NotPresent, NotAccepted, Printed}
 use Rattle.morpheus_top.specs.declared.tokens.Choice.{Choice}
 use Rattle.morpheus_top.specs.Words.{UnitQuery}
 use Rattle.morpheus_top.specs.Replies.{fault_view}
 use Rattle.morpheus_top.specs.States.{StoreState, Kept}
-use Rattle.morpheus_top.specs.Tokens.{on_by, NumberedUnit, numbered, FitsProject}
+use Rattle.morpheus_top.specs.Products.{on_by}
+use Rattle.morpheus_top.specs.Tokens.{NumberedUnit, numbered, FitsProject, HasUnit}
 
 abbrev pub FitsNo : UnitQuery → PlainProject → Type 0
-FitsNo q project = (asked : NumberedUnit) → FitsProject q project asked → ⊥
+FitsNo q project = HasUnit q project → ⊥
 
 abbrev pub unit_of : Choice → NumberedUnit
 unit_of choice = numbered choice.number (unit_view choice.unit.now)
@@ -62,6 +63,7 @@ Says Said (NotQuick offset) = ⊥
 Says Said (BadProject fault) = ⊥
 Says Said (Admits names) = ⊥
 Says Said AdmitsNothing = ⊥
+Says Said (Run reply) = ⊥
 
 abbrev pub IsOutcome : Sources → ℕ → Reply → Type 0
 IsOutcome sources number reply = Says (SaysOutcome sources number) reply
@@ -94,6 +96,7 @@ Replies project asked on before after WriteFault = ⊥
 Replies project asked on before after (NotQuick offset) = ⊥
 Replies project asked on before after (Admits names) = ⊥
 Replies project asked on before after AdmitsNothing = ⊥
+Replies project asked on before after (Run reply) = ⊥
 
 abbrev pub IsReadAndSaid : PlainProject → Choice → StoreState → StoreState → Reply → Type 0
 IsReadAndSaid project choice before after reply = Replies project (unit_of choice) (has choice.c) before after reply
@@ -116,3 +119,4 @@ IsRepliedIn q project before after WriteFault = ⊥
 IsRepliedIn q project before after (NotQuick offset) = ⊥
 IsRepliedIn q project before after (Admits names) = ⊥
 IsRepliedIn q project before after AdmitsNothing = ⊥
+IsRepliedIn q project before after (Run reply) = ⊥

@@ -1,5 +1,5 @@
 -- The words of a command.
-use Rattle.std.specs.Prelude.{◌≡◌, ℕ, Bool, true, false, not, ◌&&◌, ◌||◌, ◌==◌, List, [], ◌∷◌, ◌++◌, codes, ◌⊎◌, if◌then◌else◌}
+use Rattle.std.specs.Prelude.{◌≡◌, ℕ, ◌≤◌, Bool, true, false, not, ◌&&◌, ◌||◌, ◌==◌, List, [], ◌∷◌, ◌++◌, codes, decimal, Option, Some, None, ◌⊎◌, if◌then◌else◌}
 use Rattle.std.specs.List.{list_all, list_any, slice_split}
 use Rattle.std.specs.Str.{bytes_eq}
 use Rattle.c_names.specs.Names.{is_word_byte, is_new_name}
@@ -83,11 +83,55 @@ pub record AsksTokens (words : List (List ℕ)) (q : UnitQuery) : Type 0 where
   pub names_are : q.names ≡ names_in text
   pub good : IsGoodQuery q
 
+-- the name of the file that is the input, or `-` for none
+abbrev pub input_in : List ℕ → Option (List ℕ)
+input_in text = if bytes_eq text (codes "-") then None else Some text
+
+-- whether it is that of a file, where there is one
+abbrev pub is_input_name : Option (List ℕ) → Bool
+is_input_name None = true
+is_input_name (Some name) = is_file_name name
+
+-- the largest bound of a run
+abbrev pub largest_bound : ℕ
+largest_bound = 1000000
+
+-- the text is this number in decimal, and the number isn't too large
+abbrev pub IsBound : List ℕ → ℕ → Type 0
+IsBound text bound = (text ≡ decimal bound) × (bound ≤ largest_bound)
+
+-- a run of one product: the name of the project file, the names of the features that are on, the bound, and the name of the file
+-- that is the input, if there is one
+pub record RunQuery : Type 0 where
+  pub project : List ℕ
+  pub names : List (List ℕ)
+  pub bound : ℕ
+  pub input : Option (List ℕ)
+
+-- the names can be those of files and of features, and no feature is named twice
+pub record IsGoodRun (q : RunQuery) : Type 0 where
+  pub project : is_project_name q.project ≡ true
+  pub lawful : list_all is_new_name q.names ≡ true
+  pub differ : has_repetition q.names ≡ false
+  pub input : is_input_name q.input ≡ true
+
+-- the words, `run PROJECT NAMES BOUND INPUT`, ask for this run
+pub record AsksRun (words : List (List ℕ)) (q : RunQuery) : Type 0 where
+  pub names : List ℕ
+  pub bound : List ℕ
+  pub input : List ℕ
+  pub words_are : words ≡ codes "run" ∷ q.project ∷ names ∷ bound ∷ input ∷ []
+  pub names_are : q.names ≡ names_in names
+  pub bound_is : IsBound bound q.bound
+  pub input_is : q.input ≡ input_in input
+  pub good : IsGoodRun q
+
 -- the words ask for nothing
 pub record IsUsage (words : List (List ℕ)) : Type 0 where
   pub no_quick : (r : Renaming) → AsksQuick words r → ⊥
   pub no_admit : (project : List ℕ) → AsksAdmit words project → ⊥
   pub no_tokens : (q : UnitQuery) → AsksTokens words q → ⊥
+  pub no_run : (q : RunQuery) → AsksRun words q → ⊥
 
 -- the words ask for a command that reads this file alone
 abbrev pub Reads : List (List ℕ) → List ℕ → Type 0
@@ -95,4 +139,4 @@ Reads words file = ((r : Renaming) × AsksQuick words r × (file ≡ r.file)) �
 
 -- the words ask for a command that writes nothing
 abbrev pub ReadsAlone : List (List ℕ) → Type 0
-ReadsAlone words = ((project : List ℕ) × AsksAdmit words project) ⊎ ((q : UnitQuery) × AsksTokens words q)
+ReadsAlone words = ((project : List ℕ) × AsksAdmit words project) ⊎ (((q : UnitQuery) × AsksTokens words q) ⊎ ((q : RunQuery) × AsksRun words q))

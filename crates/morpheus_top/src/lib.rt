@@ -4,12 +4,14 @@
 mod admit;
 mod faults;
 mod give;
+mod products;
 mod quick;
 mod replies;
+mod run;
 mod tokens;
 mod top;
 mod words;
 
 pub use faults::ProjectFault;
-pub use replies::{Reply, TokensReply};
+pub use replies::{Reply, RunReply, TokensReply};
 pub use top::morpheus;

@@ -1,10 +1,11 @@
 ghost use Rattle.std.specs.Prelude.{◌≡◌, ◌⊎◌, ◌∷◌, ◌++◌, codes, decimal, map, IfOk};
 ghost use Rattle.std.specs.String.{string_bytes};
 ghost use Rattle.c_text.specs.Token.{plain_token};
-ghost use Rattle.morpheus_top.specs.Replies.{status_of, status_of_tokens, line, fault_view, fault_text, listed, spellings, report_of, report_of_tokens, text_of};
+ghost use Rattle.morpheus_top.specs.Replies.{status_of, status_of_tokens, status_of_run, line, fault_view, fault_text, listed, spellings, stage_name, run_text, ending, report_of, report_of_tokens, report_of_run, text_of};
 
 use crate::faults::ProjectFault;
 use c_text::Token;
+use project_program::Stage;
 use std::alloc::{AllocError, Global};
 
 /// What a call replies. A failing sink alone isn't among these: it can come instead of each.
@@ -31,6 +32,8 @@ pub enum Reply {
     AdmitsNothing,
     /// What is said of a unit's tokens.
     Tokens(TokensReply),
+    /// What is said of a run.
+    Run(RunReply),
 }
 
 /// What is replied about the tokens of a unit in one configuration.
@@ -44,6 +47,21 @@ pub enum TokensReply {
     NotAccepted,
     /// These are the tokens.
     Printed { tokens: Vec<Token> },
+}
+
+/// What is replied about the run of one product of a project.
+#[derive(Debug, Drop)]
+pub enum RunReply {
+    /// The project doesn't admit the configuration.
+    NotAdmitted,
+    /// The configuration is refused at this stage of translation.
+    NotAccepted { stage: Stage },
+    /// The run put this out, and ended with this status.
+    Ended { output: Vec<u8>, status: i32 },
+    /// The run put this out, and then its behaviour is undefined (3.4.3).
+    Undefined { output: Vec<u8> },
+    /// The run put this out, and then the bound cut it off.
+    Running { output: Vec<u8> },
 }
 
 impl TokensReply {
@@ -66,6 +84,63 @@ impl TokensReply {
             TokensReply::Printed { tokens } => Ok(Report::Bytes(spellings(alloc, tokens)?)),
         }
     }
+}
+
+impl RunReply {
+    fn status(&self) -> u8
+        ensures { result ≡ status_of_run self.now }
+    {
+        match self {
+            RunReply::NotAdmitted | RunReply::NotAccepted { .. } => 9,
+            RunReply::Ended { .. } => 0,
+            RunReply::Undefined { .. } => 10,
+            RunReply::Running { .. } => 11,
+        }
+    }
+
+    fn report(&self, alloc: Global) -> Result<Report, AllocError>
+        ensures { IfOk result (λ report. text_of report ≡ report_of_run self.now) }
+    {
+        match self {
+            RunReply::NotAdmitted => Ok(Report::Fixed("not admitted\n")),
+            RunReply::NotAccepted { stage } => Ok(Report::Fixed(refusal(*stage))),
+            RunReply::Ended { output, status } => ended(alloc, output, *status),
+            RunReply::Undefined { output } => put_out(alloc, output, "undefined"),
+            RunReply::Running { output } => put_out(alloc, output, "running"),
+        }
+    }
+}
+
+/// The line that names the stage that refuses a configuration.
+fn refusal(stage: Stage) -> &'static str
+    ensures { result.now ≡ line (codes "not accepted " ++ stage_name stage) }
+{
+    match stage {
+        Stage::Preprocess => "not accepted preprocess\n",
+        Stage::Parse => "not accepted parse\n",
+        Stage::Types => "not accepted type\n",
+        Stage::Link => "not accepted link\n",
+    }
+}
+
+/// What a run put out, and the status with which it ended.
+fn ended(alloc: Global, output: &[u8], status: i32) -> Result<Report, AllocError>
+    ensures { IfOk result (λ report. text_of report ≡ run_text output.now (ending status)) }
+{
+    let how = format!(in alloc; "ended {status}")?;
+    let report = put_out(alloc, output, how.as_str())?;
+    Ok(report)
+}
+
+/// What a run put out, and on a line of its own how it went on.
+fn put_out(alloc: Global, output: &[u8], how: &str) -> Result<Report, AllocError>
+    ensures { IfOk result (λ report. text_of report ≡ run_text output.now how.now) }
+{
+    let mut text = Vec::from_slice(alloc, output)?;
+    text.push(b'\n')?;
+    text.extend_from_slice(how.as_bytes())?;
+    text.push(b'\n')?;
+    Ok(Report::Bytes(text))
 }
 
 /// Each token's spelling on a line.
@@ -96,6 +171,7 @@ impl Reply {
             Reply::Admits { .. } => 0,
             Reply::AdmitsNothing => 0,
             Reply::Tokens(reply) => reply.status(),
+            Reply::Run(reply) => reply.status(),
         }
     }
 
@@ -110,6 +186,7 @@ impl Reply {
             Reply::Admits { names } => admits(alloc, names),
             Reply::AdmitsNothing => Ok(Report::Fixed("admits nothing\n")),
             Reply::Tokens(reply) => reply.report(alloc),
+            Reply::Run(reply) => reply.report(alloc),
             Reply::Usage => Ok(Report::Fixed("usage\n")),
             Reply::ReadFault => Ok(Report::Fixed("read fault\n")),
             Reply::WriteFault => Ok(Report::Fixed("write fault\n")),
@@ -274,6 +351,24 @@ impl Answer {
         Answer {
             reply: Reply::Tokens(TokensReply::NotAccepted),
             report: Report::Fixed("not accepted preprocess\n"),
+        }
+    }
+
+    pub(crate) fn run_not_admitted() -> Answer
+        ensures { result.reply ≡ Reply.Run RunReply.NotAdmitted }
+    {
+        Answer {
+            reply: Reply::Run(RunReply::NotAdmitted),
+            report: Report::Fixed("not admitted\n"),
+        }
+    }
+
+    pub(crate) fn run_not_accepted(stage: Stage) -> Answer
+        ensures { result.reply ≡ Reply.Run (RunReply.NotAccepted stage) }
+    {
+        Answer {
+            reply: Reply::Run(RunReply::NotAccepted { stage }),
+            report: Report::Fixed(refusal(stage)),
         }
     }
 

@@ -1,7 +1,5 @@
 ghost use Rattle.std.specs.Prelude.{◌≡◌, ℕ, ◌<◌, ◌≤◌, true, List, length, map, All, Some, None, IfOk, MatchOption};
-ghost use Rattle.std.specs.List.{list_all, list_any};
-ghost use Rattle.std.specs.Str.{bytes_eq};
-ghost use Rattle.std.specs.String.{string_bytes};
+ghost use Rattle.std.specs.List.{list_all};
 ghost use Rattle.text_edits.specs.Files.{plain_files};
 ghost use Rattle.cond_formula.specs.Features.{has};
 ghost use Rattle.c_names.specs.Names.{is_new_name};
@@ -12,16 +10,16 @@ ghost use Rattle.morpheus_top.specs.Words.{AsksTokens};
 ghost use Rattle.morpheus_top.specs.States.{store_state};
 ghost use Rattle.morpheus_top.specs.Calls.{Holds};
 ghost use Rattle.morpheus_top.specs.Quick.{query_of};
-ghost use Rattle.morpheus_top.specs.Tokens.{on_by, numbered, unit_from, is_named, are_features};
+ghost use Rattle.morpheus_top.specs.Tokens.{numbered, unit_from};
 ghost use Rattle.morpheus_top.specs.TokensSteps.{FitsNo, IsChoice, IsOutcome, IsSaid, IsReadAndSaid, IsRepliedIn};
 
 use crate::admit::without_project;
+use crate::products::{are_features, configuration};
 use crate::replies::{Answer, Reply, TokensReply};
-use crate::words::{UnitWords, is_among};
+use crate::words::UnitWords;
 use cond_formula::Config;
 use plain_pp::{PpError, preprocess};
 use project_store::{Project, Store, Unit, read_files, read_project};
-use sat_core::config_of;
 use std::alloc::{AllocError, Global};
 use text_edits::Files;
 
@@ -45,53 +43,6 @@ fn unit_in<'a>(units: &'a [Unit], file: &str) -> Option<(usize, &'a Unit)>
         }
     }
     None
-}
-
-fn is_feature(features: &[String], name: &[u8]) -> bool
-    ensures { result ≡ list_any (bytes_eq name.now) (map string_bytes features.now) }
-{
-    for feature in features {
-        if name == feature.as_bytes() {
-            return true;
-        }
-    }
-    false
-}
-
-fn are_features(features: &[String], names: &[Vec<u8>]) -> bool
-    ensures { result ≡ are_features (map string_bytes features.now) (map (λ name. name.items) names.now) }
-{
-    for name in names {
-        if !is_feature(features, name.as_slice()) {
-            return false;
-        }
-    }
-    true
-}
-
-/// Which of the features are named.
-fn named(alloc: Global, features: &[String], names: &[Vec<u8>]) -> Result<Vec<bool>, AllocError>
-    ensures { IfOk result (λ on. on.items ≡ map (is_named (map (λ name. name.items) names.now)) (map string_bytes features.now)) }
-{
-    let mut on = Vec::new(alloc);
-    for feature in features {
-        on.push(is_among(names, feature.as_bytes()))?;
-    }
-    Ok(on)
-}
-
-/// The configuration in which the features that are named are on.
-fn configuration(
-    alloc: Global,
-    features: &[String],
-    names: &[Vec<u8>],
-) -> Result<Config, AllocError>
-    requires few { length features.now ≤ 128 }
-    requires lawful { list_all is_new_name (map (λ name. name.items) names.now) ≡ true }
-    ensures { IfOk result (λ c. (number : ℕ) → has c number ≡ on_by (map string_bytes features.now) (map (λ name. name.items) names.now) number) }
-{
-    let on = named(alloc, features, names)?;
-    Ok(config_of(&on, features.len() as u8))
 }
 
 /// The unit and the configuration, if the project has the unit and all the features.

@@ -6,21 +6,24 @@ ghost use Rattle.project_file.specs.Projects.{PlainProject};
 ghost use Rattle.project_file.specs.Faults.{Fault};
 ghost use Rattle.project_store.specs.Reads.{SaysProject, HasFault};
 ghost use Rattle.c_text.specs.Token.{PlainToken};
-ghost use Rattle.morpheus_top.specs.Words.{Renaming, UnitQuery, AsksQuick, AsksAdmit, AsksTokens, ReadsAlone, IsUsage, Reads};
+ghost use Rattle.morpheus_top.specs.Words.{Renaming, UnitQuery, RunQuery, AsksQuick, AsksAdmit, AsksTokens, AsksRun, ReadsAlone, IsUsage, Reads};
 ghost use Rattle.morpheus_top.specs.Tokens.{IsMisfit, HasAnyFault, IsUnitRefused, GivesTokens};
+ghost use Rattle.morpheus_top.specs.Runs.{IsRunMisfit, HasRunFault, IsRunRefused};
 ghost use Rattle.morpheus_top.specs.Quick.{AsksFor, IsLawful};
 ghost use Rattle.morpheus_top.specs.States.{store_state, sink_state};
 ghost use Rattle.morpheus_top.specs.Calls.{IsUsageIn, Holds, Answers, TakesFile, RefusesFile, WritesFile, WritesPart, LacksRoomFor};
-ghost use Rattle.morpheus_top.specs.Promises.{IsOneOf, NoFault, SinkLacksRoom, IsRoomFor, FitsReports, PrintsPlace, PrintsLeast, PrintsFault, PrintsTokens, PrintsRefusal, PrintsAnyFault, LacksFile, HasFilesFor, BehaviourIsKept};
+ghost use Rattle.morpheus_top.specs.Promises.{IsOneOf, NoFault, SinkLacksRoom, IsRoomFor, FitsReports, PrintsPlace, PrintsLeast, PrintsFault, PrintsTokens, PrintsRefusal, PrintsAnyFault, RunEnds, RunIsUndefined, RunIsCutOff, PrintsEnd, PrintsUndefined, PrintsRunning, PrintsRunRefusal, PrintsRunFault, LacksFile, HasFilesFor, LacksRunFile, HasFilesForRun, BehaviourIsKept};
 
 use crate::admit::admit;
 use crate::give::give;
 use crate::quick::quick;
 use crate::replies::Answer;
+use crate::run::run;
 use crate::tokens::tokens;
 use crate::words::{Command, asked_command};
 use plain_pp::outcomes_are_one;
 use project_file::{projects_are_alike, projects_have_no_fault};
+use project_program::programs_are_one;
 use project_store::{Sink, Store};
 use quick_form::renaming_keeps_behaviour;
 use std::alloc::Global;
@@ -40,6 +43,7 @@ fn carried_out<S: Store>(alloc: Global, command: &Command, store: &mut S) -> Ans
         Command::Quick(renaming) => quick(alloc, renaming, store),
         Command::Admit(project) => admit(alloc, project, store),
         Command::Tokens(query) => tokens(alloc, query, store),
+        Command::Run(query) => run(alloc, query, store),
     }
 }
 
@@ -77,7 +81,8 @@ fn serve<S: Store, K: Sink>(alloc: Global, words: &[String], store: &mut S, out:
 ///
 /// `words` are those after the program's name. The statuses are 0 where the command succeeded,
 /// 2 `usage`, 3 `read fault`, 4 `write fault`, 5 `bad project: FAULT`, 6 where the sink failed, 7 `want of memory`,
-/// 9 `not admitted`, `not present` or `not accepted STAGE`, and 12 `not quick at OFFSET`. Only want of memory may come at any time before the first write.
+/// 9 `not admitted`, `not present` or `not accepted STAGE`, 10 `undefined` and 11 `running` behind what a run put out, and
+/// 12 `not quick at OFFSET`. Only want of memory may come at any time before the first write.
 pub fn morpheus<S: Store, K: Sink>(
     alloc: Global,
     words: &[String],
@@ -93,7 +98,7 @@ pub fn morpheus<S: Store, K: Sink>(
         result }
 
     // Which status comes, and where.
-    ensures statuses { IsOneOf (0 ∷ 2 ∷ 3 ∷ 4 ∷ 5 ∷ 6 ∷ 7 ∷ 9 ∷ 12 ∷ []) result }
+    ensures statuses { IsOneOf (0 ∷ 2 ∷ 3 ∷ 4 ∷ 5 ∷ 6 ∷ 7 ∷ 9 ∷ 10 ∷ 11 ∷ 12 ∷ []) result }
     ensures usage { result ≡ 2 → IsUsageIn (map string_bytes words.now) (S.tells store.old) (S.file store.old) }
     ensures usage_only { IsUsage (map string_bytes words.now) → IsOneOf (2 ∷ 6 ∷ 7 ∷ []) result }
     ensures read_fault { result ≡ 3 → Rose (S.read_faults store.old) (S.read_faults store.new) }
@@ -108,6 +113,17 @@ pub fn morpheus<S: Store, K: Sink>(
         → (fault : Fault) × HasAnyFault (S.tells store.old) (S.file store.old) q fault }
     ensures not_accepted { result ≡ 9 → S.tells store.old → (q : UnitQuery) → AsksTokens (map string_bytes words.now) q
         → IsUnitRefused (S.tells store.old) (S.file store.old) q }
+
+    ensures bad_run { result ≡ 5 → S.tells store.old → (q : RunQuery) → AsksRun (map string_bytes words.now) q
+        → (fault : Fault) × HasRunFault (S.tells store.old) (S.file store.old) q fault }
+    ensures not_run { result ≡ 9 → S.tells store.old → (q : RunQuery) → AsksRun (map string_bytes words.now) q
+        → IsRunRefused (S.tells store.old) (S.file store.old) q }
+    ensures ended { result ≡ 0 → S.tells store.old → (q : RunQuery) → AsksRun (map string_bytes words.now) q
+        → RunEnds (S.tells store.old) (S.file store.old) q }
+    ensures undefined { result ≡ 10 → S.tells store.old → (q : RunQuery) → AsksRun (map string_bytes words.now) q
+        → RunIsUndefined (S.tells store.old) (S.file store.old) q }
+    ensures running { result ≡ 11 → S.tells store.old → (q : RunQuery) → AsksRun (map string_bytes words.now) q
+        → RunIsCutOff (S.tells store.old) (S.file store.old) q }
 
     // Where no count of faults rises, the answer is exact but for want of memory.
     ensures complete { NoFault (S.read_faults store.old) (S.read_faults store.new) (S.write_faults store.old) (S.write_faults store.new) (K.faults out.old) (K.faults out.new)
@@ -136,6 +152,25 @@ pub fn morpheus<S: Store, K: Sink>(
         → S.tells store.old → (q : UnitQuery) (tokens : List PlainToken) → AsksTokens (map string_bytes words.now) q
         → GivesTokens (S.tells store.old) (S.file store.old) q tokens → (result ≡ 0) ⊎ (result ≡ 7) }
 
+    ensures misfits_run { NoFault (S.read_faults store.old) (S.read_faults store.new) (S.write_faults store.old) (S.write_faults store.new) (K.faults out.old) (K.faults out.new)
+        → S.tells store.old → (q : RunQuery) → AsksRun (map string_bytes words.now) q
+        → IsRunMisfit (S.tells store.old) (S.file store.old) q → (result ≡ 2) ⊎ (result ≡ 7) }
+    ensures refuses_run { NoFault (S.read_faults store.old) (S.read_faults store.new) (S.write_faults store.old) (S.write_faults store.new) (K.faults out.old) (K.faults out.new)
+        → S.tells store.old → (q : RunQuery) (fault : Fault) → AsksRun (map string_bytes words.now) q
+        → HasRunFault (S.tells store.old) (S.file store.old) q fault → (result ≡ 5) ⊎ (result ≡ 7) }
+    ensures refuses_product { NoFault (S.read_faults store.old) (S.read_faults store.new) (S.write_faults store.old) (S.write_faults store.new) (K.faults out.old) (K.faults out.new)
+        → S.tells store.old → (q : RunQuery) → AsksRun (map string_bytes words.now) q
+        → IsRunRefused (S.tells store.old) (S.file store.old) q → (result ≡ 9) ⊎ (result ≡ 7) }
+    ensures runs_to_end { NoFault (S.read_faults store.old) (S.read_faults store.new) (S.write_faults store.old) (S.write_faults store.new) (K.faults out.old) (K.faults out.new)
+        → S.tells store.old → (q : RunQuery) → AsksRun (map string_bytes words.now) q
+        → RunEnds (S.tells store.old) (S.file store.old) q → (result ≡ 0) ⊎ (result ≡ 7) }
+    ensures runs_into_undefined { NoFault (S.read_faults store.old) (S.read_faults store.new) (S.write_faults store.old) (S.write_faults store.new) (K.faults out.old) (K.faults out.new)
+        → S.tells store.old → (q : RunQuery) → AsksRun (map string_bytes words.now) q
+        → RunIsUndefined (S.tells store.old) (S.file store.old) q → (result ≡ 10) ⊎ (result ≡ 7) }
+    ensures runs_on { NoFault (S.read_faults store.old) (S.read_faults store.new) (S.write_faults store.old) (S.write_faults store.new) (K.faults out.old) (K.faults out.new)
+        → S.tells store.old → (q : RunQuery) → AsksRun (map string_bytes words.now) q
+        → RunIsCutOff (S.tells store.old) (S.file store.old) q → (result ≡ 11) ⊎ (result ≡ 7) }
+
     // What is printed.
     ensures prints_place { result ≡ 12 → S.tells store.old → K.tells out.old → (r : Renaming) → AsksQuick (map string_bytes words.now) r
         → PrintsPlace r (S.file store.old) (K.taken out.old) (K.taken out.new) }
@@ -150,6 +185,17 @@ pub fn morpheus<S: Store, K: Sink>(
         → PrintsRefusal q (S.file store.old) (K.taken out.old) (K.taken out.new) }
     ensures prints_source_fault { result ≡ 5 → S.tells store.old → K.tells out.old → (q : UnitQuery) → AsksTokens (map string_bytes words.now) q
         → PrintsAnyFault q (S.file store.old) (K.taken out.old) (K.taken out.new) }
+
+    ensures prints_end { result ≡ 0 → S.tells store.old → K.tells out.old → (q : RunQuery) → AsksRun (map string_bytes words.now) q
+        → PrintsEnd q (S.file store.old) (K.taken out.old) (K.taken out.new) }
+    ensures prints_undefined { result ≡ 10 → S.tells store.old → K.tells out.old → (q : RunQuery) → AsksRun (map string_bytes words.now) q
+        → PrintsUndefined q (S.file store.old) (K.taken out.old) (K.taken out.new) }
+    ensures prints_running { result ≡ 11 → S.tells store.old → K.tells out.old → (q : RunQuery) → AsksRun (map string_bytes words.now) q
+        → PrintsRunning q (S.file store.old) (K.taken out.old) (K.taken out.new) }
+    ensures prints_run_refusal { result ≡ 9 → S.tells store.old → K.tells out.old → (q : RunQuery) → AsksRun (map string_bytes words.now) q
+        → PrintsRunRefusal q (S.file store.old) (K.taken out.old) (K.taken out.new) }
+    ensures prints_run_fault { result ≡ 5 → S.tells store.old → K.tells out.old → (q : RunQuery) → AsksRun (map string_bytes words.now) q
+        → PrintsRunFault q (S.file store.old) (K.taken out.old) (K.taken out.new) }
 
     // What the store holds afterwards.
     ensures written { result ≡ 0 → S.tells store.old → (r : Renaming) → AsksQuick (map string_bytes words.now) r
@@ -169,6 +215,8 @@ pub fn morpheus<S: Store, K: Sink>(
         → S.file store.old file ≡ None }
     ensures absent_source { result ≡ 3 → S.tells_room store.old → (q : UnitQuery) → AsksTokens (map string_bytes words.now) q
         → LacksFile (S.file store.old) q }
+    ensures absent_for_run { result ≡ 3 → S.tells_room store.old → (q : RunQuery) → AsksRun (map string_bytes words.now) q
+        → LacksRunFile (S.file store.old) q }
     ensures store_full { result ≡ 4 → S.tells_room store.old → (r : Renaming) → AsksQuick (map string_bytes words.now) r
         → LacksRoomFor r (S.file store.old) (S.names_left store.old) (S.bytes_left store.old) }
     ensures sink_full { result ≡ 6 → K.tells_room out.old → SinkLacksRoom (map string_bytes words.now)
@@ -193,11 +241,19 @@ pub fn morpheus<S: Store, K: Sink>(
         (store_state S.tells S.file S.read_faults S.write_faults S.tells_room S.names_left S.bytes_left store.new)
         (K.room out.old)
         → IsOneOf (0 ∷ 2 ∷ 5 ∷ 7 ∷ 9 ∷ []) result }
+    ensures sure_run { S.tells_room store.old → K.tells_room out.old → (q : RunQuery) → AsksRun (map string_bytes words.now) q
+        → HasFilesForRun (S.file store.old) q
+        → FitsReports (map string_bytes words.now)
+        (store_state S.tells S.file S.read_faults S.write_faults S.tells_room S.names_left S.bytes_left store.old)
+        (store_state S.tells S.file S.read_faults S.write_faults S.tells_room S.names_left S.bytes_left store.new)
+        (K.room out.old)
+        → IsOneOf (0 ∷ 2 ∷ 5 ∷ 7 ∷ 9 ∷ 10 ∷ 11 ∷ []) result }
 {
-    // The laws behind the clauses on behaviour and on projects; they do nothing.
+    // The laws behind the clauses on behaviour, on projects and on programs; they do nothing.
     renaming_keeps_behaviour();
     projects_have_no_fault();
     projects_are_alike();
     outcomes_are_one();
+    programs_are_one();
     serve(alloc, words, store, out)
 }

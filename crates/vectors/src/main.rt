@@ -13,6 +13,8 @@ mod escapes;
 mod fields;
 #[cfg(test)]
 mod rows;
+#[cfg(test)]
+mod run_rows;
 mod suites;
 #[cfg(test)]
 mod tokens_rows;

@@ -16,7 +16,7 @@ pub(crate) struct Suite {
 }
 
 /// All vectors.
-pub(crate) const SUITES: [Suite; 3] = [
+pub(crate) const SUITES: [Suite; 4] = [
     Suite {
         command: "quick",
         file: "quick.tsv",
@@ -30,6 +30,11 @@ pub(crate) const SUITES: [Suite; 3] = [
     Suite {
         command: "tokens",
         file: "tokens.tsv",
+        output: Output::Nothing,
+    },
+    Suite {
+        command: "run",
+        file: "run.tsv",
         output: Output::Nothing,
     },
 ];

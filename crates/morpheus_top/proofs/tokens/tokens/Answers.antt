@@ -21,4 +21,4 @@ returns-in-Ok g c = λ words a.
 pub returns-in-Err : goal.returns-in-Err
 returns-in-Err g c = λ words a.
     let e = c.in-Err.ensures in
-    error_holds words c.args.query.now.project.now _ _ (inr (query_of c.args.query.now, a, inl refl)) (λ fault h. inr (query_of c.args.query.now, a, inl h)) e.kept.files c.in-Err.error e.project (λ is. e.cause.rose (ap Err is)) c.without_project.result.reply c.without_project.ensures
+    error_holds words c.args.query.now.project.now _ _ (inr (inl (query_of c.args.query.now, a, inl refl))) (λ fault h. inr (inl (query_of c.args.query.now, a, inl h))) e.kept.files c.in-Err.error e.project (λ is. e.cause.rose (ap Err is)) c.without_project.result.reply c.without_project.ensures

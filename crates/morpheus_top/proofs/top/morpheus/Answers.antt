@@ -1,8 +1,9 @@
 use Rattle.morpheus_top.proofs.WordLemmas.{new_name_is_name}
 use Rattle.morpheus_top.proofs.Promises.{statuses_lem, usage_lem, usage_only_lem, read_fault_lem, write_fault_lem, sink_fault_lem, not_taken_lem, complete_lem, refuses_lem, written_lem, part_lem, untouched_lem, absent_lem, lacks_lem, sink_lacks_lem, sure_lem, behaviour_lem, prints_place_lem}
 use Rattle.morpheus_top.proofs.AdmitPromises.{admits_lem, refuses_project_lem, sure_admit_lem, bad_project_lem, prints_fault_lem, prints_least_lem}
-use Rattle.morpheus_top.proofs.UnitLaws.{laws_of}
+use Rattle.morpheus_top.proofs.ProductLaws.{laws_of}
 use Rattle.morpheus_top.proofs.TokensPromises.{misfits_lem, refuses_source_lem, refuses_unit_lem, gives_tokens_lem, bad_source_lem, prints_source_fault_lem, not_accepted_lem, prints_tokens_lem, prints_refusal_lem, absent_source_lem, sure_tokens_lem, reads_only_lem}
+use Rattle.morpheus_top.proofs.RunPromises.{misfits_run_lem, refuses_run_lem, refuses_product_lem, runs_to_end_lem, runs_into_undefined_lem, runs_on_lem, bad_run_lem, not_run_lem, ended_lem, undefined_lem, running_lem, prints_end_lem, prints_undefined_lem, prints_running_lem, prints_run_refusal_lem, prints_run_fault_lem, absent_for_run_lem, sure_run_lem}
 use Rattle.morpheus_top.proofs.top.morpheus.Goals as goal
 
 pub returns-clause-statuses : goal.returns-clause-statuses
@@ -84,16 +85,16 @@ pub returns-clause-not_accepted : goal.returns-clause-not_accepted
 returns-clause-not_accepted g c = λ e t q a. not_accepted_lem _ _ _ _ _ _ c.serve.ensures q a e
 
 pub returns-clause-misfits : goal.returns-clause-misfits
-returns-clause-misfits g c = λ f t q a h. misfits_lem (laws_of c.projects_have_no_fault.ensures c.projects_are_alike.ensures c.outcomes_are_one.ensures) _ _ _ _ _ _ c.serve.ensures f t q a h
+returns-clause-misfits g c = λ f t q a h. misfits_lem (laws_of c.projects_have_no_fault.ensures c.projects_are_alike.ensures c.outcomes_are_one.ensures c.programs_are_one.ensures) _ _ _ _ _ _ c.serve.ensures f t q a h
 
 pub returns-clause-refuses_source : goal.returns-clause-refuses_source
-returns-clause-refuses_source g c = λ f t q fault a h. refuses_source_lem (laws_of c.projects_have_no_fault.ensures c.projects_are_alike.ensures c.outcomes_are_one.ensures) _ _ _ _ _ _ c.serve.ensures f t q a fault h
+returns-clause-refuses_source g c = λ f t q fault a h. refuses_source_lem (laws_of c.projects_have_no_fault.ensures c.projects_are_alike.ensures c.outcomes_are_one.ensures c.programs_are_one.ensures) _ _ _ _ _ _ c.serve.ensures f t q a fault h
 
 pub returns-clause-refuses_unit : goal.returns-clause-refuses_unit
-returns-clause-refuses_unit g c = λ f t q a h. refuses_unit_lem (laws_of c.projects_have_no_fault.ensures c.projects_are_alike.ensures c.outcomes_are_one.ensures) _ _ _ _ _ _ c.serve.ensures f t q a h
+returns-clause-refuses_unit g c = λ f t q a h. refuses_unit_lem (laws_of c.projects_have_no_fault.ensures c.projects_are_alike.ensures c.outcomes_are_one.ensures c.programs_are_one.ensures) _ _ _ _ _ _ c.serve.ensures f t q a h
 
 pub returns-clause-gives_tokens : goal.returns-clause-gives_tokens
-returns-clause-gives_tokens g c = λ f t q tokens a h. gives_tokens_lem (laws_of c.projects_have_no_fault.ensures c.projects_are_alike.ensures c.outcomes_are_one.ensures) _ _ _ _ _ _ c.serve.ensures f t q a tokens h
+returns-clause-gives_tokens g c = λ f t q tokens a h. gives_tokens_lem (laws_of c.projects_have_no_fault.ensures c.projects_are_alike.ensures c.outcomes_are_one.ensures c.programs_are_one.ensures) _ _ _ _ _ _ c.serve.ensures f t q a tokens h
 
 pub returns-clause-prints_tokens : goal.returns-clause-prints_tokens
 returns-clause-prints_tokens g c = λ e t k q a. prints_tokens_lem _ _ _ _ _ _ c.serve.ensures q a e t k
@@ -112,3 +113,57 @@ returns-clause-sure_tokens g c = λ t k q a h r. sure_tokens_lem _ _ _ _ _ _ c.s
 
 pub returns-clause-prints_place : goal.returns-clause-prints_place
 returns-clause-prints_place g c = prints_place_lem _ _ _ _ _ _ c.serve.ensures
+
+pub returns-clause-bad_run : goal.returns-clause-bad_run
+returns-clause-bad_run g c = λ e t q a. bad_run_lem _ _ _ _ _ _ c.serve.ensures q a e
+
+pub returns-clause-not_run : goal.returns-clause-not_run
+returns-clause-not_run g c = λ e t q a. not_run_lem _ _ _ _ _ _ c.serve.ensures q a e
+
+pub returns-clause-ended : goal.returns-clause-ended
+returns-clause-ended g c = λ e t q a. ended_lem _ _ _ _ _ _ c.serve.ensures q a e
+
+pub returns-clause-undefined : goal.returns-clause-undefined
+returns-clause-undefined g c = λ e t q a. undefined_lem _ _ _ _ _ _ c.serve.ensures q a e
+
+pub returns-clause-running : goal.returns-clause-running
+returns-clause-running g c = λ e t q a. running_lem _ _ _ _ _ _ c.serve.ensures q a e
+
+pub returns-clause-misfits_run : goal.returns-clause-misfits_run
+returns-clause-misfits_run g c = λ f t q a h. misfits_run_lem (laws_of c.projects_have_no_fault.ensures c.projects_are_alike.ensures c.outcomes_are_one.ensures c.programs_are_one.ensures) _ _ _ _ _ _ c.serve.ensures f t q a h
+
+pub returns-clause-refuses_run : goal.returns-clause-refuses_run
+returns-clause-refuses_run g c = λ f t q fault a h. refuses_run_lem (laws_of c.projects_have_no_fault.ensures c.projects_are_alike.ensures c.outcomes_are_one.ensures c.programs_are_one.ensures) _ _ _ _ _ _ c.serve.ensures f t q a fault h
+
+pub returns-clause-refuses_product : goal.returns-clause-refuses_product
+returns-clause-refuses_product g c = λ f t q a h. refuses_product_lem (laws_of c.projects_have_no_fault.ensures c.projects_are_alike.ensures c.outcomes_are_one.ensures c.programs_are_one.ensures) _ _ _ _ _ _ c.serve.ensures f t q a h
+
+pub returns-clause-runs_to_end : goal.returns-clause-runs_to_end
+returns-clause-runs_to_end g c = λ f t q a h. runs_to_end_lem (laws_of c.projects_have_no_fault.ensures c.projects_are_alike.ensures c.outcomes_are_one.ensures c.programs_are_one.ensures) _ _ _ _ _ _ c.serve.ensures f t q a h
+
+pub returns-clause-runs_into_undefined : goal.returns-clause-runs_into_undefined
+returns-clause-runs_into_undefined g c = λ f t q a h. runs_into_undefined_lem (laws_of c.projects_have_no_fault.ensures c.projects_are_alike.ensures c.outcomes_are_one.ensures c.programs_are_one.ensures) _ _ _ _ _ _ c.serve.ensures f t q a h
+
+pub returns-clause-runs_on : goal.returns-clause-runs_on
+returns-clause-runs_on g c = λ f t q a h. runs_on_lem (laws_of c.projects_have_no_fault.ensures c.projects_are_alike.ensures c.outcomes_are_one.ensures c.programs_are_one.ensures) _ _ _ _ _ _ c.serve.ensures f t q a h
+
+pub returns-clause-prints_end : goal.returns-clause-prints_end
+returns-clause-prints_end g c = λ e t k q a. prints_end_lem _ _ _ _ _ _ c.serve.ensures q a e t k
+
+pub returns-clause-prints_undefined : goal.returns-clause-prints_undefined
+returns-clause-prints_undefined g c = λ e t k q a. prints_undefined_lem _ _ _ _ _ _ c.serve.ensures q a e t k
+
+pub returns-clause-prints_running : goal.returns-clause-prints_running
+returns-clause-prints_running g c = λ e t k q a. prints_running_lem _ _ _ _ _ _ c.serve.ensures q a e t k
+
+pub returns-clause-prints_run_refusal : goal.returns-clause-prints_run_refusal
+returns-clause-prints_run_refusal g c = λ e t k q a. prints_run_refusal_lem _ _ _ _ _ _ c.serve.ensures q a e t k
+
+pub returns-clause-prints_run_fault : goal.returns-clause-prints_run_fault
+returns-clause-prints_run_fault g c = λ e t k q a. prints_run_fault_lem _ _ _ _ _ _ c.serve.ensures q a e t k
+
+pub returns-clause-absent_for_run : goal.returns-clause-absent_for_run
+returns-clause-absent_for_run g c = λ e t q a. absent_for_run_lem _ _ _ _ _ _ c.serve.ensures q a (g.met.S.Store.room_is_told c.args.store.now) e t
+
+pub returns-clause-sure_run : goal.returns-clause-sure_run
+returns-clause-sure_run g c = λ t k q a h r. sure_run_lem _ _ _ _ _ _ c.serve.ensures q a (g.met.S.Store.room_is_told c.args.store.now) t k h r

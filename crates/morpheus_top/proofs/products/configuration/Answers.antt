@@ -1,6 +1,6 @@
 use Rattle.std.proofs.Common.{map, ◌∙◌}
-use Rattle.morpheus_top.proofs.TokensSteps.{named_on}
-use Rattle.morpheus_top.proofs.tokens.configuration.Goals as goal
+use Rattle.morpheus_top.proofs.ProductSteps.{named_on}
+use Rattle.morpheus_top.proofs.products.configuration.Goals as goal
 
 pub returns : goal.returns
 returns c =

@@ -1,7 +1,7 @@
 use Rattle.std.proofs.Common.{◌≡◌, map, drop}
 use Rattle.std.specs.String.{string_bytes}
-use Rattle.morpheus_top.specs.Tokens.{are_features}
-use Rattle.morpheus_top.proofs.tokens.are_features.Given as goal
+use Rattle.morpheus_top.specs.Products.{are_features}
+use Rattle.morpheus_top.proofs.products.are_features.Given as goal
 
 abbrev pub invariant-loop-name : goal.invariant-loop-name
 invariant-loop-name l =
