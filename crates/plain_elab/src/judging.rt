@@ -1,5 +1,5 @@
 //! Units that are judged one after another.
-ghost use Rattle.std.specs.Prelude.{◌≡◌, ℕ, [], IfOk, map};
+ghost use Rattle.std.specs.Prelude.{◌≡◌, ℕ, [], length, IfOk, map};
 ghost use Rattle.c_tree.specs.Trees.{plain_tree};
 ghost use Rattle.core_meaning.specs.UnitNames.{judged_unit};
 ghost use Rattle.core_meaning.specs.Linking.{closed, judged_units};
@@ -50,7 +50,8 @@ fn no_number(alloc: Global) -> Numbers
 
 /// As many units without numbers.
 pub fn unnumbered(alloc: Global, count: usize) -> Result<Vec<Numbers>, NoMemory>
-    ensures { IfOk result (λ numbers. HaveNoNumbers numbers.items) }
+    ensures count { IfOk result (λ numbers. length numbers.items ≡ count) }
+    ensures none { IfOk result (λ numbers. HaveNoNumbers numbers.items) }
 {
     let mut all = Vec::with_capacity(alloc, count)?;
     for _index in 0..count {
