@@ -1,0 +1,9 @@
+pub mod Marks
+pub mod Numbers
+pub mod WordPieces
+pub mod Spacing
+pub mod Splicing
+pub mod Cutting
+pub mod Unspliced
+pub mod LineChecks
+pub mod LinesSpelled
