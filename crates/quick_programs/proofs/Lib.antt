@@ -1,0 +1,3 @@
+pub mod SameTokens
+pub mod Declared
+pub mod Programs
