@@ -49,6 +49,22 @@ const OPEN_COMMENT: &str = "int main(void) { return 0; }
 /* open
 ";
 
+/// A file of the quick form, behind the line that declares `putchar`.
+const QUICK: &str = "int putchar(int);
+int x = 65;
+#ifdef A
+int left = 1;
+#else
+int left = 2;
+#endif
+int main(void) { while (left) { putchar(x + left); left = left - 1; } return x; }
+";
+
+const QUICK_USES_A: &str = "int putchar(int);
+int A;
+int main(void) { return A; }
+";
+
 /// A command `run p.toml NAMES BOUND INPUT`, and what it answers.
 #[derive(Clone, Copy, Debug)]
 struct Row {
@@ -189,7 +205,45 @@ const SINK_FAILS: Row = Row {
     ..ENDED
 };
 
-const ROWS: [Row; 16] = [
+const QUICK_WITHOUT_A: Row = Row {
+    unit: QUICK,
+    bound: "2",
+    printed: "CB\nended 65\n",
+    ..ENDED
+};
+
+const QUICK_WITH_A: Row = Row {
+    unit: QUICK,
+    names: "A",
+    bound: "1",
+    printed: "B\nended 65\n",
+    ..ENDED
+};
+
+const QUICK_CUT_OFF: Row = Row {
+    unit: QUICK,
+    bound: "1",
+    status: 11,
+    printed: "C\nrunning\n",
+    ..ENDED
+};
+
+const QUICK_USES_NO_FEATURE: Row = Row {
+    unit: QUICK_USES_A,
+    names: "B",
+    ..ENDED
+};
+
+/// A feature that is on is replaced by `1`, which can't be declared.
+const QUICK_USES_A_FEATURE: Row = Row {
+    unit: QUICK_USES_A,
+    names: "A",
+    status: 9,
+    printed: "not accepted parse\n",
+    ..ENDED
+};
+
+const ROWS: [Row; 21] = [
     ENDED,
     RUNNING,
     UNDEFINED,
@@ -206,6 +260,11 @@ const ROWS: [Row; 16] = [
     INPUT_UNREAD,
     NO_INPUT_FILE,
     SINK_FAILS,
+    QUICK_WITHOUT_A,
+    QUICK_WITH_A,
+    QUICK_CUT_OFF,
+    QUICK_USES_NO_FEATURE,
+    QUICK_USES_A_FEATURE,
 ];
 
 fn file(alloc: Global, name: &str, text: &str) -> Result<SourceFile, AllocError> {
