@@ -23,12 +23,16 @@ spellings_of tokens = map spelling_of tokens
 abbrev pub hash : Spelling
 hash = spelling kind.Punctuator (codes "#")
 
+-- what a symbol outside directive lines spells
+abbrev pub symbol_spelling : Symbol → Spelling
+symbol_spelling k = spelling (symbol_kind k) (symbol_text k)
+
 -- A directive line begins with `#`; `else` is a keyword outside directives.
 abbrev pub spelled_symbol : Symbol → List Spelling
 spelled_symbol (Ifdef n) = hash ∷ spelling kind.Name (codes "ifdef") ∷ spelling kind.Name n ∷ []
 spelled_symbol Else = hash ∷ spelling kind.Keyword (codes "else") ∷ []
 spelled_symbol Endif = hash ∷ spelling kind.Name (codes "endif") ∷ []
-spelled_symbol k = spelling (symbol_kind k) (symbol_text k) ∷ []
+spelled_symbol k = symbol_spelling k ∷ []
 
 -- a symbol that is a directive line
 abbrev pub is_directive : Symbol → Bool

@@ -11,8 +11,8 @@ use Rattle.quick_form.specs.Form.{Term, Sum, write_terms, write_sum}
 use Rattle.quick_form.specs.Program.{Code, done, assign, put, give, while_, object_names, bodies}
 use Rattle.quick_core.specs.Present.{Item, tentative, valued, main_of, declarations}
 use Rattle.quick_trees.specs.Tokens.{write_code, write_present}
-use Rattle.quick_lines.specs.Spellings.{Spelling, spelling, spellings_of}
-use Rattle.quick_units.specs.Units.{is_on, replaced_spelling, symbol_spelling, unit_spellings}
+use Rattle.quick_lines.specs.Spellings.{Spelling, spelling, spellings_of, symbol_spelling}
+use Rattle.quick_units.specs.Units.{is_on, replaced_spelling, unit_spellings}
 use Rattle.tree_pairs.specs.Pairs.{begin_with_number, declare_number}
 
 -- the same of spellings

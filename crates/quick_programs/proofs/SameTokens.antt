@@ -12,8 +12,8 @@ use Rattle.quick_form.specs.Form.{Operand, Named, Literal, Term, Sum, operand_sy
 use Rattle.quick_form.specs.Program.{Code, done, assign, put, give, while_, operand_names, term_names, sum_names, used_names, object_names, bodies}
 use Rattle.quick_core.specs.Present.{Item, tentative, valued, main_of, declarations}
 use Rattle.quick_trees.specs.Tokens.{Seats, symbol_kind, symbol_text, token_of, tokens_of, write_code, write_present, write_unit}
-use Rattle.quick_lines.specs.Spellings.{Spelling, spelling, spelling_of, spellings_of}
-use Rattle.quick_units.specs.Units.{is_on, replaced_spelling, symbol_spelling}
+use Rattle.quick_lines.specs.Spellings.{Spelling, spelling, spelling_of, spellings_of, symbol_spelling}
+use Rattle.quick_units.specs.Units.{is_on, replaced_spelling}
 
 -- ---- tokens by their symbols and their own seats
 

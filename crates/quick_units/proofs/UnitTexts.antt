@@ -12,11 +12,11 @@ use Rattle.quick_form.specs.Symbols.{Symbol, Int, Void, While, Return, Putchar, 
 use Rattle.quick_form.specs.Form.{Items, Reads}
 use Rattle.quick_core.specs.Present.{present_items}
 use Rattle.quick_trees.specs.Tokens.{write_unit}
-use Rattle.quick_lines.specs.Spellings.{spellings_of, spelled_symbol, is_directive}
+use Rattle.quick_lines.specs.Spellings.{spellings_of, spelled_symbol, is_directive, symbol_spelling}
 use Rattle.quick_lines.specs.SpelledLines.{are_spaced, SpellLines}
 use Rattle.quick_lines.specs.Laws.{TextsAreSpelled}
 use Rattle.plain_pp.specs.Laws.{ProjectsHaveSyntax}
-use Rattle.quick_units.specs.Units.{unit_text, IsAlone, is_on, replaced_spelling, symbol_spelling, UnitsGiveWhatIsPresent}
+use Rattle.quick_units.specs.Units.{unit_text, IsAlone, is_on, replaced_spelling, UnitsGiveWhatIsPresent}
 use Rattle.quick_units.proofs.Nests.{nest_unit, nest_items, write, items-written, items-plain, items-present, present-plain}
 use Rattle.quick_units.proofs.Spaced.{spaced-items}
 use Rattle.quick_units.proofs.Parts.{Gives, given}

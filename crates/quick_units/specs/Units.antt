@@ -6,11 +6,10 @@ use Rattle.c_text.specs.declared.token.TokenKind.TheVariants as kind
 use Rattle.c_text.specs.Token.{PlainToken}
 use Rattle.c_text.specs.Macros.{is_name_kind}
 use Rattle.c_text.specs.Preprocessing.{Sources, gives, IsPreprocessed}
-use Rattle.quick_form.specs.Symbols.{Symbol}
 use Rattle.quick_form.specs.Form.{Items, Reads}
 use Rattle.quick_core.specs.Present.{Item, present_items}
-use Rattle.quick_trees.specs.Tokens.{symbol_kind, symbol_text, write_unit}
-use Rattle.quick_lines.specs.Spellings.{Spelling, spelling, spellings_of}
+use Rattle.quick_trees.specs.Tokens.{write_unit}
+use Rattle.quick_lines.specs.Spellings.{Spelling, spelling, spellings_of, symbol_spelling}
 
 -- the text of a unit: the line `int putchar(int);`, and a quick file
 abbrev pub unit_text : List ℕ → List ℕ
@@ -28,10 +27,6 @@ is_on names name = list_any (bytes_eq name) names
 -- the name of a feature that is on is replaced by `1`
 abbrev pub replaced_spelling : List (List ℕ) → Spelling → Spelling
 replaced_spelling names w = if is_name_kind w.kind && is_on names w.text then spelling kind.Number (codes "1") else w
-
--- what a symbol outside directive lines spells
-abbrev pub symbol_spelling : Symbol → Spelling
-symbol_spelling k = spelling (symbol_kind k) (symbol_text k)
 
 -- the spellings of the unit with these items, where these features are on
 abbrev pub unit_spellings : List (List ℕ) → List Item → List Spelling
