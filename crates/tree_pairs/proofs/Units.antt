@@ -4,8 +4,9 @@ use Rattle.std.proofs.lemmas.Bool.{and_parts, not-true}
 use Rattle.c_text.specs.Token.{PlainToken}
 use Rattle.c_tree.specs.declared.kinds.Kind.TheVariants as k
 use Rattle.c_tree.specs.declared.terminals.Terminal.TheVariants as t
-use Rattle.c_tree.specs.Grammar.{expression, initialiser, file_item, Shape, in_row, of_words, of_texts, repeated, any_number, separated, separated_or_ended, declaring, shape, belongs, agree, any_part, are_in_row, are_words_of, are_texts, are_each, are_separated, are_separated_or_ended, are_declared}
+use Rattle.c_tree.specs.Grammar.{expression, initialiser, file_item, Shape, in_row, of_words, of_texts, repeated, any_number, separated, separated_or_ended, declaring, shape, belongs, agree, any_part, are_texts, are_each}
 use Rattle.c_tree.specs.Trees.{PlainTree, PlainTrees, leaf, node, none, more, all_written}
+use Rattle.c_tree.proofs.ExpressionsRead.{shaped}
 use Rattle.tree_pairs.specs.Pairs.{UnitsDeclareNoNumber}
 use Rattle.tree_pairs.proofs.Declares.{declares, declares_none, weakest, behind_token}
 use Rattle.tree_pairs.proofs.Safety.{may_begin_with_number, may_end_with_int, safe_shape, shapes_are_safe}
@@ -13,20 +14,8 @@ use Rattle.tree_pairs.proofs.Rows.{IsGood, AreGood, row_is_good, words_are_good}
 use Rattle.tree_pairs.proofs.Lists.{texts_are_good, each_is_good, some_are_good, separated_are_good, ended_are_good}
 use Rattle.tree_pairs.proofs.Declarators.{declared_are_good}
 
-abbrev suits_shape : Shape → PlainTrees → Bool
-suits_shape s parts = elim s as (λ x. Bool) [
-  | in_row slots ↦ are_in_row slots parts
-  | of_words lists ↦ are_words_of lists parts
-  | of_texts ↦ are_texts parts && any_part parts
-  | repeated each ↦ are_each each parts && any_part parts
-  | any_number each ↦ are_each each parts
-  | separated each ↦ are_separated each parts
-  | separated_or_ended each ↦ are_separated_or_ended each parts
-  | declaring role ↦ are_declared role parts
-]
-
 node_is_good :
-    (s : Shape) (parts : PlainTrees) → AreGood parts → (after ended : Bool) → IsTrue (safe_shape after s ended) → IsTrue (suits_shape s parts)
+    (s : Shape) (parts : PlainTrees) → AreGood parts → (after ended : Bool) → IsTrue (safe_shape after s ended) → IsTrue (shaped s parts)
     → (behind : List PlainToken) → declares ended behind ≡ false → declares after (all_written parts behind) ≡ false
 node_is_good (in_row slots) parts good after ended safe h behind d = row_is_good parts good slots after ended safe h behind d
 node_is_good (of_words lists) parts good after ended safe h behind d = words_are_good lists parts good after ended safe h behind d
@@ -52,7 +41,7 @@ mutual
   tree_is_good : (tree : PlainTree) → IsGood tree
   tree_is_good (leaf token) = token_is_good token
   tree_is_good (node kind parts) = λ category h behind d.
-      let outer = and_parts (belongs category kind && agree kind parts) (suits_shape (shape category kind) parts) h in
+      let outer = and_parts (belongs category kind && agree kind parts) (shaped (shape category kind) parts) h in
       let inner = and_parts (belongs category kind) (agree kind parts) outer.0 in
       node_is_good (shape category kind) parts (trees_are_good parts) (not (may_begin_with_number category)) (may_end_with_int category)
       (shapes_are_safe category kind inner.0) outer.1 behind d

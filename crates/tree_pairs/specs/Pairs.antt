@@ -6,6 +6,7 @@ use Rattle.c_tree.specs.Terminals.{terminal, same}
 use Rattle.c_tree.specs.Trees.{PlainTree, spelled}
 use Rattle.c_tree.specs.Grammar.{is_unit}
 
+-- whether the first token is a number
 abbrev pub begin_with_number : List PlainToken → Bool
 begin_with_number [] = false
 begin_with_number (first ∷ rest) = same Number (terminal first)
