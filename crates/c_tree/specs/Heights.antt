@@ -11,7 +11,7 @@ abbrev pub count_stars : PlainTrees → ℕ
 count_stars none = 0
 count_stars (more tree rest) = (if is_word (t.Star ∷ []) tree then 1 else 0) + count_stars rest
 
--- a type of several words is a node
+-- a type of several words is a node, over the tag of a struct as over any name
 abbrev pub several : PlainTrees → ℕ
 several none = 0
 several (more first none) = 0
@@ -19,7 +19,7 @@ several (more first (more second rest)) = 1
 
 -- how much higher than the highest of its parts a node is
 abbrev pub height_over : Kind → PlainTrees → ℕ → ℕ
-height_over Specifiers parts highest = max (several parts) highest
+height_over Specifiers parts highest = several parts + highest
 height_over Declarator parts highest = count_stars parts + highest
 height_over ArrayDeclarator parts highest = count_stars parts + 1 + highest
 height_over FunctionDeclarator parts highest = count_stars parts + 1 + highest

@@ -47,7 +47,7 @@ pub fn node_height(kind: Kind, parts: &[Tree], highest: u32) -> u32
     ensures { result ≡ min (height_over kind (plain_trees parts.now) highest) 4294967295 }
 {
     match kind {
-        Kind::Specifiers => words_height(parts).max(highest),
+        Kind::Specifiers => words_height(parts).saturating_add(highest),
         Kind::Declarator => star_count(parts).saturating_add(highest),
         Kind::ArrayDeclarator | Kind::FunctionDeclarator => {
             star_count(parts).saturating_add(1).saturating_add(highest)
