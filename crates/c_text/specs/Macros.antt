@@ -75,7 +75,7 @@ brought first last item = record item {
   };
 }
 
--- whether the last item is a function-like macro's name that may still be replaced
+-- a function-like macro's name that may still be replaced
 abbrev pub is_function : Option Meaning → Bool
 is_function (Some (function params body)) = true
 is_function other = false
@@ -85,9 +85,10 @@ ends_in_function table [] = false
 ends_in_function table (item ∷ []) = is_function (meaning_of table item)
 ends_in_function table (first ∷ second ∷ rest) = ends_in_function table (second ∷ rest)
 
-abbrev pub checked : Table → PlainToken → PlainToken → Option (List Item) → Option (List Item)
-checked table first last None = None
-checked table first last (Some items) =
+-- A replacement must not end in a function-like macro's name that may still be replaced: only the tokens after it could complete its call.
+abbrev pub unless_left_open : Table → PlainToken → PlainToken → Option (List Item) → Option (List Item)
+unless_left_open table first last None = None
+unless_left_open table first last (Some items) =
     if ends_in_function table items then None else Some (map (brought first last) items)
 
 -- the list of a body or an argument, one deeper, with names that are active
@@ -96,7 +97,7 @@ Deeper = List (List ℕ) → List Item → Option (List Item)
 
 -- what replaces a name whose replacement is this body, when it is replaced in its turn
 abbrev pub replacement : Table → Deeper → List (List ℕ) → PlainToken → PlainToken → List Item → Option (List Item)
-replacement table deeper active first last body = checked table first last (deeper (first.text ∷ active) body)
+replacement table deeper active first last body = unless_left_open table first last (deeper (first.text ∷ active) body)
 
 -- the arguments of a call, of which the last is being read, and how many of its parentheses are open: none yet before its first
 pub record Call : Type 0 where
@@ -111,10 +112,10 @@ abbrev pub begun : PlainToken → List (List ℕ) → List PlainToken → Call
 begun name params body =
     record { name = name; params = params; body = body; arguments = []; last = []; nested = 0 }
 
--- what the next token of a call does
-pub data Step : Type 0 where
-  goes_on : Call → Step
-  ends : Step
+-- how a call goes on behind its next item, or ends with it
+pub data Progress : Type 0 where
+  goes_on : Call → Progress
+  ends : Progress
 
 abbrev pub with_item : Call → Item → Call
 with_item call item = record call { last = call.last ++ item ∷ [] }
@@ -126,12 +127,12 @@ abbrev pub opening : Call → Item → ℕ → Call
 opening call item zero = record call { nested = 1 }
 opening call item (suc nested) = record (with_item call item) { nested = suc (suc nested) }
 
-abbrev pub closing : Call → Item → ℕ → Step
+abbrev pub closing : Call → Item → ℕ → Progress
 closing call item (suc (suc nested)) = goes_on (record (with_item call item) { nested = suc nested })
 closing call item outermost = ends
 
-abbrev pub step : Call → Item → Step
-step call item =
+abbrev pub progress : Call → Item → Progress
+progress call item =
     if is_spelled (codes ")") item.token then closing call item call.nested
     else if is_spelled (codes "(") item.token then goes_on (opening call item call.nested)
     else if is_spelled (codes ",") item.token && call.nested == 1 then goes_on (next_argument call)
@@ -166,64 +167,65 @@ substituted_for (param ∷ params) (argument ∷ arguments) token =
 abbrev pub substituted : List (List ℕ) → List (List Item) → List PlainToken → List Item
 substituted params arguments body = flat_map (substituted_for params arguments) body
 
-abbrev pub by_arguments : Table → Deeper → List (List ℕ) → Call → PlainToken → Option (List (List Item)) → Option (List Item)
-by_arguments table deeper active call last None = None
-by_arguments table deeper active call last (Some arguments) =
+abbrev pub body_replacement : Table → Deeper → List (List ℕ) → Call → PlainToken → Option (List (List Item)) → Option (List Item)
+body_replacement table deeper active call last None = None
+body_replacement table deeper active call last (Some arguments) =
     replacement table deeper active call.name last (substituted call.params arguments call.body)
 
 -- what replaces a call that ends with this token
-abbrev pub called : Table → Deeper → List (List ℕ) → Call → PlainToken → Option (List Item)
-called table deeper active call last =
+abbrev pub call_replacement : Table → Deeper → List (List ℕ) → Call → PlainToken → Option (List Item)
+call_replacement table deeper active call last =
     if fits call.params (all_arguments call)
-    then by_arguments table deeper active call last (all_replaced deeper active (all_arguments call)) else None
+    then body_replacement table deeper active call last (all_replaced deeper active (all_arguments call)) else None
 
--- what is done with an item outside calls
-pub data Sort : Type 0 where
-  stays : Item → Sort
-  is_feature : PlainToken → Sort
-  is_object : List PlainToken → Sort
-  is_call : List (List ℕ) → List PlainToken → Sort
+-- what is done with an item outside calls: its treatment
+pub data Treatment : Type 0 where
+  stays : Item → Treatment
+  is_feature : PlainToken → Treatment
+  is_object : List PlainToken → Treatment
+  is_call : List (List ℕ) → List PlainToken → Treatment
 
 abbrev pub opens : List Item → Bool
 opens [] = false
 opens (next ∷ rest) = is_spelled (codes "(") next.token
 
-abbrev pub sorted : Item → Bool → Bool → Option Meaning → Sort
-sorted item is_active next_opens None = stays item
-sorted item true next_opens (Some meaning) = stays (record item { kept = true })
-sorted item false next_opens (Some (feature one)) = is_feature one
-sorted item false next_opens (Some (object body)) = is_object body
-sorted item false true (Some (function params body)) = is_call params body
-sorted item false false (Some (function params body)) = stays item
+abbrev pub treatment : Item → Bool → Bool → Option Meaning → Treatment
+treatment item is_active next_opens None = stays item
+treatment item true next_opens (Some meaning) = stays (record item { kept = true })
+treatment item false next_opens (Some (feature one)) = is_feature one
+treatment item false next_opens (Some (object body)) = is_object body
+treatment item false true (Some (function params body)) = is_call params body
+treatment item false false (Some (function params body)) = stays item
 
-abbrev pub sort : Table → List (List ℕ) → Item → List Item → Sort
-sort table active item rest =
-    sorted item (is_named_in active item.token) (opens rest) (meaning_of table item)
+abbrev pub treatment_of : Table → List (List ℕ) → Item → List Item → Treatment
+treatment_of table active item rest =
+    treatment item (is_named_in active item.token) (opens rest) (meaning_of table item)
 
 module _ (table : Table) (deeper : Deeper) (active : List (List ℕ)) where
-  abbrev pub by_sort : Item → Sort → Replaced → (Call → Replaced) → Replaced
-  by_sort item (stays kept) others calls = before (kept ∷ []) others
-  by_sort item (is_feature one) others calls = before (brought item.token item.token (fresh one) ∷ []) others
-  by_sort item (is_object body) others calls =
+  abbrev pub treated : Item → Treatment → Replaced → (Call → Replaced) → Replaced
+  treated item (stays kept) others calls = before (kept ∷ []) others
+  treated item (is_feature one) others calls = before (brought item.token item.token (fresh one) ∷ []) others
+  treated item (is_object body) others calls =
       call_then item.token (replacement table deeper active item.token item.token (map fresh body)) others
-  by_sort item (is_call params body) others calls = calls (begun item.token params body)
+  treated item (is_call params body) others calls = calls (begun item.token params body)
 
-  abbrev pub by_step : Call → Item → Step → Replaced → (Call → Replaced) → Replaced
-  by_step call item ends others goes = call_then call.name (called table deeper active call item.token) others
-  by_step call item (goes_on next) others goes = goes next
+  abbrev pub progressed : Call → Item → Progress → Replaced → (Call → Replaced) → Replaced
+  progressed call item ends others goes = call_then call.name (call_replacement table deeper active call item.token) others
+  progressed call item (goes_on next) others goes = goes next
 
   abbrev mutual
     -- a list from left to right
     pub outside : List Item → Replaced
     outside [] = fine []
-    outside (item ∷ rest) = by_sort item (sort table active item rest) (outside rest) (λ call. inside call rest)
+    outside (item ∷ rest) = treated item (treatment_of table active item rest) (outside rest) (λ call. inside call rest)
 
     -- what stands behind the name of a call
     pub inside : Call → List Item → Replaced
     inside call [] = bad_call call.name
-    inside call (item ∷ rest) = by_step call item (step call item) (outside rest) (λ next. inside next rest)
+    inside call (item ∷ rest) = progressed call item (progress call item) (outside rest) (λ next. inside next rest)
 
--- A list so many levels above the deepest, in which no macro but a feature may be replaced.
+-- A list so many levels above the deepest, in which no macro but a feature may be replaced: a list of depth d is read at level
+-- `deepest - d`.
 abbrev pub level : Table → ℕ → List (List ℕ) → List Item → Option (List Item)
 level table zero active items = unless_bad (outside table (λ names list. None) active items)
 level table (suc deeper) active items = unless_bad (outside table (level table deeper) active items)

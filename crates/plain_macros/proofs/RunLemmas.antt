@@ -4,7 +4,7 @@ use Rattle.std.specs.Prelude.{codes, ◌&&◌, nat_lt}
 use Rattle.std.proofs.lemmas.Grind.{common_steps}
 use Rattle.c_text.specs.Token.{PlainToken}
 use Rattle.c_text.specs.Directives.{is_spelled}
-use Rattle.c_text.specs.Macros.{Table, Deeper, Item, Call, ends, Replaced, outside, inside, step, closing, called, call_then, fits, all_arguments, all_replaced, replacement, substituted, unless_bad}
+use Rattle.c_text.specs.Macros.{Table, Deeper, Item, Call, ends, Replaced, outside, inside, progress, closing, call_replacement, call_then, fits, all_arguments, all_replaced, replacement, substituted, unless_bad}
 use Rattle.plain_macros.specs.PlainCalls.{closes}
 use Rattle.plain_macros.specs.PlainLevels.{below}
 
@@ -36,8 +36,8 @@ closing_ends call item zero h = refl
 closing_ends call item (suc zero) h = refl
 closing_ends call item (suc (suc nested)) h = absurd (grind (arith, common_steps))
 
-step_ends : (call : Call) (item : Item) → closes call item.token ≡ true → step call item ≡ ends
-step_ends call item h =
+progress_ends : (call : Call) (item : Item) → closes call item.token ≡ true → progress call item ≡ ends
+progress_ends call item h =
     let both = and_parts (is_spelled (codes ")") item.token) (nat_lt call.nested 2) h in
     rw both.0 (closing_ends call item call.nested both.1)
   where
@@ -46,11 +46,11 @@ step_ends call item h =
     and_parts false b h = cc
 
 module _ (table : Table) (deeper : Deeper) (active : List (List ℕ)) where
-  pub inside_ends : (call : Call) (item : Item) (rest : List Item) → closes call item.token ≡ true → inside table deeper active call (item ∷ rest) ≡ call_then call.name (called table deeper active call item.token) (outside table deeper active rest)
-  inside_ends call item rest h = rw (step_ends call item h) refl
+  pub inside_ends : (call : Call) (item : Item) (rest : List Item) → closes call item.token ≡ true → inside table deeper active call (item ∷ rest) ≡ call_then call.name (call_replacement table deeper active call item.token) (outside table deeper active rest)
+  inside_ends call item rest h = rw (progress_ends call item h) refl
 
-  pub called_unfit : (call : Call) (last : PlainToken) → fits call.params (all_arguments call) ≡ false → called table deeper active call last ≡ None
-  called_unfit call last f = rw f refl
+  pub unfit_call : (call : Call) (last : PlainToken) → fits call.params (all_arguments call) ≡ false → call_replacement table deeper active call last ≡ None
+  unfit_call call last f = rw f refl
 
-  pub called_fits : (call : Call) (last : PlainToken) (arguments : List (List Item)) → fits call.params (all_arguments call) ≡ true → all_replaced deeper active (all_arguments call) ≡ Some arguments → called table deeper active call last ≡ replacement table deeper active call.name last (substituted call.params arguments call.body)
-  called_fits call last arguments f r = rw (f, r) refl
+  pub fit_call : (call : Call) (last : PlainToken) (arguments : List (List Item)) → fits call.params (all_arguments call) ≡ true → all_replaced deeper active (all_arguments call) ≡ Some arguments → call_replacement table deeper active call last ≡ replacement table deeper active call.name last (substituted call.params arguments call.body)
+  fit_call call last arguments f r = rw (f, r) refl

@@ -2,14 +2,14 @@
 use Rattle.std.specs.Prelude.{ℕ, zero, suc, List, map, None}
 use Rattle.c_text.specs.Token.{plain_token}
 use Rattle.c_text.specs.Macros as spec
-use Rattle.c_text.specs.Macros.{Deeper, Sort, stays, is_feature, is_object, is_call}
+use Rattle.c_text.specs.Macros.{Deeper, Treatment, stays, is_feature, is_object, is_call}
 use Rattle.plain_macros.specs.PlainItems.{plain_item, item_token}
 use Rattle.plain_macros.specs.PlainTables.{table_of}
 use Rattle.plain_macros.specs.declared.levels.Level.{Level}
 use Rattle.plain_macros.specs.declared.levels.Kind.{Kind}
 use Rattle.plain_macros.specs.declared.levels.Kind.TheVariants.{Stays, Feature, Object, Call}
 
-abbrev pub plain_kind : Kind → Sort
+abbrev pub plain_kind : Kind → Treatment
 plain_kind (Stays item) = stays (plain_item item)
 plain_kind (Feature one) = is_feature (plain_token one.now)
 plain_kind (Object body) = is_object (map plain_token body.now)

@@ -102,7 +102,7 @@ impl<'table, 'list> Call<'table, 'list> {
     #[tactic(auto, unfolding(crate::specs::PlainCalls::plain_call))]
     pub fn read(&mut self, alloc: Global, item: Item<'table, 'list>) -> Result<(), NoMemory>
         requires { closes (plain_call self.old) (item_token item) ≡ false }
-        ensures { OnOk result (spec.goes_on (plain_call self.new) ≡ spec.step (plain_call self.old) (plain_item item.entry)) }
+        ensures { OnOk result (spec.goes_on (plain_call self.new) ≡ spec.progress (plain_call self.old) (plain_item item.entry)) }
     {
         if item.is_spelled(b")") {
             self.close(item)?;

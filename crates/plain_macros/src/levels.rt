@@ -92,7 +92,7 @@ fn kind_of_meaning<'table, 'list>(
     opens: bool,
     meaning: &'table Meaning,
 ) -> Kind<'table, 'list>
-    ensures { plain_kind result ≡ spec.sorted (plain_item item.now) active opens (Some (plain_meaning meaning.now)) }
+    ensures { plain_kind result ≡ spec.treatment (plain_item item.now) active opens (Some (plain_meaning meaning.now)) }
 {
     if active {
         return Kind::Stays(item.kept());
@@ -114,7 +114,7 @@ pub fn kind_of<'table, 'list>(
     item: &Item<'table, 'list>,
     opens: bool,
 ) -> Kind<'table, 'list>
-    ensures { plain_kind result ≡ spec.sorted (plain_item item.now) (spec.is_named_in (map (λ name. (item_token name).text) level.now.active.now) (item_token item.now)) opens (spec.meaning_of (table_of level.now.table.now) (plain_item item.now)) }
+    ensures { plain_kind result ≡ spec.treatment (plain_item item.now) (spec.is_named_in (map (λ name. (item_token name).text) level.now.active.now) (item_token item.now)) opens (spec.meaning_of (table_of level.now.table.now) (plain_item item.now)) }
 {
     match meaning_of(level.table, item) {
         None => Kind::Stays(*item),

@@ -38,7 +38,7 @@ fn checked<'table, 'list>(
     last: &Item<'table, 'list>,
     items: &[Item<'table, 'list>],
 ) -> Result<Option<Vec<Item<'table, 'list>>>, NoMemory>
-    ensures { IfOk result (λ r. items_of r ≡ spec.checked (macros_of level.now) (item_token first.now) (item_token last.now) (Some (map plain_item items.now))) }
+    ensures { IfOk result (λ r. items_of r ≡ spec.unless_left_open (macros_of level.now) (item_token first.now) (item_token last.now) (Some (map plain_item items.now))) }
 {
     if ends_in_function(level.table, items) {
         return Ok(None);
@@ -116,7 +116,7 @@ fn called<'table, 'list>(
     call: Call<'table, 'list>,
     last: &Item<'table, 'list>,
 ) -> Result<Option<Vec<Item<'table, 'list>>>, NoMemory>
-    ensures { IfOk result (λ r. items_of r ≡ spec.called (macros_of level.now) (deeper_in level.now) (active_in level.now) (plain_call call.entry) (item_token last.now)) }
+    ensures { IfOk result (λ r. items_of r ≡ spec.call_replacement (macros_of level.now) (deeper_in level.now) (active_in level.now) (plain_call call.entry) (item_token last.now)) }
 {
     let (name, params, body) = (call.name, call.params, call.body);
     let arguments = call.all_arguments()?;
@@ -158,7 +158,7 @@ fn object_turn<'table, 'list>(
     item: &Item<'table, 'list>,
     body: &'table [Token],
 ) -> Result<Run<'table, 'list>, NoMemory>
-    ensures { IfOk result (λ run. (rest : List spec.Item) → reading (macros_of level.now) (deeper_in level.now) (active_in level.now) run rest ≡ spec.before (map plain_item done.entry.items) (spec.by_sort (macros_of level.now) (deeper_in level.now) (active_in level.now) (plain_item item.now) (spec.is_object (map plain_token body.now)) (spec.outside (macros_of level.now) (deeper_in level.now) (active_in level.now) rest) (λ call. spec.inside (macros_of level.now) (deeper_in level.now) (active_in level.now) call rest))) }
+    ensures { IfOk result (λ run. (rest : List spec.Item) → reading (macros_of level.now) (deeper_in level.now) (active_in level.now) run rest ≡ spec.before (map plain_item done.entry.items) (spec.treated (macros_of level.now) (deeper_in level.now) (active_in level.now) (plain_item item.now) (spec.is_object (map plain_token body.now)) (spec.outside (macros_of level.now) (deeper_in level.now) (active_in level.now) rest) (λ call. spec.inside (macros_of level.now) (deeper_in level.now) (active_in level.now) call rest))) }
 {
     let items = fresh_items(level.alloc, body)?;
     let given = replacement(level, item, item, items.as_slice())?;

@@ -3,7 +3,7 @@ use Rattle.std.proofs.Common.{◌≡◌, ℕ, Bool, true, false, cond, ◌&&◌,
 use Rattle.std.specs.List.{list_any}
 use Rattle.std.specs.Str.{bytes_eq}
 use Rattle.c_text.specs.Token.{PlainToken}
-use Rattle.c_text.specs.Macros.{Table, feature, Item, fresh, is_name_kind, Replaced, fine, before, brought, sorted, by_sort, opens, Deeper, outside, inside, Call, level}
+use Rattle.c_text.specs.Macros.{Table, feature, Item, fresh, is_name_kind, Replaced, fine, before, brought, treatment, treated, opens, Deeper, outside, inside, Call, level}
 use Rattle.c_text.specs.Preprocessing.{Refusal, refused_token, Reading, Flow, on, refused, then_read, unless, emitted, read_run, feature_token, by_bad, bad_kind, or_else}
 use Rattle.quick_lines.specs.Spellings.{spelling_of, spellings_of}
 use Rattle.quick_units.specs.Units.{is_on, replaced_spelling}
@@ -23,7 +23,7 @@ module _ (names : List (List ℕ)) where
   abbrev pub replacing : List PlainToken → List PlainToken
   replacing tokens = map (λ item. item.token) (map item_of tokens)
 
-  one-item : (deeper : Deeper) (token : PlainToken) (is_name is_feature opening : Bool) (others : Replaced) (calls : Call → Replaced) → by_sort table deeper [] (fresh token) (sorted (fresh token) false opening (cond (is_name && true) (cond is_feature (Some (feature feature_token)) None) None)) others calls ≡ before (cond (is_name && is_feature) (brought token token (fresh feature_token)) (fresh token) ∷ []) others
+  one-item : (deeper : Deeper) (token : PlainToken) (is_name is_feature opening : Bool) (others : Replaced) (calls : Call → Replaced) → treated table deeper [] (fresh token) (treatment (fresh token) false opening (cond (is_name && true) (cond is_feature (Some (feature feature_token)) None) None)) others calls ≡ before (cond (is_name && is_feature) (brought token token (fresh feature_token)) (fresh token) ∷ []) others
   one-item deeper token true true opening others calls = refl
   one-item deeper token true false opening others calls = refl
   one-item deeper token false is_feature opening others calls = refl

@@ -14,7 +14,7 @@ use Rattle.c_text.specs.Trees.{Part, IsRead, whole_file, open_at_end, broken_at}
 use Rattle.c_text.specs.Preprocessing.Refusals.{Refusal, unbalanced}
 use Rattle.c_text.specs.Preprocessing.Flows.{Flow, Reading, on, refused}
 use Rattle.c_text.specs.Preprocessing.Inclusions.{Source, joined, project_file, stdio, stdlib}
-use Rattle.c_text.specs.Preprocessing.Reading.{Setting, read_part}
+use Rattle.c_text.specs.Preprocessing.FileReading.{Setting, read_part}
 
 -- a project in one configuration: its files in their order, headers first, its features, and those that are on
 pub record Sources : Type 0 where

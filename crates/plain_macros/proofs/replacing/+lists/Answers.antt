@@ -6,7 +6,7 @@ use Rattle.plain_macros.specs.PlainItems.{plain_item, item_token}
 use Rattle.plain_macros.specs.PlainCalls.{plain_call}
 use Rattle.plain_macros.specs.PlainLevels.{macros_of, active_in, deeper_in}
 use Rattle.plain_macros.specs.PlainRuns.{plain_finished}
-use Rattle.plain_macros.proofs.RunLemmas.{below_is, inside_ends, called_unfit, called_fits}
+use Rattle.plain_macros.proofs.RunLemmas.{below_is, inside_ends, unfit_call, fit_call}
 use Rattle.plain_macros.proofs.replacing.+lists.Goals as goal
 
 pub called-returns-then-not-fits : goal.called-returns-then-not-fits
@@ -15,7 +15,7 @@ called-returns-then-not-fits t c =
     let call = plain_call c.args.call in
     let all : map (λ v. map plain_item v.items) c.as_slice.result.now ≡ all_arguments call = cc (c.as_slice.ensures.value, c.in_ok-arguments.ensures) in
     let unfit : fits call.params (all_arguments call) ≡ false = ap (fits call.params) (sym all) ∙ sym c.fits.ensures ∙ c.if-not-fits.true in
-    sym (called_unfit (macros_of c.args.level.now) (deeper_in c.args.level.now) (active_in c.args.level.now) call (item_token c.args.last.now) unfit)
+    sym (unfit_call (macros_of c.args.level.now) (deeper_in c.args.level.now) (active_in c.args.level.now) call (item_token c.args.last.now) unfit)
 
 pub called-returns-in-Some : goal.called-returns-in-Some
 unfolding plain_call
@@ -29,7 +29,7 @@ called-returns-in-Some t c =
     let given : all_replaced (deeper_in c.args.level.now) (active_in c.args.level.now) (all_arguments call) ≡ Some replaced = cc (known, again, c.in_ok-replaced.ensures) in
     let body : map plain_item c.as_slice-in-Some-2.result.now ≡ substituted call.params replaced call.body =
     cc (c.as_slice-in-Some-2.ensures.value, c.as_slice-in-Some.ensures.value, c.in_ok-items-in-Some.ensures) in
-    cc (called_fits (macros_of c.args.level.now) (deeper_in c.args.level.now) (active_in c.args.level.now) call (item_token c.args.last.now) replaced fit given, body, c.in_ok-replacement-in-Some.ensures)
+    cc (fit_call (macros_of c.args.level.now) (deeper_in c.args.level.now) (active_in c.args.level.now) call (item_token c.args.last.now) replaced fit given, body, c.in_ok-replacement-in-Some.ensures)
 
 pub deeper-returns-in-Fine : goal.deeper-returns-in-Fine
 deeper-returns-in-Fine t c =
