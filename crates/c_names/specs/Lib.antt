@@ -1,3 +1,4 @@
+pub mod Bytes
 pub mod Names
 pub mod Keywords
 pub mod FileNames

@@ -2,13 +2,14 @@
 use Rattle.std.specs.Prelude.{ℕ, Bool, false, not, ◌&&◌, ◌||◌, ◌==◌, nat_le, nat_eq, List, [], ◌∷◌, codes}
 use Rattle.std.specs.List.{list_any, list_all, starts_with}
 use Rattle.std.specs.Str.{bytes_eq}
+use Rattle.c_names.specs.Bytes.{digit_0, digit_9, lower_a, lower_z, underscore, upper_a, upper_z}
 
 abbrev pub is_digit : ℕ → Bool
-is_digit b = nat_le 48 b && nat_le b 57
+is_digit b = nat_le digit_0 b && nat_le b digit_9
 
 -- a letter or `_`
 abbrev pub is_nondigit : ℕ → Bool
-is_nondigit b = (nat_le 65 b && nat_le b 90) || (nat_le 97 b && nat_le b 122) || b == 95
+is_nondigit b = (nat_le upper_a b && nat_le b upper_z) || (nat_le lower_a b && nat_le b lower_z) || b == underscore
 
 abbrev pub is_word_byte : ℕ → Bool
 is_word_byte b = is_nondigit b || is_digit b

@@ -3,6 +3,7 @@
 use Rattle.std.specs.Prelude.{ℕ, zero, suc, ◌+◌, ◌*◌, ◌-◌, ◌==◌, min, Bool, true, false, not, ◌&&◌, ◌||◌, nat_le, List, [], ◌∷◌, length, take, drop, codes, if◌then◌else◌, Option, Some, None, is_some, option_map}
 use Rattle.std.specs.List.{list_any, list_all}
 use Rattle.std.specs.Str.{bytes_eq}
+use Rattle.c_names.specs.Bytes.{alert, backslash, backspace, blank, carriage_return, digit_0, digit_7, dot, double_quote, form_feed, lower_a, lower_b, lower_f, lower_n, lower_r, lower_t, lower_v, lower_x, newline, question_mark, single_quote, tab, tilde, upper_a, upper_f, vertical_tab}
 use Rattle.c_names.specs.Names.{is_digit, is_word_byte}
 
 abbrev pub is_one_of : List ℕ → ℕ → Bool
@@ -12,7 +13,7 @@ is_one_of bytes b = list_any (λ c. c == b) bytes
 abbrev pub continue_number : ℕ → List ℕ → Bool
 continue_number last [] = true
 continue_number last (b ∷ rest) =
-    (is_word_byte b || b == 46 || (is_one_of (codes "+-") b && is_one_of (codes "eEpP") last)) && continue_number b rest
+    (is_word_byte b || b == dot || (is_one_of (codes "+-") b && is_one_of (codes "eEpP") last)) && continue_number b rest
 
 abbrev pub begin_with_digit : List ℕ → Bool
 begin_with_digit [] = false
@@ -21,7 +22,7 @@ begin_with_digit (b ∷ rest) = is_digit b && continue_number b rest
 -- a preprocessing number
 abbrev pub is_number : List ℕ → Bool
 is_number [] = false
-is_number (b ∷ rest) = begin_with_digit (b ∷ rest) || (b == 46 && begin_with_digit rest)
+is_number (b ∷ rest) = begin_with_digit (b ∷ rest) || (b == dot && begin_with_digit rest)
 
 -- the number of bytes at the front that pass a test
 abbrev pub run_length : (ℕ → Bool) → List ℕ → ℕ
@@ -29,20 +30,20 @@ run_length test [] = 0
 run_length test (b ∷ rest) = if test b then suc (run_length test rest) else 0
 
 abbrev pub is_octal_digit : ℕ → Bool
-is_octal_digit b = nat_le 48 b && nat_le b 55
+is_octal_digit b = nat_le digit_0 b && nat_le b digit_7
 
 abbrev pub is_lower_hexadecimal : ℕ → Bool
-is_lower_hexadecimal b = nat_le 97 b && nat_le b 102
+is_lower_hexadecimal b = nat_le lower_a b && nat_le b lower_f
 
 abbrev pub is_upper_hexadecimal : ℕ → Bool
-is_upper_hexadecimal b = nat_le 65 b && nat_le b 70
+is_upper_hexadecimal b = nat_le upper_a b && nat_le b upper_f
 
 abbrev pub is_hexadecimal_digit : ℕ → Bool
 is_hexadecimal_digit b = is_digit b || is_lower_hexadecimal b || is_upper_hexadecimal b
 
 -- the value of a digit of any base
 abbrev pub digit_value : ℕ → ℕ
-digit_value b = if is_digit b then b - 48 else if is_lower_hexadecimal b then b - 87 else b - 55
+digit_value b = if is_digit b then b - digit_0 else if is_lower_hexadecimal b then 10 + (b - lower_a) else 10 + (b - upper_a)
 
 -- the number that the digits go on to write behind this one
 abbrev pub digits_from : ℕ → ℕ → List ℕ → ℕ
@@ -63,9 +64,9 @@ digits_in base digits = record { base = base; digits = digits }
 -- a `0x` or `0X` begins hexadecimal digits, another 0 octal ones
 abbrev pub based : List ℕ → Digits
 based [] = digits_in 10 []
-based (b ∷ []) = if b == 48 then digits_in 8 (b ∷ []) else digits_in 10 (b ∷ [])
+based (b ∷ []) = if b == digit_0 then digits_in 8 (b ∷ []) else digits_in 10 (b ∷ [])
 based (b ∷ c ∷ rest) =
-    if b == 48 then (if is_one_of (codes "xX") c then digits_in 16 rest else digits_in 8 (b ∷ c ∷ rest)) else digits_in 10 (b ∷ c ∷ rest)
+    if b == digit_0 then (if is_one_of (codes "xX") c then digits_in 16 rest else digits_in 8 (b ∷ c ∷ rest)) else digits_in 10 (b ∷ c ∷ rest)
 
 abbrev pub is_digit_in : ℕ → ℕ → Bool
 is_digit_in base b = if base == 16 then is_hexadecimal_digit b else if base == 8 then is_octal_digit b else is_digit b
@@ -109,22 +110,22 @@ abbrev mutual
   pub is_closed : ℕ → List ℕ → Bool
   is_closed quote [] = false
   is_closed quote (b ∷ rest) =
-      if b == quote then length rest == 0 else if b == 92 then is_closed_behind quote rest else not (b == 10) && is_closed quote rest
+      if b == quote then length rest == 0 else if b == backslash then is_closed_behind quote rest else not (b == newline) && is_closed quote rest
 
   pub is_closed_behind : ℕ → List ℕ → Bool
   is_closed_behind quote [] = false
-  is_closed_behind quote (b ∷ rest) = not (b == 10) && is_closed quote rest
+  is_closed_behind quote (b ∷ rest) = not (b == newline) && is_closed quote rest
 
 -- Behind a quote: whether no quote that isn't escaped stands in the line.
 abbrev mutual
   pub is_unclosed : ℕ → List ℕ → Bool
   is_unclosed quote [] = true
   is_unclosed quote (b ∷ rest) =
-      not (b == quote) && (if b == 92 then is_unclosed_behind quote rest else not (b == 10) && is_unclosed quote rest)
+      not (b == quote) && (if b == backslash then is_unclosed_behind quote rest else not (b == newline) && is_unclosed quote rest)
 
   pub is_unclosed_behind : ℕ → List ℕ → Bool
   is_unclosed_behind quote [] = true
-  is_unclosed_behind quote (b ∷ rest) = not (b == 10) && is_unclosed quote rest
+  is_unclosed_behind quote (b ∷ rest) = not (b == newline) && is_unclosed quote rest
 
 -- a quote, and bytes of one line up to the next one
 abbrev pub is_quoted : ℕ → List ℕ → Bool
@@ -147,9 +148,9 @@ escape value length = if nat_le value 255 then Some (record { value = value; len
 -- the letters of simple escapes, and what they stand for
 abbrev pub simple_value : ℕ → Option ℕ
 simple_value b =
-    if b == 110 then Some 10 else if b == 116 then Some 9 else if b == 114 then Some 13 else if b == 97 then Some 7
-    else if b == 98 then Some 8 else if b == 102 then Some 12 else if b == 118 then Some 11
-    else if is_one_of (92 ∷ 39 ∷ 34 ∷ 63 ∷ []) b then Some b else None
+    if b == lower_n then Some newline else if b == lower_t then Some tab else if b == lower_r then Some carriage_return else if b == lower_a then Some alert
+    else if b == lower_b then Some backspace else if b == lower_f then Some form_feed else if b == lower_v then Some vertical_tab
+    else if is_one_of (backslash ∷ single_quote ∷ double_quote ∷ question_mark ∷ []) b then Some b else None
 
 abbrev pub octal_length : List ℕ → ℕ
 octal_length w = min 3 (run_length is_octal_digit w)
@@ -164,13 +165,13 @@ hexadecimal_escape digits =
 abbrev pub escape_at : List ℕ → Option Escape
 escape_at [] = None
 escape_at (b ∷ rest) =
-    if b == 120 then hexadecimal_escape rest
+    if b == lower_x then hexadecimal_escape rest
     else if is_octal_digit b then escape (digits_value 8 (take (octal_length (b ∷ rest)) (b ∷ rest))) (octal_length (b ∷ rest))
     else option_map (λ value. record { value = value; length = 1 }) (simple_value b)
 
 -- a byte that stands for itself in a character or a text
 abbrev pub is_source_byte : ℕ → Bool
-is_source_byte b = b == 9 || (nat_le 32 b && nat_le b 126) || nat_le 128 b
+is_source_byte b = b == tab || (nat_le blank b && nat_le b tilde) || nat_le 128 b
 
 abbrev pub with_value : ℕ → Option (List ℕ) → Option (List ℕ)
 with_value value values = option_map (λ vs. value ∷ vs) values
@@ -184,7 +185,7 @@ abbrev pub values_from : ℕ → List ℕ → Option (List ℕ)
 values_from more [] = Some []
 values_from (suc more) (b ∷ rest) = values_from more rest
 values_from zero (b ∷ rest) =
-    if b == 92 then by_escape (escape_at rest) (λ more. values_from more rest)
+    if b == backslash then by_escape (escape_at rest) (λ more. values_from more rest)
     else if is_source_byte b then with_value b (values_from 0 rest) else None
 
 -- without the quotes

@@ -3,6 +3,7 @@
 use Rattle.std.specs.Prelude.{ℕ, ◌==◌, Bool, false, not, ◌&&◌, ◌||◌, nat_eq, List, [], ◌∷◌, length, drop, codes, if◌then◌else◌, Option, Some, None}
 use Rattle.std.specs.List.{list_any, list_all, starts_with}
 use Rattle.std.specs.Str.{bytes_eq}
+use Rattle.c_names.specs.Bytes.{blank, carriage_return, double_quote, form_feed, newline, single_quote, tab, vertical_tab}
 use Rattle.c_names.specs.Names.{is_identifier, is_keyword}
 use Rattle.c_text.specs.declared.token.BadKind.TheVariants.{BadByte, OpenComment, OpenQuote, OutOfProfile}
 use Rattle.c_text.specs.declared.token.TokenKind.{TokenKind}
@@ -18,14 +19,14 @@ pub data PieceKind : Type 0 where
 
 -- a blank, a tab, a vertical tab, a form feed or a carriage return
 abbrev pub is_blank : List ℕ → Bool
-is_blank w = list_any (bytes_eq w) ((32 ∷ []) ∷ (9 ∷ []) ∷ (11 ∷ []) ∷ (12 ∷ []) ∷ (13 ∷ []) ∷ [])
+is_blank w = list_any (bytes_eq w) ((blank ∷ []) ∷ (tab ∷ []) ∷ (vertical_tab ∷ []) ∷ (form_feed ∷ []) ∷ (carriage_return ∷ []) ∷ [])
 
 abbrev pub is_newline : List ℕ → Bool
-is_newline w = bytes_eq w (10 ∷ [])
+is_newline w = bytes_eq w (newline ∷ [])
 
 -- `//` and the rest of the line
 abbrev pub is_line_comment : List ℕ → Bool
-is_line_comment w = starts_with nat_eq w (codes "//") && list_all (λ b. not (b == 10)) w
+is_line_comment w = starts_with nat_eq w (codes "//") && list_all (λ b. not (b == newline)) w
 
 -- whether `*/` stands in it
 abbrev pub has_end : List ℕ → Bool
@@ -67,10 +68,10 @@ piece_of w =
     else if is_blank w || is_line_comment w || is_block_comment w then Some space
     else if is_identifier w then Some (token (if is_keyword w then Keyword else Name))
     else if is_number w then Some (token (bad_unless (is_integer w) Number))
-    else if is_quoted 39 w then Some (token (bad_unless (is_character w) Character))
-    else if is_quoted 34 w then Some (token (bad_unless (is_text w) Text))
+    else if is_quoted single_quote w then Some (token (bad_unless (is_character w) Character))
+    else if is_quoted double_quote w then Some (token (bad_unless (is_text w) Text))
     else if is_punctuator w then Some (token Punctuator)
     else if is_open_comment w then Some (token (Bad OpenComment))
-    else if is_open_quoted 39 w || is_open_quoted 34 w then Some (token (Bad OpenQuote))
+    else if is_open_quoted single_quote w || is_open_quoted double_quote w then Some (token (Bad OpenQuote))
     else if length w == 1 then Some (token (Bad BadByte))
     else None

@@ -1,6 +1,7 @@
 -- A text without its splices (ISO/IEC 9899:2011, 5.1.1.2, phase 2).
 use Rattle.std.specs.Prelude.{ℕ, zero, suc, ◌∷◌, [], List, map, nat_eq, if◌then◌else◌}
 use Rattle.std.specs.List.{starts_with}
+use Rattle.c_names.specs.Bytes.{backslash, carriage_return, newline}
 
 -- a byte of a text, and its offset there
 pub record Placed : Type 0 where
@@ -17,7 +18,7 @@ bytes_of text = map (λ p. p.byte) text
 -- them.
 abbrev pub splice_length : List ℕ → ℕ
 splice_length text =
-    if starts_with nat_eq text (92 ∷ 10 ∷ []) then 2 else if starts_with nat_eq text (92 ∷ 13 ∷ 10 ∷ []) then 3 else 0
+    if starts_with nat_eq text (backslash ∷ newline ∷ []) then 2 else if starts_with nat_eq text (backslash ∷ carriage_return ∷ 10 ∷ []) then 3 else 0
 
 -- a byte stays where a splice of length 0 begins; else so many bytes go, this one among them
 abbrev pub unless_splice : ℕ → Placed → (ℕ → List Placed) → List Placed

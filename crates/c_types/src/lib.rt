@@ -16,6 +16,3 @@ pub use integers::convert;
 pub use laws::{a_conversion_is_the_one_value, converting_again_changes_nothing};
 pub use print::print_type;
 pub use types::{CType, Member, Tag, TagTable};
-
-#[cfg(test)]
-mod tests;

@@ -1,5 +1,6 @@
 -- A text read byte by byte: how each byte moves a reader of tokens.
 use Rattle.std.specs.Prelude.{ℕ, List, [], ◌∷◌, ◌++◌, ◌==◌, Option, Some, None, if◌then◌else◌, option_and_then}
+use Rattle.c_names.specs.Bytes.{ampersand, bar, blank, close_parenthesis, exclamation, greater_sign, less_sign, minus_sign, open_parenthesis, tab}
 use Rattle.c_names.specs.Names.{is_nondigit, is_word_byte}
 use Rattle.feature_model.specs.Tokens.{Token, Name, Mark}
 use Rattle.feature_model.specs.declared.signs.Sign.TheVariants.{Not, And, Or, Implies, Equals, Opens, Closes}
@@ -11,17 +12,17 @@ use Rattle.feature_model.specs.declared.signs.Start.TheVariants.{Blank, Letter, 
 -- what a byte begins between tokens
 abbrev pub start_of : ℕ → Start
 start_of b =
-    if b == 32 then Blank else if b == 9 then Blank else if b == 33 then Whole Not else if b == 40 then Whole Opens
-    else if b == 41 then Whole Closes else if b == 38 then Part Ampersand else if b == 124 then Part Bar
-    else if b == 45 then Part Dash else if b == 60 then Part Less else if is_nondigit b then Letter else Nothing
+    if b == blank then Blank else if b == tab then Blank else if b == exclamation then Whole Not else if b == open_parenthesis then Whole Opens
+    else if b == close_parenthesis then Whole Closes else if b == ampersand then Part Ampersand else if b == bar then Part Bar
+    else if b == minus_sign then Part Dash else if b == less_sign then Part Less else if is_nondigit b then Letter else Nothing
 
 -- what a begun sign is with a byte more
 abbrev pub next_of : Front → ℕ → Start
-next_of Ampersand b = if b == 38 then Whole And else Nothing
-next_of Bar b = if b == 124 then Whole Or else Nothing
-next_of Dash b = if b == 62 then Whole Implies else Nothing
-next_of Less b = if b == 45 then Part LessDash else Nothing
-next_of LessDash b = if b == 62 then Whole Equals else Nothing
+next_of Ampersand b = if b == ampersand then Whole And else Nothing
+next_of Bar b = if b == bar then Whole Or else Nothing
+next_of Dash b = if b == greater_sign then Whole Implies else Nothing
+next_of Less b = if b == minus_sign then Part LessDash else Nothing
+next_of LessDash b = if b == greater_sign then Whole Equals else Nothing
 
 -- the token that the last bytes begin
 pub data Begun : Type 0 where

@@ -1,5 +1,6 @@
 -- A constraint's text as writing: tokens, with blanks between them as one likes.
 use Rattle.std.specs.Prelude.{◌≡◌, ℕ, List, [], ◌∷◌, ◌++◌, IsTrue, codes, ⊤}
+use Rattle.c_names.specs.Bytes.{blank, tab}
 use Rattle.c_names.specs.Names.{is_identifier}
 use Rattle.feature_model.specs.declared.signs.Sign.{Sign}
 use Rattle.feature_model.specs.declared.signs.Sign.TheVariants.{Not, And, Or, Implies, Equals, Opens, Closes}
@@ -29,8 +30,8 @@ pub data Piece : Type 0 where
   Spelled : Token → Piece
 
 abbrev pub piece_text : Piece → List ℕ
-piece_text Space = 32 ∷ []
-piece_text Tab = 9 ∷ []
+piece_text Space = blank ∷ []
+piece_text Tab = tab ∷ []
 piece_text (Spelled token) = token_text token
 
 abbrev pub pieces_text : List Piece → List ℕ

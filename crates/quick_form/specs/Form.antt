@@ -1,5 +1,6 @@
 -- The quick form as writing: items, statements and conditional groups, and the symbols that they write.
 use Rattle.std.specs.Prelude.{◌≡◌, ℕ, ◌+◌, ◌≤◌, max, Bool, List, [], ◌∷◌, ◌++◌, length, if◌then◌else◌}
+use Rattle.c_names.specs.Bytes.{close_brace, close_parenthesis, equals_sign, minus_sign, open_brace, open_parenthesis, plus_sign, semicolon}
 use Rattle.quick_form.specs.Symbols.{Symbol, Int, Void, While, Return, Putchar, Main, Name, Number, Mark, Ifdef, Else, Endif, symbols_of, tested_names}
 
 -- an operand of a sum: a name, or a number by its digits
@@ -38,35 +39,35 @@ pub data Items : Type 0 where
   item_group : List ℕ → Items → Items → Items
   item_choice : List ℕ → Items → Items → Items → Items
 
--- What each writes, followed by the symbols k. The marks are `(` 40, `)` 41, `+` 43, `-` 45, `;` 59, `=` 61, `{` 123, `}` 125.
+-- What each writes, followed by the symbols k.
 abbrev pub operand_symbol : Operand → Symbol
 operand_symbol (Named x) = Name x
 operand_symbol (Literal d) = Number d
 
 abbrev pub write_terms : List Term → List Symbol → List Symbol
 write_terms [] k = k
-write_terms (t ∷ ts) k = Mark (if t.subtracted then 45 else 43) ∷ operand_symbol t.operand ∷ write_terms ts k
+write_terms (t ∷ ts) k = Mark (if t.subtracted then minus_sign else plus_sign) ∷ operand_symbol t.operand ∷ write_terms ts k
 
 abbrev pub write_sum : Sum → List Symbol → List Symbol
 write_sum s k = operand_symbol s.first ∷ write_terms s.more k
 
 abbrev pub write_statements : Statements → List Symbol → List Symbol
 write_statements no_more k = k
-write_statements (assignment x s rest) k = Name x ∷ Mark 61 ∷ write_sum s (Mark 59 ∷ write_statements rest k)
-write_statements (output s rest) k = Putchar ∷ Mark 40 ∷ write_sum s (Mark 41 ∷ Mark 59 ∷ write_statements rest k)
-write_statements (return_of s rest) k = Return ∷ write_sum s (Mark 59 ∷ write_statements rest k)
+write_statements (assignment x s rest) k = Name x ∷ Mark equals_sign ∷ write_sum s (Mark semicolon ∷ write_statements rest k)
+write_statements (output s rest) k = Putchar ∷ Mark open_parenthesis ∷ write_sum s (Mark close_parenthesis ∷ Mark semicolon ∷ write_statements rest k)
+write_statements (return_of s rest) k = Return ∷ write_sum s (Mark semicolon ∷ write_statements rest k)
 write_statements (loop s body rest) k =
-    While ∷ Mark 40 ∷ write_sum s (Mark 41 ∷ Mark 123 ∷ write_statements body (Mark 125 ∷ write_statements rest k))
+    While ∷ Mark open_parenthesis ∷ write_sum s (Mark close_parenthesis ∷ Mark open_brace ∷ write_statements body (Mark close_brace ∷ write_statements rest k))
 write_statements (group n body rest) k = Ifdef n ∷ write_statements body (Endif ∷ write_statements rest k)
 write_statements (choice n body other rest) k =
     Ifdef n ∷ write_statements body (Else ∷ write_statements other (Endif ∷ write_statements rest k))
 
 abbrev pub write_items : Items → List Symbol → List Symbol
 write_items no_item k = k
-write_items (variable x rest) k = Int ∷ Name x ∷ Mark 59 ∷ write_items rest k
-write_items (initialised x d rest) k = Int ∷ Name x ∷ Mark 61 ∷ Number d ∷ Mark 59 ∷ write_items rest k
+write_items (variable x rest) k = Int ∷ Name x ∷ Mark semicolon ∷ write_items rest k
+write_items (initialised x d rest) k = Int ∷ Name x ∷ Mark equals_sign ∷ Number d ∷ Mark semicolon ∷ write_items rest k
 write_items (main_with body rest) k =
-    Int ∷ Main ∷ Mark 40 ∷ Void ∷ Mark 41 ∷ Mark 123 ∷ write_statements body (Mark 125 ∷ write_items rest k)
+    Int ∷ Main ∷ Mark open_parenthesis ∷ Void ∷ Mark close_parenthesis ∷ Mark open_brace ∷ write_statements body (Mark close_brace ∷ write_items rest k)
 write_items (item_group n body rest) k = Ifdef n ∷ write_items body (Endif ∷ write_items rest k)
 write_items (item_choice n body other rest) k =
     Ifdef n ∷ write_items body (Else ∷ write_items other (Endif ∷ write_items rest k))

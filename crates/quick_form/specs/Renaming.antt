@@ -2,6 +2,7 @@
 use Rattle.std.specs.Prelude.{ℕ, List, [], ◌∷◌, map, if◌then◌else◌}
 use Rattle.std.specs.List.{flat_map, join_with_byte, count_by}
 use Rattle.std.specs.Str.{bytes_eq}
+use Rattle.c_names.specs.Bytes.{newline}
 use Rattle.quick_form.specs.Symbols.{Piece, Word, Other, Symbol, Name, pieces_of, solid_pieces, is_directive_line, lines_of, symbols_of, uses}
 use Rattle.quick_form.specs.Form.{Operand, Named, Literal, Term, Sum, Statements, no_more, assignment, output, return_of, loop, group, choice, Items, no_item, variable, initialised, main_with, item_group, item_choice}
 
@@ -21,7 +22,7 @@ renamed_line old new line =
 
 -- the bytes with new for every token old, and every other byte as it is
 abbrev pub renamed_bytes : List ℕ → List ℕ → List ℕ → List ℕ
-renamed_bytes old new bytes = join_with_byte 10 (map (renamed_line old new) (lines_of bytes))
+renamed_bytes old new bytes = join_with_byte newline (map (renamed_line old new) (lines_of bytes))
 
 -- a symbol with new for the name old; what directive lines test stays
 abbrev pub renamed_symbol : List ℕ → List ℕ → Symbol → Symbol

@@ -2,6 +2,7 @@
 use Rattle.std.specs.Prelude.{ℕ, Bool, false, ◌==◌, not, List, [], ◌∷◌, codes, if◌then◌else◌, filter}
 use Rattle.std.specs.List.{flat_map, slice_split}
 use Rattle.std.specs.Str.{bytes_eq}
+use Rattle.c_names.specs.Bytes.{hash, newline}
 use Rattle.quick_form.specs.Words.{is_word_byte, is_blank, is_name, is_number}
 
 pub data Symbol : Type 0 where
@@ -79,7 +80,7 @@ solid_pieces line = filter (λ p. not (is_blank_piece p)) (pieces_of line)
 
 -- a directive line has `#` first, blanks and tabs aside (6.10)
 abbrev pub is_directive_line : List Piece → Bool
-is_directive_line (Other b ∷ ps) = b == 35
+is_directive_line (Other b ∷ ps) = b == hash
 is_directive_line ps = false
 
 abbrev pub after_first_piece : List Piece → List Piece
@@ -93,7 +94,7 @@ line_symbols line =
 
 -- the lines of a text, without their newlines
 abbrev pub lines_of : List ℕ → List (List ℕ)
-lines_of bytes = slice_split (λ b. b == 10) bytes
+lines_of bytes = slice_split (λ b. b == newline) bytes
 
 abbrev pub symbols_of : List ℕ → List Symbol
 symbols_of bytes = flat_map line_symbols (lines_of bytes)

@@ -2,6 +2,7 @@
 use Rattle.std.specs.Prelude.{if◌then◌else◌, ℕ, suc, ◌-◌, ◌==◌, List, [], ◌∷◌, ◌++◌, length, take, drop, reverse, codes, Option, Some, None, option_map}
 use Rattle.std.specs.List.{slice_split, flat_map}
 use Rattle.std.specs.Str.{bytes_eq}
+use Rattle.c_names.specs.Bytes.{slash}
 use Rattle.c_text.specs.Token.{PlainToken}
 use Rattle.c_text.specs.Constants.{inside}
 
@@ -10,9 +11,6 @@ pub data Source : Type 0 where
   project_file : ℕ → Source
   stdio : Source
   stdlib : Source
-
-abbrev pub slash : ℕ
-slash = 47
 
 abbrev pub components : List ℕ → List (List ℕ)
 components name = slice_split (λ b. b == slash) name

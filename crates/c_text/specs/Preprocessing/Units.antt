@@ -2,6 +2,7 @@
 use Rattle.std.specs.Prelude.{if◌then◌else◌, ◌≡◌, ◌↔◌, ◌<◌, ℕ, zero, suc, ◌-◌, false, ℤ, List, [], ◌∷◌, ◌++◌, length, take, drop, codes, Option, Some, None, slice_index_or}
 use Rattle.std.specs.List.{list_any}
 use Rattle.std.specs.Str.{bytes_eq}
+use Rattle.c_names.specs.Bytes.{newline}
 use Rattle.text_edits.specs.Span.{PlainSpan}
 use Rattle.text_edits.specs.Files.{PlainFile}
 use Rattle.c_text.specs.declared.origin.Place.TheVariants as place
@@ -59,8 +60,8 @@ most_nested = 16
 -- the text of the built-in headers, `<stdio.h>` in its first five lines
 abbrev pub built_in_text : List ℕ
 built_in_text =
-    codes "#define EOF (-1)" ++ 10 ∷ codes "#define NULL 0" ++ 10 ∷ codes "int putchar(int);" ++ 10 ∷ codes "int getchar(void);"
-    ++ 10 ∷ codes "int puts(char *);" ++ 10 ∷ codes "#define NULL 0" ++ 10 ∷ codes "void exit(int);" ++ 10 ∷ []
+    codes "#define EOF (-1)" ++ newline ∷ codes "#define NULL 0" ++ newline ∷ codes "int putchar(int);" ++ newline ∷ codes "int getchar(void);"
+    ++ newline ∷ codes "int puts(char *);" ++ newline ∷ codes "#define NULL 0" ++ newline ∷ codes "void exit(int);" ++ newline ∷ []
 
 abbrev pub built_in_file : ℕ
 built_in_file = 4294967295

@@ -1,9 +1,9 @@
 use Rattle.std.proofs.Common.{◌≡◌, ℕ, ◌<◌, List, [], ◌∷◌, length, string_bytes, String, codes, All, IsTrue, ap, ◌∙◌, refl, arith}
 use Rattle.std.proofs.lemmas.List.Elements.{All-nil, All-cons}
 use Rattle.std.specs.declared.alloc.Global.{Global}
-use Rattle.model_tests.proofs.FormulaLaws.{feature_below}
+use Rattle.library_tests.proofs.FormulaLaws.{feature_below}
 use Rattle.c_names.specs.Names.{is_new_name}
-use Rattle.model_tests.proofs.formulas.prints_parentheses_where_operators_nest.Goals as goal
+use Rattle.library_tests.proofs.formulas.prints_parentheses_where_operators_nest.Goals as goal
 
 pub print_if-requires-clause-numbered : goal.print_if-requires-clause-numbered
 print_if-requires-clause-numbered g c =

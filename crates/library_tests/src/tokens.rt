@@ -47,11 +47,3 @@ fn places_do_not_count(rt: HostRuntime) -> Result<(), Fail> {
     assert!(rt; !name.same_spelling(&token(rt.alloc(), bad, b"x", 0)?));
     Ok(())
 }
-
-#[test]
-fn copies_keep_the_origin(rt: HostRuntime) -> Result<(), Fail> {
-    let name = token(rt.alloc(), TokenKind::Name, b"x", 7)?;
-    let copy = name.try_clone(rt.alloc())?;
-    assert!(rt; copy.same_spelling(&name) && copy.origin == name.origin);
-    Ok(())
-}

@@ -4,17 +4,6 @@ use cond_formula::{
 use std::test::Fail;
 
 #[test]
-fn has_reads_one_bit(rt: HostRuntime) {
-    let config = Config { bits: 5 };
-    assert!(rt; config.has(0));
-    assert!(rt; !config.has(1));
-    assert!(rt; config.has(2));
-    let last = Config { bits: 1 << 127 };
-    assert!(rt; last.has(127));
-    assert!(rt; !last.has(0));
-}
-
-#[test]
 fn cubes_clash_on_a_shared_feature(rt: HostRuntime) {
     let first = Cube { mask: 3, value: 1 };
     let second = Cube { mask: 6, value: 4 };
@@ -23,18 +12,6 @@ fn cubes_clash_on_a_shared_feature(rt: HostRuntime) {
     assert!(rt; !first.holds(Config { bits: 7 }));
     assert!(rt; !first.clashes(&second));
     assert!(rt; first.clashes(&third));
-}
-
-#[test]
-fn value_follows_the_connectives(rt: HostRuntime) -> Result<(), Fail> {
-    let alloc = rt.alloc();
-    let both = Formula::and(alloc, Formula::Var(0), Formula::Var(2))?;
-    let neither = Formula::not(alloc, both)?;
-    let formula = Formula::or(alloc, neither, Formula::Var(200))?.try_clone(alloc)?;
-    for (bits, want) in [(5u128, false), (4, true), (0, true)] {
-        assert_eq!(rt; formula.value(Config { bits }), want, "at {bits}");
-    }
-    Ok(())
 }
 
 fn asked<O: Oracle>(oracle: &mut O) -> May {

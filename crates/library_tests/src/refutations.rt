@@ -42,17 +42,6 @@ fn a_step_is_refused_by_its_hints(rt: HostRuntime) -> Result<(), Fail> {
 }
 
 #[test]
-fn an_end_needs_an_empty_step(rt: HostRuntime) -> Result<(), Fail> {
-    let mut checker = with_two_clauses(rt.alloc())?;
-    let refusal = CheckError {
-        kind: CheckKind::NoEmptyClause,
-        line: 3,
-    };
-    assert_eq!(rt; checker.finish(), Err(refusal));
-    Ok(())
-}
-
-#[test]
 fn the_law_can_be_cited() {
     refuted_clauses_are_unsatisfiable();
 }

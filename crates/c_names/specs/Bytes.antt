@@ -1,0 +1,138 @@
+-- The bytes of source texts by their names (ISO/IEC 9899:2011, 5.2.1; their values are those of ASCII).
+use Rattle.std.specs.Prelude.{ℕ}
+
+abbrev pub alert : ℕ
+alert = 7
+
+abbrev pub backspace : ℕ
+backspace = 8
+
+abbrev pub tab : ℕ
+tab = 9
+
+abbrev pub newline : ℕ
+newline = 10
+
+abbrev pub vertical_tab : ℕ
+vertical_tab = 11
+
+abbrev pub form_feed : ℕ
+form_feed = 12
+
+abbrev pub carriage_return : ℕ
+carriage_return = 13
+
+abbrev pub blank : ℕ
+blank = 32
+
+abbrev pub exclamation : ℕ
+exclamation = 33
+
+abbrev pub double_quote : ℕ
+double_quote = 34
+
+abbrev pub hash : ℕ
+hash = 35
+
+abbrev pub ampersand : ℕ
+ampersand = 38
+
+abbrev pub single_quote : ℕ
+single_quote = 39
+
+abbrev pub open_parenthesis : ℕ
+open_parenthesis = 40
+
+abbrev pub close_parenthesis : ℕ
+close_parenthesis = 41
+
+abbrev pub plus_sign : ℕ
+plus_sign = 43
+
+abbrev pub minus_sign : ℕ
+minus_sign = 45
+
+abbrev pub dot : ℕ
+dot = 46
+
+abbrev pub slash : ℕ
+slash = 47
+
+abbrev pub digit_0 : ℕ
+digit_0 = 48
+
+abbrev pub digit_7 : ℕ
+digit_7 = 55
+
+abbrev pub digit_9 : ℕ
+digit_9 = 57
+
+abbrev pub semicolon : ℕ
+semicolon = 59
+
+abbrev pub less_sign : ℕ
+less_sign = 60
+
+abbrev pub equals_sign : ℕ
+equals_sign = 61
+
+abbrev pub greater_sign : ℕ
+greater_sign = 62
+
+abbrev pub question_mark : ℕ
+question_mark = 63
+
+abbrev pub upper_a : ℕ
+upper_a = 65
+
+abbrev pub upper_f : ℕ
+upper_f = 70
+
+abbrev pub upper_z : ℕ
+upper_z = 90
+
+abbrev pub backslash : ℕ
+backslash = 92
+
+abbrev pub underscore : ℕ
+underscore = 95
+
+abbrev pub lower_a : ℕ
+lower_a = 97
+
+abbrev pub lower_b : ℕ
+lower_b = 98
+
+abbrev pub lower_f : ℕ
+lower_f = 102
+
+abbrev pub lower_n : ℕ
+lower_n = 110
+
+abbrev pub lower_r : ℕ
+lower_r = 114
+
+abbrev pub lower_t : ℕ
+lower_t = 116
+
+abbrev pub lower_v : ℕ
+lower_v = 118
+
+abbrev pub lower_x : ℕ
+lower_x = 120
+
+abbrev pub lower_z : ℕ
+lower_z = 122
+
+abbrev pub open_brace : ℕ
+open_brace = 123
+
+abbrev pub bar : ℕ
+bar = 124
+
+abbrev pub close_brace : ℕ
+close_brace = 125
+
+-- the last byte of ASCII that is printed
+abbrev pub tilde : ℕ
+tilde = 126

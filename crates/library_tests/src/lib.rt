@@ -1,0 +1,15 @@
+//! Tests of public calls that no program reaches, and of what only a test can show.
+#![tactic(auto)]
+
+#[cfg(test)]
+mod formulas;
+#[cfg(test)]
+mod refutations;
+#[cfg(test)]
+mod spans;
+#[cfg(test)]
+mod tokens;
+#[cfg(test)]
+mod trees;
+#[cfg(test)]
+mod types;
