@@ -43,7 +43,7 @@ is_hexadecimal_digit b = is_digit b || is_lower_hexadecimal b || is_upper_hexade
 
 -- the value of a digit of any base
 abbrev pub digit_value : ℕ → ℕ
-digit_value b = if is_digit b then b - digit_0 else if is_lower_hexadecimal b then 10 + (b - lower_a) else 10 + (b - upper_a)
+digit_value b = if is_digit b then b - digit_0 else if is_lower_hexadecimal b then b - (lower_a - 10) else b - (upper_a - 10)
 
 -- the number that the digits go on to write behind this one
 abbrev pub digits_from : ℕ → ℕ → List ℕ → ℕ
