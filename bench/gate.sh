@@ -60,7 +60,8 @@ wait "$gate"
 status=$?
 minutes=$(((SECONDS - begun + 59) / 60))
 # user and system time of the children that ended, all processes of the gate among them
-total=$(times | awk 'NR == 2 { for (i = 1; i <= 2; i++) { split($i, t, /[ms]/); s += 60 * t[1] + t[2] } } END { printf "%d", s / 60 }')
+times >"$room/times"
+total=$(awk 'NR == 2 { for (i = 1; i <= 2; i++) { split($i, t, /[ms]/); s += 60 * t[1] + t[2] } } END { printf "%d", s / 60 }' "$room/times")
 
 for pid in "${!spent[@]}"; do
   printf '%s %d\n' "${task[$pid]}" "${spent[$pid]}"
