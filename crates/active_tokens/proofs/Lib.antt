@@ -1,0 +1,4 @@
+mod Everywhere
+mod Replacing
+mod Reading
+mod Sources
