@@ -53,6 +53,30 @@ fn trees_are_at_most_512_high(rt: HostRuntime) -> Result<(), Fail> {
     Ok(())
 }
 
+/// What `parse` says of a declaration in so many blocks within the body of a function.
+fn in_blocks(alloc: Global, declaration: &str, count: usize) -> Result<Result<u32, ParseError>, NoMemory> {
+    let mut text = String::from_str(alloc, "int main(void) {")?;
+    for _ in 0..count {
+        text.push('{')?;
+    }
+    text.push_str(declaration)?;
+    for _ in 0..count {
+        text.push('}')?;
+    }
+    text.push_str("return 0; }")?;
+    let tokens = tokens_of(alloc, text.as_str())?;
+    Ok(tree_of(alloc, &tokens).map(|tree| height(&tree)))
+}
+
+#[test]
+fn a_struct_by_its_name_is_two_high(rt: HostRuntime) -> Result<(), Fail> {
+    let alloc = rt.alloc();
+    assert_eq!(rt; in_blocks(alloc, "int x;", 507)?, Ok(512));
+    assert_eq!(rt; in_blocks(alloc, "struct S x;", 506)?, Ok(512));
+    assert_eq!(rt; in_blocks(alloc, "struct S x;", 507)?, Err(ParseError::TooHigh));
+    Ok(())
+}
+
 #[test]
 fn open_parentheses_need_no_deep_stack(rt: HostRuntime) -> Result<(), Fail> {
     let want = Err(ParseError::Unexpected(100_007));
