@@ -1,3 +1,4 @@
+-- A model of the code, not part of the meaning:
 -- The reader: what it keeps of the tokens so far, and what the next one does. It works on values of any type that stand for trees.
 use Rattle.std.specs.Prelude.{true, false, List, [], ◌∷◌, ◌++◌, Option, Some, None}
 use Rattle.c_text.specs.Token.{PlainToken}

@@ -1,3 +1,4 @@
+-- A model of the code, not part of the meaning:
 -- Where a reader of tokens may stand in a node, and what the next token does there.
 use Rattle.std.specs.Prelude.{ℕ, nat_le, Bool, true, false, not, ◌&&◌, List, [], ◌∷◌, ◌++◌, if◌then◌else◌}
 use Rattle.std.specs.List.{list_any}

@@ -1,3 +1,4 @@
+-- A model of the code, not part of the meaning:
 -- How compatible types are found: what two types ask for, and which pairs of structs a comparison notes.
 use Rattle.std.specs.Prelude.{◌≡◌, ℕ, Bool, true, false, ◌&&◌, ◌==◌, List, ◌++◌, IsTrue, if◌then◌else◌, ⊤, ◌≤◌, length, take}
 use Rattle.std.specs.List.{All, Contains}

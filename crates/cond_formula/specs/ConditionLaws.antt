@@ -1,3 +1,4 @@
+-- Laws, not part of the meaning:
 -- What each kind of formula says, and what a condition's value depends on.
 use Rattle.std.proofs.Common.{◌≡◌, ℕ, ◌<◌, ◌≤◌, Bool, not, refl, sym, ap, ◌∙◌, arith}
 use Rattle.std.specs.declared.alloc.Global.{Global}

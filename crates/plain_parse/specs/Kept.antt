@@ -1,3 +1,4 @@
+-- A model of the code, not part of the meaning:
 -- What the parser keeps of trees: those that are low enough. A part that is too high makes each tree around it so.
 use Rattle.std.specs.Prelude.{nat_le, List, [], ◌∷◌, ◌++◌, Option, Some, None, if◌then◌else◌, option_map, option_and_then}
 use Rattle.c_tree.specs.Trees.{PlainTree, leaf, node, absent, trees}

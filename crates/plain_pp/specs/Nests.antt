@@ -1,3 +1,4 @@
+-- A model of the code, not part of the meaning:
 -- Which groups are open, as far as it says where lines may stand.
 use Rattle.std.specs.Prelude.{Bool, true, false, List, [], ◌∷◌, map, Option, Some, None, if◌then◌else◌}
 use Rattle.c_text.specs.Lines.{PlainLine}

@@ -1,3 +1,4 @@
+-- A model of the code, not part of the meaning:
 -- The walk over the lines of one file, a line at a time, with the groups that are open.
 use Rattle.std.specs.Prelude.{Bool, true, false, List, [], ◌∷◌, ◌++◌, drop, Option, None, if◌then◌else◌}
 use Rattle.c_text.specs.Token.{PlainToken}

@@ -1,3 +1,4 @@
+-- A model of the code, not part of the meaning:
 -- An expression of `#if` read token by token: operands and connectives that wait for more, and what these make of their operands.
 use Rattle.std.specs.Prelude.{ℕ, ◌+◌, ◌^◌, min, max, Bool, true, false, not, nat_lt, nat_le, ℤ, List, [], ◌∷◌, map, codes, if◌then◌else◌, Option, Some, None, option_and_then}
 use Rattle.std.specs.Str.{bytes_eq}

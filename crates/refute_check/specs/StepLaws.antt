@@ -1,3 +1,4 @@
+-- Laws, not part of the meaning:
 -- What is known while a step is checked agrees with each assignment that satisfies the clauses before it, so well-checked steps
 -- follow from these clauses.
 use Rattle.std.proofs.Common.{◌≡◌, ℕ, zero, suc, ◌+◌, ℤ, pos, negsuc, Bool, true, false, not, ◌&&◌, ◌||◌, cond, List, [], ◌∷◌, ◌++◌, length, get_or, map, set, replicate, slice_get, Option, None, Some, is_none, refl, sym, ap, ◌∙◌, subst, inl, inr}
