@@ -243,7 +243,36 @@ const QUICK_USES_A_FEATURE: Row = Row {
     ..ENDED
 };
 
-const ROWS: [Row; 21] = [
+/// The operand of unary `+` is used, and the call ends without a value.
+const PLUS_USES_ITS_OPERAND: Row = Row {
+    unit: "int f(void) { } int main(void) { +f(); return 0; }",
+    status: 10,
+    printed: "\nundefined\n",
+    ..ENDED
+};
+
+/// The results of a discarded `?:` aren't used.
+const DISCARDED_CHOICE: Row = Row {
+    unit: "char f(void) { } int main(void) { 1 ? f() : 1; return 0; }",
+    ..ENDED
+};
+
+/// A pointer to `void` can only be null.
+const VOID_IS_READ: Row = Row {
+    unit: "int main(void) { void *p = 0; *p; return 0; }",
+    status: 10,
+    printed: "\nundefined\n",
+    ..ENDED
+};
+
+/// `&*p` doesn't evaluate `*p`.
+const VOID_IS_NAMED: Row = Row {
+    unit: "int main(void) { void *p = 0; return &*p == 0; }",
+    printed: "\nended 1\n",
+    ..ENDED
+};
+
+const ROWS: [Row; 25] = [
     ENDED,
     RUNNING,
     UNDEFINED,
@@ -265,6 +294,10 @@ const ROWS: [Row; 21] = [
     QUICK_CUT_OFF,
     QUICK_USES_NO_FEATURE,
     QUICK_USES_A_FEATURE,
+    PLUS_USES_ITS_OPERAND,
+    DISCARDED_CHOICE,
+    VOID_IS_READ,
+    VOID_IS_NAMED,
 ];
 
 fn file(alloc: Global, name: &str, text: &str) -> Result<SourceFile, AllocError> {
