@@ -246,6 +246,7 @@ const QUICK_USES_A_FEATURE: Row = Row {
 /// The operand of unary `+` is used, and the call ends without a value.
 const PLUS_USES_ITS_OPERAND: Row = Row {
     unit: "int f(void) { } int main(void) { +f(); return 0; }",
+    bound: "1",
     status: 10,
     printed: "\nundefined\n",
     ..ENDED
@@ -254,6 +255,7 @@ const PLUS_USES_ITS_OPERAND: Row = Row {
 /// The results of a discarded `?:` aren't used.
 const DISCARDED_CHOICE: Row = Row {
     unit: "char f(void) { } int main(void) { 1 ? f() : 1; return 0; }",
+    bound: "1",
     ..ENDED
 };
 
