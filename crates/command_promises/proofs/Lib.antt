@@ -1,0 +1,5 @@
+pub mod Giving
+pub mod Writing
+pub mod Leading
+pub mod Answering
+pub mod Promising
