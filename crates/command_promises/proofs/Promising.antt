@@ -7,9 +7,10 @@ use Rattle.command_promises.specs.Courses.{Saying, Deed, reads, says, Course, Co
 use Rattle.command_promises.specs.Sayings.{line, usage}
 use Rattle.command_promises.specs.Writing.{PutsAll, StandsAt, LacksRoomFor}
 use Rattle.command_promises.specs.Endings.{Ending, said, unread, unwritten, memory_ended, Holds, status_of, report_of, ReadsStood, WritesStood, IsSaid, IsUnread, IsUnwritten, IsOutOfMemory, Takes, BreaksOff, Answers}
-use Rattle.command_promises.specs.Commands.{Command, Asked, CourseFor, CourseOf, IsOwn, IsFit, IsDecidedCommand}
+use Rattle.command_promises.specs.Commands.{Command, Asked, CourseFor, CourseOf, program, IsOwn, IsFit, IsDecidedCommand}
 use Rattle.command_promises.specs.Promises.{NoneRose, RoomsSuffice, Undisturbed, HasFiles, SaysSo, ReadFails, WriteFails, MemoryEnds, SinkFails, Promises}
-use Rattle.command_promises.proofs.Leading.{Follows, done_last, one_end, none_missing}
+use Rattle.command_promises.proofs.Leading.{Follows, one_saying, done_last, one_end, none_missing}
+use Rattle.command_promises.proofs.Fitting.{tells_fits}
 use Rattle.command_promises.proofs.Answering.{answers_by}
 
 behind : (x : ℕ) (xs : List ℕ) (n : ℕ) → Contains xs n → Contains (x ∷ xs) n
@@ -277,3 +278,30 @@ module _ {Which : Type 0} (commands : Which → Command) (decided : (which : Whi
   promises_of before after sink sink' status answer which query asked =
       promised (commands which) (decided which) query before after sink sink' status
       (answers_by (CourseOf commands words) ((commands which).Does query) before after sink sink' status (follows_one which query asked) answer)
+
+  -- one thing is done for the words
+  pub course_decided : IsDecided (CourseOf commands words)
+  course_decided files a b (inl x) (inl y) =
+      (decided y.0).one_deed y.1 files a b (follows_one y.0 y.1 y.2 files a (inl x)) y.3
+  course_decided files a b (inl x) (inr y) = absurd (y.0 x.0 x.1 x.2)
+  course_decided files a b (inr x) (inl y) = absurd (x.0 y.0 y.1 y.2)
+  course_decided files a b (inr x) (inr y) = x.1 ∙ sym y.1
+
+  -- it is said that words ask for nothing
+  pub follows_none : ((which : Which) (query : (commands which).Query) → Asked (commands which) words query → ⊥) → (what : Saying) → says what ≡ says usage → CourseOf commands words [] (says what)
+  follows_none none what is = inr (none, is)
+
+-- all the commands as one: the words are what is asked of it
+module _ {Which : Type 0} (commands : Which → Command) (decided : (which : Which) → IsDecidedCommand (commands which)) (apart : (a b : Which) → (commands a).word ≡ (commands b).word → a ≡ b) (statuses : List ℕ) (listed : (which : Which) (n : ℕ) → Contains (commands which).statuses n → Contains statuses n) (two : Contains statuses 2) where
+  fits_all : (words : List (List ℕ)) (files : List PlainFile) (what : Saying) → CourseOf commands words files (says what) → IsFit (program commands statuses) what
+  fits_all words files what (inl x) =
+      let f = (decided x.0).fits x.1 files what x.3 in
+      record { listed = listed x.0 what.status f.listed; own = f.own; writes = elim f.writes [ inl none ↦ inl none | inr p ↦ inr (p.0, refl) ] }
+  fits_all words files what (inr x) = subst (IsFit (program commands statuses)) (sym (one_saying what usage x.1)) (tells_fits (program commands statuses) 2 usage.report two (inl (omega arith)))
+
+  pub all_decided : IsDecidedCommand (program commands statuses)
+  all_decided = record {
+    one_query = λ further a b h k. sym h ∙ k;
+    one_deed = λ words. course_decided commands decided apart words;
+    fits = fits_all;
+  }

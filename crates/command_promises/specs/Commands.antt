@@ -50,3 +50,14 @@ abbrev pub CourseOf : {Which : Type 0} → (Which → Command) → List (List �
 CourseOf {Which} commands words files deed =
     ((which : Which) × (query : (commands which).Query) × Asked (commands which) words query × (commands which).Does query files deed)
     ⊎ (((which : Which) (query : (commands which).Query) → Asked (commands which) words query → ⊥) × (deed ≡ says usage))
+
+-- The commands as one, of which all the words of a call are asked.
+abbrev pub program : {Which : Type 0} → (Which → Command) → List ℕ → Command
+program commands statuses = record {
+  word = [];
+  Query = List (List ℕ);
+  Asks = λ further words. further ≡ words;
+  Does = CourseOf commands;
+  statuses = statuses;
+  writes = true;
+}

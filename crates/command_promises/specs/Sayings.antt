@@ -42,3 +42,9 @@ CameTo course store (Err stop) = Stops course store stop
 abbrev pub stop_of : StoreFault → Stop
 stop_of fault.Failed = ReadFault
 stop_of fault.Memory = WantOfMemory
+
+-- something is said that the course does at once, unless memory ends
+abbrev pub SaysOrEnds : Course → Result Said Stop → Type 0
+SaysOrEnds course (Ok said) = course [] (says (saying said))
+SaysOrEnds course (Err ReadFault) = ⊥
+SaysOrEnds course (Err WantOfMemory) = ⊤
