@@ -39,6 +39,7 @@ holds_by course other before after (unread name) f h = record {
 }
 holds_by course other before after (unwritten what) f h = record {
   comes = comes_by course other before (says what) f h.comes;
+  some = h.some;
   rose = h.rose;
   part = h.part;
   lacks = h.lacks;
@@ -97,6 +98,7 @@ module _ (before middle after : StoreState) (alone : IsReadAlone before middle) 
       ending = unwritten (saying given);
       holds = record {
         comes = comes;
+        some = h.0.some;
         rose = let r = h.0.rose in let w = alone.writes in omega (arith, r, w);
         part = λ t. let p = h.0.part (alone.told t) in (p.0, stands_before p.0 (plain_files given.written) t p.1);
         lacks = λ r. lacks_before (plain_files given.written) r (told r) (h.0.lacks (alone.room_told r) (alone.told (told r)));

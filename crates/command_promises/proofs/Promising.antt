@@ -3,7 +3,7 @@ use Rattle.std.proofs.Common.{◌≡◌, ◌≢◌, ◌⊎◌, inl, inr, ℕ, su
 use Rattle.std.specs.List.{Contains}
 use Rattle.text_edits.specs.Files.{PlainFile}
 use Rattle.project_store.specs.States.{StoreState, SinkState, Kept}
-use Rattle.command_promises.specs.Courses.{Saying, Deed, reads, says, Course, Comes, IsDecided}
+use Rattle.command_promises.specs.Courses.{Saying, Deed, reads, says, Course, Leads, Comes, IsDecided}
 use Rattle.command_promises.specs.Sayings.{line, usage}
 use Rattle.command_promises.specs.Writing.{PutsAll, StandsAt, LacksRoomFor}
 use Rattle.command_promises.specs.Endings.{Ending, said, unread, unwritten, memory_ended, Holds, status_of, report_of, ReadsStood, WritesStood, IsSaid, IsUnread, IsUnwritten, IsOutOfMemory, Takes, BreaksOff, Answers}
@@ -12,6 +12,9 @@ use Rattle.command_promises.specs.Promises.{NoneRose, RoomsSuffice, Undisturbed,
 use Rattle.command_promises.proofs.Leading.{Follows, one_saying, done_last, one_end, none_missing}
 use Rattle.command_promises.proofs.Fitting.{tells_fits}
 use Rattle.command_promises.proofs.Answering.{answers_by}
+
+never_reads : (name : List ℕ) (what : Saying) → reads name ≡ says what → ⊥
+never_reads name what e = cc
 
 behind : (x : ℕ) (xs : List ℕ) (n : ℕ) → Contains xs n → Contains (x ∷ xs) n
 behind x xs n h = (suc h.0, let k = h.1 in omega (arith, k), h.2)
@@ -126,8 +129,18 @@ module _ (command : Command) (decided : IsDecidedCommand command) (query : comma
         absurd (subst (λ files. StandsAt k.0 before.file files after.file) none k.1)
     reads_only_by memory_ended h never = h.kept
 
-    pub reads_only : command.writes ≡ false → Kept before after
-    reads_only never = reads_only_by answer.ending answer.holds never
+    none_of_four : (e : Ending) → Holds course before after e → command.writes ≡ false → status_of e ≢ 4
+    none_of_four (said what) h never e = (fit what h.comes).own.no_write_fault e
+    none_of_four (unread name) h never e = omega (arith, e)
+    none_of_four (unwritten what) h never e =
+        h.some (elim (fit what h.comes).writes [ inl none ↦ none | inr p ↦ let f : ◌≡◌ {A = Bool} true false = sym p.1 ∙ never in absurd cc ])
+    none_of_four memory_ended h never e = omega (arith, e)
+
+    pub reads_only : command.writes ≡ false → (status ≢ 4) × Kept before after
+    reads_only never = (
+      λ e. elim answer.told [ inl p ↦ none_of_four answer.ending answer.holds never (sym p.0 ∙ e) | inr p ↦ let six = p.0 in omega (arith, six, e) ],
+      reads_only_by answer.ending answer.holds never,
+    )
 
     -- each fault has its status
     reads_by : (e : Ending) → Holds course before after e → status_of e ≢ 3 → ReadsStood before after
@@ -242,6 +255,60 @@ module _ (command : Command) (decided : IsDecidedCommand command) (query : comma
 
 -- ---- several commands
 
+further_is : (x y : List ℕ) (xs ys : List (List ℕ)) → x ∷ xs ≡ y ∷ ys → (x ≡ y) × (xs ≡ ys)
+further_is x y xs ys e = (cc, cc)
+
+-- a course for the further words is one for the words
+module _ {Which : Type 0} (commands : Which → Command) (apart : (a b : Which) → (commands a).word ≡ (commands b).word → a ≡ b) (words : List (List ℕ)) where
+  -- what is said for the further words of one command is said for the words
+  pub for_words : (which : Which) (further : List (List ℕ)) → words ≡ (commands which).word ∷ further → Follows (CourseFor (commands which) further) (CourseOf commands words)
+  for_words which further is files deed (inl x) = inl (which, x.0, (further, is, x.1), x.2)
+  for_words which further is files deed (inr x) = inr (none, x.1)
+    where
+      none_by : (other : Which) (query : (commands other).Query) → other ≡ which → (commands other).Asks further query → ⊥
+      none_by other query same asks =
+          let None : Which → Type 0 = λ w. (r : (commands w).Query) → (commands w).Asks further r → ⊥ in
+          subst None (sym same) x.0 query asks
+
+      none : (other : Which) (query : (commands other).Query) → Asked (commands other) words query → ⊥
+      none other query asked =
+          let same = further_is (commands other).word (commands which).word asked.0 further (sym asked.1 ∙ is) in
+          none_by other query (apart other which same.0) (subst (λ more. (commands other).Asks more query) same.1 asked.2)
+
+-- where no command has the first word, or there is none, the words ask for nothing
+pub other_word : {Which : Type 0} (commands : Which → Command) (word : List ℕ) (further : List (List ℕ)) → ((which : Which) → word ≢ (commands which).word) → (which : Which) (query : (commands which).Query) → Asked (commands which) (word ∷ further) query → ⊥
+other_word commands word further none which query asked = none which (further_is word (commands which).word further asked.0 asked.1).0
+
+pub no_word : {Which : Type 0} (commands : Which → Command) (which : Which) (query : (commands which).Query) → Asked (commands which) [] query → ⊥
+no_word commands which query asked = none_is_some (commands which).word asked.0 asked.1
+  where
+    none_is_some : (x : List ℕ) (xs : List (List ℕ)) → [] ≡ x ∷ xs → ⊥
+    none_is_some x xs e = cc
+
+-- words that ask for nothing
+module _ {Which : Type 0} (commands : Which → Command) (words : List (List ℕ)) (none : (which : Which) (query : (commands which).Query) → Asked (commands which) words query → ⊥) where
+  only_usage : (files : List PlainFile) (what : Saying) → Leads (CourseOf commands words) files (says what) → what ≡ usage
+  only_usage [] what (inl x) = absurd (none x.0 x.1 x.2)
+  only_usage [] what (inr x) = one_saying what usage x.1
+  only_usage (f ∷ files) what (inl x, rest) = absurd (none x.0 x.1 x.2)
+  only_usage (f ∷ files) what (inr x, rest) = absurd (never_reads f.name usage x.1)
+
+  no_reading : (files : List PlainFile) (name : List ℕ) → Leads (CourseOf commands words) files (reads name) → ⊥
+  no_reading [] name (inl x) = none x.0 x.1 x.2
+  no_reading [] name (inr x) = never_reads name usage x.1
+  no_reading (f ∷ files) name (inl x, rest) = none x.0 x.1 x.2
+  no_reading (f ∷ files) name (inr x, rest) = never_reads f.name usage x.1
+
+  pub usage_statuses : (before after : StoreState) (sink sink' : SinkState) (status : ℕ) → Answers (CourseOf commands words) before after sink sink' status → Contains (2 ∷ 6 ∷ 7 ∷ []) status
+  usage_statuses before after sink sink' status answer = elim answer.told [ inl p ↦ by answer.ending answer.holds p.0 | inr p ↦ (1, omega arith, sym p.0) ]
+    where
+      by : (e : Ending) → Holds (CourseOf commands words) before after e → status ≡ status_of e → Contains (2 ∷ 6 ∷ 7 ∷ []) status
+      by (said what) h p = (0, omega arith, sym (p ∙ ap (λ (x : Saying). x.status) (only_usage h.comes.files what h.comes.leads)))
+      by (unread name) h p = absurd (no_reading h.comes.files name h.comes.leads)
+      by (unwritten what) h p = absurd (h.some (ap (λ (x : Saying). x.written) (only_usage h.comes.files what h.comes.leads)))
+      by memory_ended h p = (2, omega arith, sym p)
+
+
 -- what the words ask of one command, they ask of never other
 module _ {Which : Type 0} (commands : Which → Command) (decided : (which : Which) → IsDecidedCommand (commands which)) (apart : (a b : Which) → (commands a).word ≡ (commands b).word → a ≡ b) (words : List (List ℕ)) where
   same_further : (x y : List ℕ) (xs ys : List (List ℕ)) → x ∷ xs ≡ y ∷ ys → (x ≡ y) × (xs ≡ ys)
@@ -258,21 +325,6 @@ module _ {Which : Type 0} (commands : Which → Command) (decided : (which : Whi
       moved x.0 which x.1 query asked.0 (apart x.0 which same.0) (subst (λ more. (commands x.0).Asks more x.1) same.1 x.2.2) asked.2 files deed x.3
   follows_one which query asked files deed (inr x) = absurd (x.0 which query asked)
 
-  -- what is said for the further words of one command is said for the words
-  pub for_words : (which : Which) (further : List (List ℕ)) → words ≡ (commands which).word ∷ further → Follows (CourseFor (commands which) further) (CourseOf commands words)
-  for_words which further is files deed (inl x) = inl (which, x.0, (further, is, x.1), x.2)
-  for_words which further is files deed (inr x) = inr (none, x.1)
-    where
-      none_by : (other : Which) (query : (commands other).Query) → other ≡ which → (commands other).Asks further query → ⊥
-      none_by other query same asks =
-          let None : Which → Type 0 = λ w. (r : (commands w).Query) → (commands w).Asks further r → ⊥ in
-          subst None (sym same) x.0 query asks
-
-      none : (other : Which) (query : (commands other).Query) → Asked (commands other) words query → ⊥
-      none other query asked =
-          let same = same_further (commands other).word (commands which).word asked.0 further (sym asked.1 ∙ is) in
-          none_by other query (apart other which same.0) (subst (λ more. (commands other).Asks more query) same.1 asked.2)
-
   pub promises_of : (before after : StoreState) (sink sink' : SinkState) (status : ℕ) → Answers (CourseOf commands words) before after sink sink' status
       → (which : Which) (query : (commands which).Query) → Asked (commands which) words query → Promises (commands which) query before after sink sink' status
   promises_of before after sink sink' status answer which query asked =
@@ -286,10 +338,6 @@ module _ {Which : Type 0} (commands : Which → Command) (decided : (which : Whi
   course_decided files a b (inl x) (inr y) = absurd (y.0 x.0 x.1 x.2)
   course_decided files a b (inr x) (inl y) = absurd (x.0 y.0 y.1 y.2)
   course_decided files a b (inr x) (inr y) = x.1 ∙ sym y.1
-
-  -- it is said that words ask for nothing
-  pub follows_none : ((which : Which) (query : (commands which).Query) → Asked (commands which) words query → ⊥) → (what : Saying) → says what ≡ says usage → CourseOf commands words [] (says what)
-  follows_none none what is = inr (none, is)
 
 -- all the commands as one: the words are what is asked of it
 module _ {Which : Type 0} (commands : Which → Command) (decided : (which : Which) → IsDecidedCommand (commands which)) (apart : (a b : Which) → (commands a).word ≡ (commands b).word → a ≡ b) (statuses : List ℕ) (listed : (which : Which) (n : ℕ) → Contains (commands which).statuses n → Contains statuses n) (two : Contains statuses 2) where

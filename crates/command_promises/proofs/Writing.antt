@@ -125,6 +125,10 @@ wrote_more before now after files name bytes all puts told exact cause none read
           omega (arith, h, k, sum);
     }
 
+not_none : (files : List PlainFile) (file : PlainFile) (rest : List PlainFile) → files ++ file ∷ rest ≢ []
+not_none [] file rest e = cc
+not_none (f ∷ files) file rest e = cc
+
 -- the next wasn't written whole
 pub wrote_part : (before now after : StoreState) (files : List PlainFile) (name bytes : List ℕ) (rest : List PlainFile) → WroteAll before files now
     → (now.tells → LeavesPart now.file name bytes after.file) → Rose now.write_faults after.write_faults → after.read_faults ≡ now.read_faults
@@ -133,6 +137,7 @@ pub wrote_part : (before now after : StoreState) (files : List PlainFile) (name 
 wrote_part before now after files name bytes rest all leaves rose reads lacks =
     let file : PlainFile = record { name = name; bytes = bytes } in
     record {
+      some = not_none files file rest;
       rose = let h = all.no_fall in omega (arith, h, rose);
       part = λ t. (length files, stands_next before.file now.file after.file files file rest (all.puts t) (leaves (all.told t)));
       lacks = λ r t. lacks_all before now files file rest (all.puts t) (all.names r t) (all.room r) (lacks (all.room_told r));

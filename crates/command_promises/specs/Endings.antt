@@ -1,5 +1,5 @@
 -- How a call ends: what holds of the store then, and of the sink.
-use Rattle.std.specs.Prelude.{◌≡◌, ◌⊎◌, ℕ, ◌<◌, List, ◌++◌, length, codes}
+use Rattle.std.specs.Prelude.{◌≡◌, ◌≢◌, ◌⊎◌, ℕ, ◌<◌, List, [], ◌++◌, length, codes}
 use Rattle.project_store.specs.Lookup.{IsPrefix}
 use Rattle.project_store.specs.Faults.{Rose}
 use Rattle.project_store.specs.States.{StoreState, SinkState, Kept, IsAbsent}
@@ -48,6 +48,7 @@ pub record IsUnread (course : Course) (before after : StoreState) (name : List �
 
 pub record IsUnwritten (course : Course) (before after : StoreState) (what : Saying) : Type 0 where
   pub comes : Comes course before (says what)
+  pub some : what.written ≢ []
   pub rose : Rose before.write_faults after.write_faults
   pub part : before.tells → (k : ℕ) × StandsAt k before.file what.written after.file
   pub lacks : before.tells_room → LacksRoomFor before what.written

@@ -1,5 +1,5 @@
 -- What becomes of what a call gave: its files are written, and then its report is given.
-use Rattle.std.specs.Prelude.{◌≡◌, ◌⊎◌, ℕ, ◌≤◌, ◌+◌, List, [], codes, Result, Ok, Err}
+use Rattle.std.specs.Prelude.{◌≡◌, ◌≢◌, ◌⊎◌, ℕ, ◌≤◌, ◌+◌, List, [], codes, Result, Ok, Err}
 use Rattle.text_edits.specs.Files.{PlainFile, plain_files}
 use Rattle.project_store.specs.Faults.{Rose}
 use Rattle.project_store.specs.States.{StoreState, SinkState}
@@ -24,6 +24,7 @@ pub record WroteAll (before : StoreState) (files : List PlainFile) (after : Stor
 
 -- one of them wasn't written whole, and no further one was
 pub record WrotePart (before : StoreState) (files : List PlainFile) (after : StoreState) : Type 0 where
+  pub some : files ≢ []
   pub rose : Rose before.write_faults after.write_faults
   pub part : before.tells → (k : ℕ) × StandsAt k before.file files after.file
   pub lacks : before.tells_room → before.tells → LacksRoomFor before files

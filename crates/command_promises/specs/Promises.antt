@@ -71,7 +71,7 @@ pub record Promises (command : Command) (query : command.Query) (before after : 
   pub sink_fault : status ≡ 6 → SinkFails (command.Does query) before after sink sink'
   pub memory : status ≡ 7 → MemoryEnds before after sink sink'
   pub untouched : status ≢ 0 → status ≢ 4 → status ≢ 6 → Kept before after
-  pub reads_only : command.writes ≡ false → Kept before after
+  pub reads_only : command.writes ≡ false → (status ≢ 4) × Kept before after
   -- Where nothing disturbs it, the status is that of what the command comes to say, or want of memory.
   pub complete : before.tells → (what : Saying) → Comes (command.Does query) before (says what)
       → Undisturbed (command.Does query) before after sink sink' → (status ≡ what.status) ⊎ (status ≡ 7)
