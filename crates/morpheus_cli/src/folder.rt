@@ -52,21 +52,9 @@ fn write_file<R: Files>(files: &R, name: &str, bytes: &[u8]) -> io::Result<()> {
 }
 
 impl<'a, R: Files> Store for FolderStore<'a, R> {
-    ghost use Rattle.std.specs.Prelude.{None};
+    ghost use Rattle.morpheus_cli.specs.States.{folder_state};
 
-    ghost tells = { λ _. ⊥ };
-
-    ghost file = { λ _ _. None };
-
-    ghost read_faults = { λ store. store.read_faults };
-
-    ghost write_faults = { λ store. store.write_faults };
-
-    ghost tells_room = { λ _. ⊥ };
-
-    ghost names_left = { λ _. 0 };
-
-    ghost bytes_left = { λ _. 0 };
+    ghost state = { λ store. folder_state store.read_faults store.write_faults };
 
     fn read(&mut self, alloc: Global, name: &str) -> Result<Vec<u8>, StoreFault> {
         match read_file(self.files, alloc, name) {

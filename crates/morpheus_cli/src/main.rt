@@ -1,8 +1,7 @@
 //! The program `morpheus`: a command over the current folder and standard output.
 #![tactic(auto)]
 
-ghost use Rattle.std.specs.Prelude.{[], ◌∷◌};
-ghost use Rattle.morpheus_top.specs.Promises.{IsOneOf};
+ghost use Rattle.std.specs.Prelude.{[], ◌∷◌, Contains};
 
 mod folder;
 mod report;
@@ -26,7 +25,7 @@ const NO_WORDS: u8 = 13;
 
 /// Reports that memory ended, and answers the status for it.
 fn without_words(rt: &impl Print) -> u8
-    ensures { IsOneOf (WANT_OF_MEMORY ∷ SINK_FAULT ∷ []) result }
+    ensures { Contains (WANT_OF_MEMORY ∷ SINK_FAULT ∷ []) result }
 {
     match rt.println("want of memory") {
         Ok(()) => WANT_OF_MEMORY,

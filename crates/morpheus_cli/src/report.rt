@@ -18,17 +18,9 @@ impl<'a, R: Print> StdoutSink<'a, R> {
 }
 
 impl<'a, R: Print> Sink for StdoutSink<'a, R> {
-    ghost use Rattle.std.specs.Prelude.{[]};
+    ghost use Rattle.morpheus_cli.specs.States.{output_state};
 
-    ghost tells = { λ _. ⊥ };
-
-    ghost taken = { λ _. [] };
-
-    ghost faults = { λ sink. sink.faults };
-
-    ghost tells_room = { λ _. ⊥ };
-
-    ghost room = { λ _. 0 };
+    ghost state = { λ sink. output_state sink.faults };
 
     /// Takes the whole piece. Standard output holds nothing back, so there is nothing to flush.
     fn write(&mut self, bytes: &[u8]) -> Result<usize, SinkFailed> {

@@ -1,13 +1,1 @@
-pub mod Words
-pub mod Replies
-pub mod States
-pub mod Sinks
-pub mod Admit
-pub mod Products
-pub mod Tokens
-pub mod TokensSteps
-pub mod Runs
-pub mod RunSteps
-pub mod Calls
-pub mod Quick
-pub mod Promises
+pub mod Commands

@@ -13,10 +13,11 @@ count_after false count = count
 abbrev pub Rose : ℕ → ℕ → Type 0
 Rose before now = raised before ≤ now
 
--- the count didn't fall, and it rose where there was a fault
-pub record HasCause (before now : ℕ) (fault : Type 0) : Type 0 where
+-- the count didn't fall, it rose where there was a fault, and, where it is exact, it stood where there was none
+pub record HasCause (exact : Type 0) (before now : ℕ) (fault : Type 0) : Type 0 where
   pub kept : before ≤ now
   pub rose : fault → Rose before now
+  pub stood : exact → (fault → ⊥) → now ≡ before
 
 -- for a count of `u64`, to rise is to be greater than before or at the end
 abbrev pub RoseIsGreaterOrLast : Type 0

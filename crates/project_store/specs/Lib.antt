@@ -1,6 +1,7 @@
 pub mod Lookup
 pub mod Faults
 pub mod Room
+pub mod States
 pub mod Store
 pub mod Sink
 pub mod Named

@@ -21,7 +21,7 @@ pub use faults::{a_rise_stays, rising_is_growing_or_standing_at_the_end};
 pub use memory_sink::MemorySink;
 pub use memory_store::MemoryStore;
 pub use project_file::{Project, ProjectError, Unit};
-pub use reads::{read_files, read_project};
+pub use reads::{read_file, read_files, read_project};
 pub use sink::{Sink, SinkFailed};
 pub use store::{Store, StoreFault, WriteFailed};
 pub use sure_sink::SureSink;

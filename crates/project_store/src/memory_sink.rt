@@ -42,17 +42,9 @@ impl MemorySink {
 impl Sink for MemorySink {
     ghost use Rattle.project_store.specs.Sink.{IsFault};
     ghost use Rattle.project_store.specs.Calls.{NextFails, CountsCall};
-    ghost use Rattle.project_store.specs.MemorySink.{taken_by, calls_of, faults_of};
+    ghost use Rattle.project_store.specs.MemorySink.{taken_by, state_of, calls_of, faults_of};
 
-    ghost tells = { λ _. Unit {0} };
-
-    ghost taken = { taken_by };
-
-    ghost faults = { faults_of };
-
-    ghost tells_room = { λ _. ⊥ };
-
-    ghost room = { λ _. 0 };
+    ghost state = { state_of };
 
     fn write(&mut self, bytes: &[u8]) -> Result<usize, SinkFailed>
         ensures fails { NextFails (calls_of self.old) → IsErr result }
@@ -61,7 +53,7 @@ impl Sink for MemorySink {
         ensures err { OnErr result (taken_by self.new ≡ taken_by self.old) }
         ensures calls { CountsCall (calls_of self.old) (calls_of self.new) }
         ensures faults { faults_of self.new ≡ count_after (is_err result) (faults_of self.old) }
-        ensures cause { HasCause (faults_of self.old) (faults_of self.new) (IsFault result bytes.now) }
+        ensures cause { HasCause (Unit {0}) (faults_of self.old) (faults_of self.new) (IsFault result bytes.now) }
     {
         if self.calls.next_fails() || self.taken.extend_from_slice(bytes).is_err() {
             self.faults = self.faults.saturating_add(1);

@@ -49,21 +49,9 @@ impl MemoryStore {
 
 impl Store for MemoryStore {
     ghost use Rattle.project_store.specs.Calls.{NextFails, CountsCall};
-    ghost use Rattle.project_store.specs.MemoryStore.{held, calls_of, read_faults_of, write_faults_of};
+    ghost use Rattle.project_store.specs.MemoryStore.{held, state_of, calls_of, read_faults_of, write_faults_of};
 
-    ghost tells = { λ _. Unit {0} };
-
-    ghost file = { held };
-
-    ghost read_faults = { read_faults_of };
-
-    ghost write_faults = { write_faults_of };
-
-    ghost tells_room = { λ _. ⊥ };
-
-    ghost names_left = { λ _. 0 };
-
-    ghost bytes_left = { λ _. 0 };
+    ghost state = { state_of };
 
     fn read(&mut self, alloc: Global, name: &str) -> Result<Vec<u8>, StoreFault>
         ensures fails { IsErrOf result StoreFault.Failed
@@ -73,7 +61,7 @@ impl Store for MemoryStore {
         ensures calls { CountsCall (calls_of self.old) (calls_of self.new) }
         ensures read_faults { read_faults_of self.new
             ≡ count_after (is_failed result) (read_faults_of self.old) }
-        ensures cause { HasCause (read_faults_of self.old) (read_faults_of self.new)
+        ensures cause { HasCause (Unit {0}) (read_faults_of self.old) (read_faults_of self.new)
             (IsErrOf result StoreFault.Failed) }
         ensures write_faults { write_faults_of self.new ≡ write_faults_of self.old }
     {
@@ -94,7 +82,7 @@ impl Store for MemoryStore {
         ensures calls { CountsCall (calls_of self.old) (calls_of self.new) }
         ensures write_faults { write_faults_of self.new
             ≡ count_after (is_err result) (write_faults_of self.old) }
-        ensures cause { HasCause (write_faults_of self.old) (write_faults_of self.new) (IsErr result) }
+        ensures cause { HasCause (Unit {0}) (write_faults_of self.old) (write_faults_of self.new) (IsErr result) }
         ensures read_faults { read_faults_of self.new ≡ read_faults_of self.old }
     {
         if self.calls.next_fails() || put(self.alloc, &mut self.files, name, bytes).is_err() {

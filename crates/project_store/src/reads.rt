@@ -3,6 +3,7 @@ ghost use Rattle.std.specs.Prelude.{◌≡◌, map, IfOk, IsErrOf, MatchResult};
 ghost use Rattle.text_edits.specs.Files.{plain_file, plain_files};
 ghost use Rattle.project_file.specs.View.{Why, project_view};
 ghost use Rattle.project_store.specs.Faults.{HasCause};
+ghost use Rattle.project_store.specs.States.{IsReadAlone, IsAbsent};
 ghost use Rattle.project_store.specs.Reads as spec;
 
 use crate::store::{Store, StoreFault};
@@ -28,10 +29,10 @@ pub fn read_project<S: Store>(
     name: &str,
 ) -> Result<Project, ProjectError>
     ensures project { MatchResult result
-        (λ project. spec.SaysProject (S.tells store.old) (S.file store.old) name.now (project_view project))
-        (Why (spec.HasFault (S.tells store.old) (S.file store.old) name.now) (spec.IsAbsent (S.tells_room store.old) (S.file store.old) name.now)) }
-    ensures cause { HasCause (S.read_faults store.old) (S.read_faults store.new) (IsErrOf result ProjectError.Read) }
-    ensures kept { spec.IsReadAlone S.tells S.file S.read_faults S.write_faults S.tells_room S.names_left S.bytes_left store.old store.new }
+        (λ project. spec.SaysProject (S.state store.old) name.now (project_view project))
+        (Why (spec.HasFault (S.state store.old) name.now) (IsAbsent (S.state store.old) name.now)) }
+    ensures cause { HasCause (S.state store.old).exact (S.state store.old).read_faults (S.state store.new).read_faults (IsErrOf result ProjectError.Read) }
+    ensures kept { IsReadAlone (S.state store.old) (S.state store.new) }
 {
     match store.read(alloc, name) {
         Ok(bytes) => {
@@ -53,17 +54,17 @@ fn source_of(alloc: Global, name: &str, bytes: Vec<u8>) -> Result<SourceFile, Pr
     Ok(SourceFile { name, bytes })
 }
 
-/// The file with the name.
-fn read_source<S: Store>(
+/// The file with the name. `Size` comes where it is too long, and `Read` only where the count of read faults rose.
+pub fn read_file<S: Store>(
     alloc: Global,
     store: &mut S,
     name: &str,
 ) -> Result<SourceFile, ProjectError>
     ensures source { MatchResult result
-        (λ file. spec.IsSource (S.tells store.old) (S.file store.old) name.now (plain_file file))
-        (Why (spec.IsLong (S.tells store.old) (S.file store.old) name.now) (spec.IsAbsent (S.tells_room store.old) (S.file store.old) name.now)) }
-    ensures cause { HasCause (S.read_faults store.old) (S.read_faults store.new) (IsErrOf result ProjectError.Read) }
-    ensures kept { spec.IsReadAlone S.tells S.file S.read_faults S.write_faults S.tells_room S.names_left S.bytes_left store.old store.new }
+        (λ file. spec.IsSource (S.state store.old) name.now (plain_file file))
+        (Why (spec.IsLong (S.state store.old) name.now) (IsAbsent (S.state store.old) name.now)) }
+    ensures cause { HasCause (S.state store.old).exact (S.state store.old).read_faults (S.state store.new).read_faults (IsErrOf result ProjectError.Read) }
+    ensures kept { IsReadAlone (S.state store.old) (S.state store.new) }
 {
     match store.read(alloc, name) {
         Ok(bytes) => {
@@ -95,31 +96,32 @@ fn read_all<S: Store>(
     names: &[&str],
 ) -> Result<Vec<SourceFile>, ProjectError>
     ensures read { MatchResult result
-        (λ list. spec.AreFilesOf (S.tells store.old) (S.file store.old) (map (λ name. name.now) names.now) (map plain_file list.items))
-        (Why (spec.IsTooLong (S.tells store.old) (S.file store.old) (map (λ name. name.now) names.now)) (spec.HasAbsent (S.tells_room store.old) (S.file store.old) (map (λ name. name.now) names.now))) }
-    ensures cause { HasCause (S.read_faults store.old) (S.read_faults store.new) (IsErrOf result ProjectError.Read) }
-    ensures kept { spec.IsReadAlone S.tells S.file S.read_faults S.write_faults S.tells_room S.names_left S.bytes_left store.old store.new }
+        (λ list. spec.AreFilesOf (S.state store.old) (map (λ name. name.now) names.now) (map plain_file list.items))
+        (Why (spec.IsTooLong (S.state store.old) (map (λ name. name.now) names.now)) (spec.HasAbsent (S.state store.old) (map (λ name. name.now) names.now))) }
+    ensures cause { HasCause (S.state store.old).exact (S.state store.old).read_faults (S.state store.new).read_faults (IsErrOf result ProjectError.Read) }
+    ensures kept { IsReadAlone (S.state store.old) (S.state store.new) }
 {
     let mut list = Vec::new(alloc);
     for name in names {
-        let file = read_source(alloc, store, name)?;
+        let file = read_file(alloc, store, name)?;
         list.push(file)?;
     }
     Ok(list)
 }
 
 /// The files of the project: its headers, and then those of its units, each read once in this order. `Size` names the first
-/// that is too long, `Read` comes only where the count of read faults rose, and no other error but `Memory` comes.
+/// that is too long where those before it are read, `Read` comes only where the count of read faults rose, and no other error but
+/// `Memory` comes.
 pub fn read_files<S: Store>(
     alloc: Global,
     store: &mut S,
     project: &Project,
 ) -> Result<Files, ProjectError>
     ensures files { MatchResult result
-        (λ files. spec.AreFilesOf (S.tells store.old) (S.file store.old) (spec.names_of (project_view project.now)) (plain_files files))
-        (Why (spec.IsTooLong (S.tells store.old) (S.file store.old) (spec.names_of (project_view project.now))) (spec.HasAbsent (S.tells_room store.old) (S.file store.old) (spec.names_of (project_view project.now)))) }
-    ensures cause { HasCause (S.read_faults store.old) (S.read_faults store.new) (IsErrOf result ProjectError.Read) }
-    ensures kept { spec.IsReadAlone S.tells S.file S.read_faults S.write_faults S.tells_room S.names_left S.bytes_left store.old store.new }
+        (λ files. spec.AreFilesOf (S.state store.old) (spec.names_of (project_view project.now)) (plain_files files))
+        (Why (spec.IsTooLong (S.state store.old) (spec.names_of (project_view project.now))) (spec.HasAbsent (S.state store.old) (spec.names_of (project_view project.now)))) }
+    ensures cause { HasCause (S.state store.old).exact (S.state store.old).read_faults (S.state store.new).read_faults (IsErrOf result ProjectError.Read) }
+    ensures kept { IsReadAlone (S.state store.old) (S.state store.new) }
 {
     let names = file_names(alloc, project)?;
     let list = read_all(alloc, store, &names)?;

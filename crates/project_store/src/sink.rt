@@ -1,5 +1,6 @@
-ghost use Rattle.std.specs.Prelude.{◌≡◌, ℕ, ◌+◌, ◌≤◌, ◌<◌, List, ◌++◌, length, take, min, IfOk, OnErr};
+ghost use Rattle.std.specs.Prelude.{◌≡◌, ◌+◌, ◌≤◌, ◌<◌, ◌++◌, length, take, min, IfOk, OnErr};
 ghost use Rattle.project_store.specs.Faults.{HasCause};
+ghost use Rattle.project_store.specs.States.{SinkState};
 
 /// A piece wasn't taken.
 #[derive(Clone, Copy, Debug, PartialEq, Eq)]
@@ -13,41 +14,31 @@ pub struct SinkFailed;
 pub trait Sink {
     ghost use Rattle.project_store.specs.Sink.{IsFault};
 
-    /// Holds where the sink tells what it took.
-    ghost tells: { Self → Type 0 };
-
-    /// The bytes taken so far, where told.
-    ghost taken: { Self → List ℕ };
-
-    /// How many calls failed. The count stands still at the end of `u64`.
-    ghost faults: { Self → ℕ };
-
-    /// Holds where the sink tells its room.
-    ghost tells_room: { Self → Type 0 };
-
-    /// How many further bytes the sink takes, where it tells its room.
-    ghost room: { Self → ℕ };
+    /// What the sink tells and counts.
+    ghost state: { Self → SinkState };
 
     /// Takes a front of the piece, and says how many bytes that were.
     fn write(&mut self, bytes: &[u8]) -> Result<usize, SinkFailed>
         ensures count { IfOk result (λ n. n ≤ length bytes.now) }
         ensures ok { IfOk result
-            (λ n. tells self.old → taken self.new ≡ taken self.old ++ take n bytes.now) }
-        ensures err { OnErr result (tells self.old → taken self.new ≡ taken self.old) }
-        ensures told { tells self.old → tells self.new }
+            (λ n. (state self.old).tells → (state self.new).taken ≡ (state self.old).taken ++ take n bytes.now) }
+        ensures err { OnErr result ((state self.old).tells → (state self.new).taken ≡ (state self.old).taken) }
+        ensures told { (state self.old).tells → (state self.new).tells }
+        ensures exact { (state self.old).exact → (state self.new).exact }
 
         // To take none of a piece that isn't empty is a fault too.
-        ensures cause { HasCause (faults self.old) (faults self.new) (IsFault result bytes.now) }
+        ensures cause { HasCause (state self.old).exact (state self.old).faults (state self.new).faults (IsFault result bytes.now) }
 
         // A sink that tells its room takes the longest front that fits, and fails only where not
         // even one byte does.
         ensures fits { IfOk result
-            (λ n. tells_room self.old → n ≡ min (length bytes.now) (room self.old)) }
-        ensures room { IfOk result (λ n. tells_room self.old → room self.new + n ≡ room self.old) }
-        ensures full { OnErr result (tells_room self.old → room self.old ≡ 0) }
-        ensures full_for_some { OnErr result (tells_room self.old → 0 < length bytes.now) }
-        ensures room_told { tells_room self.old → tells_room self.new };
+            (λ n. (state self.old).tells_room → n ≡ min (length bytes.now) (state self.old).room) }
+        ensures room { IfOk result
+            (λ n. (state self.old).tells_room → (state self.new).room + n ≡ (state self.old).room) }
+        ensures full { OnErr result ((state self.old).tells_room → (state self.old).room ≡ 0) }
+        ensures full_for_some { OnErr result ((state self.old).tells_room → 0 < length bytes.now) }
+        ensures room_told { (state self.old).tells_room → (state self.new).tells_room };
 
     /// A sink that tells its room tells what it took.
-    ghost room_is_told: { (sink : Self) → tells_room sink → tells sink };
+    ghost room_is_told: { (sink : Self) → (state sink).tells_room → (state sink).tells };
 }

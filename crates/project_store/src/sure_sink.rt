@@ -52,17 +52,9 @@ impl SureSink {
 
 impl Sink for SureSink {
     ghost use Rattle.project_store.specs.Sink.{IsFault};
-    ghost use Rattle.project_store.specs.SureSink.{taken_by, room_of, faults_of};
+    ghost use Rattle.project_store.specs.SureSink.{taken_by, state_of, room_of, faults_of};
 
-    ghost tells = { λ _. Unit {0} };
-
-    ghost taken = { taken_by };
-
-    ghost faults = { faults_of };
-
-    ghost tells_room = { λ _. Unit {0} };
-
-    ghost room = { room_of };
+    ghost state = { state_of };
 
     fn write(&mut self, bytes: &[u8]) -> Result<usize, SinkFailed>
         ensures fails { IsErr result ↔ ((room_of self.old ≡ 0) × (0 < length bytes.now)) }
@@ -72,7 +64,7 @@ impl Sink for SureSink {
         ensures err { OnErr result (taken_by self.new ≡ taken_by self.old) }
         ensures err_room { OnErr result (room_of self.new ≡ room_of self.old) }
         ensures faults { faults_of self.new ≡ count_after (is_err result) (faults_of self.old) }
-        ensures cause { HasCause (faults_of self.old) (faults_of self.new) (IsFault result bytes.now) }
+        ensures cause { HasCause (Unit {0}) (faults_of self.old) (faults_of self.new) (IsFault result bytes.now) }
     {
         if self.room == 0 && !bytes.is_empty() {
             self.faults = self.faults.saturating_add(1);

@@ -63,21 +63,9 @@ impl SureStore {
 }
 
 impl Store for SureStore {
-    ghost use Rattle.project_store.specs.SureStore.{held, names_left_of, bytes_left_of, read_faults_of, write_faults_of};
+    ghost use Rattle.project_store.specs.SureStore.{held, state_of, names_left_of, bytes_left_of, read_faults_of, write_faults_of};
 
-    ghost tells = { λ _. Unit {0} };
-
-    ghost file = { held };
-
-    ghost read_faults = { read_faults_of };
-
-    ghost write_faults = { write_faults_of };
-
-    ghost tells_room = { λ _. Unit {0} };
-
-    ghost names_left = { names_left_of };
-
-    ghost bytes_left = { bytes_left_of };
+    ghost state = { state_of };
 
     fn read(&mut self, alloc: Global, name: &str) -> Result<Vec<u8>, StoreFault>
         ensures fails { IsErrOf result StoreFault.Failed ↔ (held self.old name.now ≡ None) }
@@ -87,7 +75,7 @@ impl Store for SureStore {
         ensures room { bytes_left_of self.new ≡ bytes_left_of self.old }
         ensures read_faults { read_faults_of self.new
             ≡ count_after (is_failed result) (read_faults_of self.old) }
-        ensures cause { HasCause (read_faults_of self.old) (read_faults_of self.new)
+        ensures cause { HasCause (Unit {0}) (read_faults_of self.old) (read_faults_of self.new)
             (IsErrOf result StoreFault.Failed) }
         ensures write_faults { write_faults_of self.new ≡ write_faults_of self.old }
     {
@@ -114,7 +102,7 @@ impl Store for SureStore {
         ensures err_room { OnErr result (bytes_left_of self.new ≡ bytes_left_of self.old) }
         ensures write_faults { write_faults_of self.new
             ≡ count_after (is_err result) (write_faults_of self.old) }
-        ensures cause { HasCause (write_faults_of self.old) (write_faults_of self.new) (IsErr result) }
+        ensures cause { HasCause (Unit {0}) (write_faults_of self.old) (write_faults_of self.new) (IsErr result) }
         ensures read_faults { read_faults_of self.new ≡ read_faults_of self.old }
     {
         let names = self.names_for(name);

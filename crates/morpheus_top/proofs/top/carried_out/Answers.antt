@@ -1,15 +1,23 @@
-use Rattle.std.proofs.Common.{subst}
-use Rattle.morpheus_top.specs.Quick.{AsksFor}
+use Rattle.std.proofs.Common.{map, sym, subst}
+use Rattle.std.specs.String.{string_bytes}
+use Rattle.command_promises.specs.Sayings.{CameTo}
+use Rattle.command_promises.specs.Commands.{CourseFor}
+use Rattle.morpheus_top.specs.declared.commands.Which.{Which}
+use Rattle.morpheus_top.specs.Commands.{commands}
 use Rattle.morpheus_top.proofs.top.carried_out.Goals as goal
 
-pub returns-in-Quick : goal.returns-in-Quick
-returns-in-Quick g c = λ words a. c.quick.ensures words (subst (AsksFor words) c.in-Quick.is a)
+pub returns-in-Quick-clause-came : goal.returns-in-Quick-clause-came
+returns-in-Quick-clause-came g c =
+    subst (λ (which : Which). CameTo (CourseFor (commands which) (map string_bytes c.args.further.now)) (g.S.Store.state c.args.store.now) c.quick.result) (sym c.in-Quick.is) c.quick.ensures.came
 
-pub returns-in-Admit : goal.returns-in-Admit
-returns-in-Admit g c = λ words a. c.admit.ensures words (subst (AsksFor words) c.in-Admit.is a)
+pub returns-in-Admit-clause-came : goal.returns-in-Admit-clause-came
+returns-in-Admit-clause-came g c =
+    subst (λ (which : Which). CameTo (CourseFor (commands which) (map string_bytes c.args.further.now)) (g.S.Store.state c.args.store.now) c.admit.result) (sym c.in-Admit.is) c.admit.ensures.came
 
-pub returns-in-Tokens : goal.returns-in-Tokens
-returns-in-Tokens g c = λ words a. c.tokens.ensures words (subst (AsksFor words) c.in-Tokens.is a)
+pub returns-in-Tokens-clause-came : goal.returns-in-Tokens-clause-came
+returns-in-Tokens-clause-came g c =
+    subst (λ (which : Which). CameTo (CourseFor (commands which) (map string_bytes c.args.further.now)) (g.S.Store.state c.args.store.now) c.tokens.result) (sym c.in-Tokens.is) c.tokens.ensures.came
 
-pub returns-in-Run : goal.returns-in-Run
-returns-in-Run g c = λ words a. c.run.ensures words (subst (AsksFor words) c.in-Run.is a)
+pub returns-in-Run-clause-came : goal.returns-in-Run-clause-came
+returns-in-Run-clause-came g c =
+    subst (λ (which : Which). CameTo (CourseFor (commands which) (map string_bytes c.args.further.now)) (g.S.Store.state c.args.store.now) c.run.result) (sym c.in-Run.is) c.run.ensures.came

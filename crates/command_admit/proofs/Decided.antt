@@ -1,0 +1,93 @@
+-- One least configuration, and one thing that is said of it.
+use Rattle.std.proofs.Common.{◌≡◌, ◌⊎◌, inl, inr, ℕ, ◌<◌, ◌≤◌, Bool, true, false, List, [], ◌∷◌, length, refl, sym, ◌∙◌, ap, subst, arith, IsTrue, codes}
+use Rattle.std.proofs.lemmas.Bool.{cases_lt}
+use mathlib.Core.Path.{fun_ext}
+use Rattle.text_edits.specs.Files.{PlainFile}
+use Rattle.cond_formula.specs.Features.{has}
+use Rattle.cond_formula.specs.Conditions.{Condition, value}
+use Rattle.sat_core.specs.Models.{IsLess, AreSame, IsLeastModel, HasNoModel}
+use Rattle.project_file.specs.Projects.{PlainProject, names_on}
+use Rattle.project_file.specs.Faults.{Fault}
+use Rattle.project_file.specs.Laws.{Alike}
+use Rattle.command_promises.specs.Courses.{Saying, Deed, says, Agree, IsDecided}
+use Rattle.command_promises.specs.Commands.{IsFit, IsDecidedCommand}
+use Rattle.command_promises.proofs.Fitting.{tells_fits}
+use Rattle.command_projects.specs.Faults.{bad_project}
+use Rattle.command_projects.proofs.Decided.{ProjectLaws, project_decided, project_says}
+use Rattle.command_admit.specs.Admit.{Asks, admits, admits_nothing, OfProject, Does, admit}
+
+apart : (a b : Bool) → a ≡ false → b ≡ true → a ≡ b → ⊥
+apart a b p q e = let f : ◌≡◌ {A = Bool} false true = sym p ∙ (e ∙ q) in absurd cc
+
+-- neither is less where each is least
+not_less_both : (features : ℕ) (on other : ℕ → Bool) → IsLess features on other → IsLess features other on → ⊥
+not_less_both features on other h k =
+    elim (cases_lt h.first k.first) [
+      | inl less ↦ apart (on h.first) (other h.first) h.off h.other_on (sym (k.same_before h.first less))
+      | inr more ↦ elim (cases_lt k.first h.first) [
+        | inl less ↦ apart (other k.first) (on k.first) k.off k.other_on (sym (h.same_before k.first less))
+        | inr most ↦ let same : h.first ≡ k.first = omega (arith, more, most) in apart (other k.first) (other h.first) k.off h.other_on (ap other (sym same))
+      ]
+    ]
+
+same_or_same : (features : ℕ) (on other : ℕ → Bool) → AreSame features on other ⊎ IsLess features on other → AreSame features other on ⊎ IsLess features other on → (number : ℕ) → number < features → on number ≡ other number
+same_or_same features on other (inl h) k number less = h.same number less
+same_or_same features on other (inr h) (inl k) number less = sym (k.same number less)
+same_or_same features on other (inr h) (inr k) number less = absurd (not_less_both features on other h k)
+
+-- conditions of one value have one least model
+one_least : (features : ℕ) (x y : Condition) (a b : List Bool) → ((on : ℕ → Bool) → value on x ≡ value on y) → IsLeastModel features x a → IsLeastModel features y b → has a ≡ has b
+one_least features x y a b same h k = fun_ext (λ number. by number (cases_lt number features))
+  where
+    b_holds : IsTrue (value (has b) x)
+    b_holds = subst IsTrue (sym (same (has b))) k.holds
+
+    a_holds : IsTrue (value (has a) y)
+    a_holds = subst IsTrue (same (has a)) h.holds
+
+    by : (number : ℕ) → (number < features) ⊎ (features ≤ number) → has a number ≡ has b number
+    by number (inl less) = same_or_same features (has a) (has b) (h.least (has b) b_holds) (k.least (has a) a_holds) number less
+    by number (inr more) = h.within number more ∙ sym (k.within number more)
+
+never_both : (x y : Condition) (features : ℕ) (a : List Bool) → ((on : ℕ → Bool) → value on x ≡ value on y) → IsLeastModel features x a → HasNoModel y → ⊥
+never_both x y features a same h none =
+    let off : value (has a) x ≡ false = same (has a) ∙ none (has a) in
+    let on : value (has a) x ≡ true = h.holds in
+    let f : ◌≡◌ {A = Bool} false true = sym off ∙ on in absurd cc
+
+agree : (a b : PlainProject) → Alike a b → Agree (OfProject a) (OfProject b)
+agree a b alike files c d (inl h) (inl k) =
+    let moved : IsLeastModel (length a.features) b.model k.0 = subst (λ (names : List (List ℕ)). IsLeastModel (length names) b.model k.0) (sym alike.features) k.1 in
+    let on : has h.0 ≡ has k.0 = one_least (length a.features) a.model b.model h.0 k.0 alike.model h.1 moved in
+    h.2 ∙ (ap (λ on. says (admits (names_on on a.features))) on ∙ (ap (λ names. says (admits (names_on (has k.0) names))) alike.features ∙ sym k.2))
+agree a b alike files c d (inl h) (inr k) = absurd (never_both a.model b.model (length a.features) h.0 alike.model h.1 k.0)
+agree a b alike files c d (inr h) (inl k) = absurd (never_both b.model a.model (length b.features) k.0 (λ on. sym (alike.model on)) k.1 h.0)
+agree a b alike files c d (inr h) (inr k) = h.1 ∙ sym k.1
+
+one_query : (further : List (List ℕ)) (m n : List ℕ) → Asks further m → Asks further n → m ≡ n
+one_query further m n a b = let e : m ∷ [] ≡ n ∷ [] = sym a.words_are ∙ b.words_are in cc
+
+one_saying : (x y : Saying) → says x ≡ says y → x ≡ y
+one_saying x y e = cc
+
+admits_fits : (names : List (List ℕ)) → IsFit admit (admits names)
+admits_fits names = tells_fits admit 0 (admits names).report (0, omega arith, refl) (inl (omega arith))
+
+nothing_fits : IsFit admit admits_nothing
+nothing_fits = tells_fits admit 0 admits_nothing.report (0, omega arith, refl) (inl (omega arith))
+
+fault_fits : (fault : Fault) → IsFit admit (bad_project fault)
+fault_fits fault = tells_fits admit 5 (bad_project fault).report (1, omega arith, refl) (inr (inl refl))
+
+project_fits : (project : PlainProject) (files : List PlainFile) (what : Saying) → OfProject project files (says what) → IsFit admit what
+project_fits project files what (inl h) =
+    let x = admits (names_on (has h.0) project.features) in
+    subst (IsFit admit) (sym (one_saying what x h.2)) (admits_fits (names_on (has h.0) project.features))
+project_fits project files what (inr h) = subst (IsFit admit) (sym (one_saying what admits_nothing h.1)) nothing_fits
+
+pub decided : ProjectLaws → IsDecidedCommand admit
+decided laws = record {
+  one_query = one_query;
+  one_deed = λ name. project_decided laws name OfProject agree;
+  fits = λ name. project_says (IsFit admit) fault_fits name OfProject project_fits;
+}

@@ -1,0 +1,104 @@
+ghost use Rattle.std.specs.Prelude.{◌≡◌, ◌≤◌, ◌++◌, length, codes, map, IfOk, IsErrOf};
+ghost use Rattle.std.specs.String.{string_bytes};
+ghost use Rattle.cond_formula.specs.Features.{has};
+ghost use Rattle.cond_formula.specs.Conditions.{VarsBelow};
+ghost use Rattle.sat_core.specs.Models.{IsLeastModel};
+ghost use Rattle.feature_model.specs.ModelView.{admitted};
+ghost use Rattle.project_file.specs.Projects.{names_on};
+ghost use Rattle.project_file.specs.View.{project_view};
+ghost use Rattle.project_store.specs.Faults.{HasCause};
+ghost use Rattle.project_store.specs.States.{IsReadAlone};
+ghost use Rattle.command_promises.specs.Sayings.{saying, SaysOrEnds, CameTo};
+ghost use Rattle.command_promises.specs.Commands.{CourseFor};
+ghost use Rattle.command_admit.specs.Admit as spec;
+
+use crate::words::asked_project;
+use command_projects::without_project;
+use command_promises::{Said, Stop, usage};
+use cond_formula::Config;
+use project_store::{Project, Store, read_project};
+use sat_core::{Answer, solve};
+use std::alloc::{AllocError, Global};
+
+/// The names of the features that are on.
+fn names_on(alloc: Global, features: &[String], c: Config) -> Result<Vec<String>, AllocError>
+    requires { length features.now ≤ 128 }
+    ensures { IfOk result (λ names. map string_bytes names.items ≡ names_on (has c) (map string_bytes features.now)) }
+{
+    let mut names = Vec::new(alloc);
+    for (number, feature) in features.iter().enumerate() {
+        if c.has(number as u8) {
+            names.push(feature.clone()?)?;
+        }
+    }
+    Ok(names)
+}
+
+/// The names with commas between them.
+fn listed(alloc: Global, names: &[String]) -> Result<String, AllocError>
+    ensures { IfOk result (λ text. string_bytes text ≡ spec.listed (map string_bytes names.now)) }
+{
+    if names.is_empty() {
+        return String::from_str(alloc, "-");
+    }
+    names.join(alloc, ",")
+}
+
+/// The configuration is the least.
+fn admits(alloc: Global, project: &Project, c: Config) -> Result<Said, AllocError>
+    requires few { length project.now.features.items ≤ 128 }
+    ensures { IfOk result (λ said. saying said ≡ spec.admits (names_on (has c) (project_view project.now).features)) }
+{
+    let names = names_on(alloc, &project.features, c)?;
+    let names = listed(alloc, &names)?;
+    let text = format!(in alloc; "admits {names}\n")?;
+    let said = Said::tells(alloc, 0, text.as_str())?;
+    Ok(said)
+}
+
+/// Finds the least configuration that the project admits.
+fn least_of(alloc: Global, project: &Project) -> Result<Said, Stop>
+    requires few { length project.now.features.items ≤ 128 }
+    requires below { VarsBelow (length project.now.features.items) (admitted project.now.model) }
+    ensures { SaysOrEnds (spec.OfProject (project_view project.now)) result }
+{
+    let features = project.features.len() as u8;
+    match solve(alloc, project.model.formula(), features) {
+        Answer::Sat(c) => {
+            let said = admits(alloc, project, c)?;
+            Ok(said)
+        }
+        Answer::Unsat(_) => {
+            let said = Said::tells(alloc, 0, "admits nothing\n")?;
+            Ok(said)
+        }
+        Answer::Memory => Err(Stop::WantOfMemory),
+    }
+}
+
+/// Reads the project, and finds the least configuration that it admits.
+fn of_file<S: Store>(alloc: Global, name: &str, store: &mut S) -> Result<Said, Stop>
+    ensures came { CameTo (spec.Does name.now) (S.state store.old) result }
+    ensures cause { HasCause (S.state store.old).exact (S.state store.old).read_faults (S.state store.new).read_faults (IsErrOf result Stop.ReadFault) }
+    ensures kept { IsReadAlone (S.state store.old) (S.state store.new) }
+{
+    match read_project(alloc, store, name) {
+        Ok(project) => least_of(alloc, &project),
+        Err(error) => without_project(alloc, error),
+    }
+}
+
+/// Carries out `admit` with its further words: reads the project, and finds the least configuration that it admits.
+pub fn admit<S: Store>(alloc: Global, words: &[String], store: &mut S) -> Result<Said, Stop>
+    ensures came { CameTo (CourseFor spec.admit (map string_bytes words.now)) (S.state store.old) result }
+    ensures cause { HasCause (S.state store.old).exact (S.state store.old).read_faults (S.state store.new).read_faults (IsErrOf result Stop.ReadFault) }
+    ensures kept { IsReadAlone (S.state store.old) (S.state store.new) }
+{
+    match asked_project(words) {
+        Some(name) => of_file(alloc, name, store),
+        None => {
+            let said = usage(alloc)?;
+            Ok(said)
+        }
+    }
+}

@@ -1,0 +1,4 @@
+pub mod Names
+pub mod Products
+pub mod Faults
+pub mod Projects

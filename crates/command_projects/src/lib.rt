@@ -1,0 +1,11 @@
+//! What the commands on a project share: its name and those of features, a configuration by names, the reading of the project
+//! and its files, and the report of a fault.
+#![tactic(auto)]
+
+mod faults;
+mod names;
+mod products;
+
+pub use faults::without_project;
+pub use names::{are_lawful, has_repetition, is_project_name, names_in};
+pub use products::{are_features, configuration};

@@ -1,0 +1,4 @@
+pub mod Folders
+pub mod Decided
+pub mod Behaviour
+pub mod Reading

@@ -1,0 +1,4 @@
+pub mod Words
+pub mod Quick
+pub mod Behaviour
+pub mod Steps

@@ -1,0 +1,6 @@
+use Rattle.command_projects.proofs.Decided.{laws_of}
+use Rattle.command_tokens.proofs.Decided.{decided}
+use Rattle.command_tokens.proofs.tokens_are_decided.Goals as goal
+
+pub returns : goal.returns
+returns c = decided (laws_of c.projects_have_no_fault.ensures c.first_fault_is_one.ensures c.projects_are_alike.ensures) c.outcomes_are_one.ensures

@@ -1,6 +1,0 @@
-use Rattle.std.proofs.Common.{◌∙◌, sym}
-use Rattle.morpheus_top.proofs.AdmitLemmas.{joined_ok}
-use Rattle.morpheus_top.proofs.replies.listed.Goals as goal
-
-pub returns : goal.returns
-returns c = joined_ok c.args.names.now c.join.result (sym c.is_empty.ensures ∙ c.if-is_empty.false) c.join.ensures.ok
