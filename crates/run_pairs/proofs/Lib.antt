@@ -1,0 +1,14 @@
+pub mod Pieces
+pub mod MemoryPairs
+pub mod Operations
+pub mod Calls
+pub mod Expressions
+pub mod Statements
+pub mod Starts
+pub mod Jobs
+pub mod Private
+pub mod Embedding
+pub mod Extractions
+pub mod Headline
+pub mod WorkedPair
+pub mod WrongPairs

@@ -1,0 +1,6 @@
+pub mod Correspondences
+pub mod Alike
+pub mod Starts
+pub mod Extraction
+pub mod Laws
+pub mod WorkedPairs

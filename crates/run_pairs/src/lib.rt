@@ -1,0 +1,33 @@
+//! Corresponding runs of core programs: what an extraction, an inlining and a renaming keep of them (ISO/IEC 9899:2011, 5.1.2.3,
+//! 6.2.4, 6.5.2.2). The relations are definitions, in `specs/`; the laws are the contracts of functions without a body.
+#![tactic(auto)]
+
+ghost use Rattle.run_pairs.specs.Laws.{ExtractionRuns, RenamingRuns};
+ghost use Rattle.run_pairs.specs.WorkedPairs.{WorkedPair, WorkedInlining, WrongPairs};
+
+/// An extraction keeps what runs do: the original's run to n is reached by the result's to 2n + 1, and the result's to n by
+/// the original's to n.
+pub fn extraction_runs()
+    ensures { ExtractionRuns }
+{}
+
+/// So does a renaming, which leaves the core program as it is.
+pub fn renaming_runs()
+    ensures { RenamingRuns }
+{}
+
+/// A pair by hand is an extraction.
+pub fn worked_pair()
+    ensures { WorkedPair }
+{}
+
+/// A pair by hand, in which a call is inlined, keeps its runs for every input and bound.
+pub fn worked_inlining()
+    ensures { WorkedInlining }
+{}
+
+/// Pairs that look like an extraction or an inlining and aren't: a written variable that is passed by value, a parameter that
+/// shadows a global, an argument that is put at each use, and a body with an early `return`.
+pub fn wrong_pairs()
+    ensures { WrongPairs }
+{}
