@@ -23,6 +23,7 @@ use Rattle.c_types.specs.Compatible.{Agree, Compatible, PairAgrees}
 use Rattle.core_meaning.specs.declared.program.BuiltIn.{BuiltIn}
 use Rattle.core_meaning.specs.declared.program.BuiltIn.TheVariants.{Putchar, Getchar, Puts, Exit}
 use Rattle.core_meaning.specs.Entities.{Sort, function, tags_of}
+use Rattle.core_meaning.proofs.NameOrder.{lesser_trans, lesser_not_itself}
 use Rattle.plain_scope.specs.declared.entities.FileName.{FileName}
 use Rattle.plain_scope.specs.declared.entities.Struct.{Struct}
 use Rattle.plain_scope.specs.PlainScope.{plain_file_name, plain_struct, entry_of}
@@ -35,43 +36,6 @@ use Rattle.plain_scope.specs.declared.errors.ElabError.TheVariants.{BadType, Lin
 use Rattle.plain_link.specs.Faults.{IsIn, Finds, least_from, least_of, RefusedLeast, IsLeast, IsLeastFault, NotLinked, undefined_in, undefined_names, not_available, duplicate_in, duplicate_names, Adds, Collects, AllOf, FitsSort, IsFitting, FitsHere, IsApartHere, IsApartOf, IsApartAmong, IsApartFrom, AreApartIn, AreApartNamed}
 
 -- ---- the order of names
-
-lesser_cases : (a b : ℕ) (t : Bool) → (nat_lt a b || (a == b && t)) ≡ true → (a < b) ⊎ ((a ≡ b) × (t ≡ true))
-lesser_cases a b true h = grind (arith, nat_tests)
-lesser_cases a b false h = grind (arith, nat_tests)
-
-lesser_first : (a b : ℕ) (t : Bool) → a < b → (nat_lt a b || (a == b && t)) ≡ true
-lesser_first a b t h = grind (arith, nat_tests)
-
-lesser_rest : (a b : ℕ) (t : Bool) → a ≡ b → t ≡ true → (nat_lt a b || (a == b && t)) ≡ true
-lesser_rest a b true e h = grind (arith, nat_tests)
-lesser_rest a b false e h = absurd cc
-
-lesser_trans : (a b c : List ℕ) → is_lesser a b ≡ true → is_lesser b c ≡ true → is_lesser a c ≡ true
-lesser_trans [] [] c h k = absurd cc
-lesser_trans [] (b ∷ bs) [] h k = absurd cc
-lesser_trans [] (b ∷ bs) (c ∷ cs) h k = refl
-lesser_trans (a ∷ as_) [] c h k = absurd cc
-lesser_trans (a ∷ as_) (b ∷ bs) [] h k = absurd cc
-lesser_trans (a ∷ as_) (b ∷ bs) (c ∷ cs) h k =
-    ⊎_elim
-    (λ (p : a < b). ⊎_elim
-    (λ (q : b < c). lesser_first a c (is_lesser as_ cs) (omega arith))
-    (λ (q : (b ≡ c) × (is_lesser bs cs ≡ true)). lesser_first a c (is_lesser as_ cs) (omega (arith, q.0)))
-    (lesser_cases b c (is_lesser bs cs) k))
-    (λ (p : (a ≡ b) × (is_lesser as_ bs ≡ true)). ⊎_elim
-    (λ (q : b < c). lesser_first a c (is_lesser as_ cs) (omega (arith, p.0)))
-    (λ (q : (b ≡ c) × (is_lesser bs cs ≡ true)). lesser_rest a c (is_lesser as_ cs) (p.0 ∙ q.0) (lesser_trans as_ bs cs p.1 q.1))
-    (lesser_cases b c (is_lesser bs cs) k))
-    (lesser_cases a b (is_lesser as_ bs) h)
-
-lesser_not_itself : (a : List ℕ) → is_lesser a a ≡ true → ⊥
-lesser_not_itself [] h = absurd cc
-lesser_not_itself (a ∷ as_) h =
-    ⊎_elim
-    (λ (p : a < a). absurd (omega arith))
-    (λ (p : (a ≡ a) × (is_lesser as_ as_ ≡ true)). lesser_not_itself as_ p.1)
-    (lesser_cases a a (is_lesser as_ as_) h)
 
 pub lesser_past : (a b : List ℕ) (i : ℕ) → i < length a → length b ≤ i → is_lesser (drop i a) (drop i b) ≡ false
 lesser_past a b i h k = rw (drop-cons a i 0 h, drop_of_length-le b k) refl
