@@ -16,3 +16,4 @@ pub mod Statements
 pub mod PlainLaws
 pub mod UnitNames
 pub mod Linking
+pub mod Judgings
