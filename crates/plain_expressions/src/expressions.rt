@@ -27,8 +27,8 @@ use plain_operands::{
     loaded, logical, of_value, prefixed, selected, stepped, written_place,
 };
 use plain_scope::{
-    ElabError, Scope, Signature, Used, arithmetic_words, copied, first_token, is_void, leaf, parts_of,
-    refused, unless,
+    ElabError, Scope, Signature, Used, arithmetic_words, copied, first_token, is_void, leaf,
+    parts_of, refused, unless,
 };
 use std::alloc::Global;
 
