@@ -17,4 +17,4 @@ abbrev pub plain_callee : Callee → spec.Callee
 plain_callee f = record { name = plain_token f.name.now; signature = plain_signature f.signature.now }
 
 abbrev pub plain_left : Left → steps.Written
-plain_left left = record { ty = plain_type left.ty; place = plain_place left.place.value }
+plain_left left = record { ty = plain_type left.ty.value; place = plain_place left.place.value }

@@ -364,7 +364,7 @@ fn result_of_call<'t>(
     ensures { IfOk result (λ x. plain_operand x ≡ spec.result_of_call (plain_scope scope.now) (plain_callee f.now) (plain_token bracket.now) (plain_arguments given.items)) }
 {
     let core = call_core(alloc, scope, f.name, given)?;
-    let result = copied(alloc, &f.signature.result)?;
+    let result = Box::new(alloc, copied(alloc, &f.signature.result)?)?;
     Ok(of_value(bracket, result, core))
 }
 

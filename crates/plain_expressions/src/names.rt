@@ -31,7 +31,7 @@ fn number_operand(alloc: Global, token: &Token) -> Result<Operand<'_>, ElabError
     let Some(value) = number_value(token.text.as_slice()) else {
         return Err(ElabError::Memory);
     };
-    let ty = type_of_number(token.text.as_slice(), value);
+    let ty = Box::new(alloc, type_of_number(token.text.as_slice(), value))?;
     let core = Box::new(alloc, Expression::Number(i128::from(value)))?;
     let mut operand = of_value(token, ty, core);
     operand.is_null = value == 0;
@@ -44,7 +44,8 @@ fn character_operand(alloc: Global, token: &Token) -> Result<Operand<'_>, ElabEr
 {
     let value = character(alloc, token.text.as_slice())?;
     let core = Box::new(alloc, Expression::Number(value))?;
-    Ok(of_value(token, CType::Int, core))
+    let ty = Box::new(alloc, CType::Int)?;
+    Ok(of_value(token, ty, core))
 }
 
 #[tactic(auto, using(core_meaning::specs::PlainLaws::expression_kinds))]
@@ -55,7 +56,7 @@ fn local_operand<'t>(
 ) -> Result<Operand<'t>, NoMemory>
     ensures { IfOk result (λ x. plain_operand x ≡ typing.of_object (plain_token token.now) (plain_type found.now.ty) (program.slot found.now.slot) true) }
 {
-    let ty = copied(alloc, &found.ty)?;
+    let ty = Box::new(alloc, copied(alloc, &found.ty)?)?;
     let place = Box::new(alloc, Place::Slot(found.slot))?;
     Ok(of_object(token, ty, place, true))
 }
@@ -75,7 +76,7 @@ fn global_operand<'t>(
         .get(token.text.as_slice())
         .copied()
         .unwrap_or(0);
-    let ty = copied(alloc, ty)?;
+    let ty = Box::new(alloc, copied(alloc, ty)?)?;
     let place = Box::new(alloc, Place::Global(number))?;
     Ok(of_object(token, ty, place, true))
 }
@@ -153,6 +154,7 @@ fn literal_operand<'t>(
 {
     let number = scope.literals.get(bytes).copied().unwrap_or(0);
     let ty = CType::Array(Box::new(alloc, CType::Char)?, count);
+    let ty = Box::new(alloc, ty)?;
     let place = Box::new(alloc, Place::Literal(number))?;
     Ok(of_object(token, ty, place, true))
 }

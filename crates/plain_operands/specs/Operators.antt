@@ -16,7 +16,7 @@ use Rattle.plain_operands.specs.declared.assignments.Left.{Left}
 
 -- an object that is written to
 abbrev pub left_operand : PlainToken → Left → Operand
-left_operand token left = of_object token (plain_type left.ty) (plain_place left.place.value) true
+left_operand token left = of_object token (plain_type left.ty.value) (plain_place left.place.value) true
 
 -- the place of it
 abbrev pub left_place : Left → PlainPlace

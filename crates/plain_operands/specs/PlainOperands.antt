@@ -26,11 +26,11 @@ plain_designation (Object place free) = object (plain_place place.value) free
 
 abbrev pub plain_operand : Operand → typing.Operand
 plain_operand x = record {
-  ty = plain_type x.ty;
+  ty = plain_type x.ty.value;
   designates = plain_designation x.designates;
   is_null = x.is_null;
   stands_at = plain_token x.stands_at.now;
 }
 
 abbrev pub plain_typed : Typed → typing.Typed
-plain_typed x = record { ty = plain_type x.ty; core = plain_expression x.core.value; is_null = x.is_null }
+plain_typed x = record { ty = plain_type x.ty.value; core = plain_expression x.core.value; is_null = x.is_null }

@@ -12,13 +12,13 @@ ghost use Rattle.plain_operands.specs.PlainOperands.{plain_operand, plain_typed}
 ghost use Rattle.plain_scope.specs.Judgements.{Answers};
 ghost use Rattle.plain_operands.specs.Operators.{left_operand, left_place, update_by};
 
-use crate::operands::{Designation, Operand, Typed, fitted, of_value, typed_value};
+use crate::operands::{Designation, Operand, Typed, fitted, int, of_value, same, typed_value};
 use crate::operators::{null, operation_on, operator_named};
 use c_text::Token;
 use c_types::{BinaryOp, CType};
 use cond_formula::NoMemory;
 use core_meaning::{Change, Expression, Operation, Place, TypeKind};
-use plain_scope::{ElabError, Scope, copied, integer_type, may_be_assigned, refused, unless};
+use plain_scope::{ElabError, Scope, integer_type, may_be_assigned, refused, unless};
 use std::alloc::Global;
 
 /// The operator of a compound assignment, of `++` or of `--` is its spelling without its last byte.
@@ -31,7 +31,7 @@ fn compound_operator(text: &[u8]) -> Option<BinaryOp>
 /// What an assignment writes to.
 #[derive(Drop)]
 pub struct Left {
-    pub ty: CType,
+    pub ty: Box<CType>,
     pub place: Box<Place>,
 }
 
@@ -44,7 +44,7 @@ fn is_plain_assignment(sign: &Token) -> bool
 /// The place that an assignment operator writes to.
 pub fn assigned_place(operand: Operand, sign: &Token) -> Result<Left, ElabError>
     ensures judged { Answers (spec.assigned_place (plain_operand operand.entry) (plain_token sign.now)) (λ left. plain_place left.place.value) result }
-    ensures typed { IfOk result (λ left. plain_type left.ty ≡ plain_type operand.entry.ty) }
+    ensures typed { IfOk result (λ left. plain_type left.ty.value ≡ plain_type operand.entry.ty.value) }
 {
     let Operand { ty, designates, .. } = operand;
     let Designation::Object(place, true) = designates else {
@@ -57,7 +57,7 @@ pub fn assigned_place(operand: Operand, sign: &Token) -> Result<Left, ElabError>
 /// The same; what an operator changes has a value, so its type is complete.
 pub fn written_place(scope: &Scope, sign: &Token, operand: Operand) -> Result<Left, ElabError>
     ensures judged { Answers (spec.written_place (plain_scope scope.now) (plain_token sign.now) (plain_operand operand.entry)) left_place result }
-    ensures typed { IfOk result (λ left. plain_type left.ty ≡ plain_type operand.entry.ty) }
+    ensures typed { IfOk result (λ left. plain_type left.ty.value ≡ plain_type operand.entry.ty.value) }
 {
     let at = operand.stands_at;
     let left = assigned_place(operand, sign)?;
@@ -104,9 +104,9 @@ fn change_of(
     left: &Left,
     right: &Typed,
 ) -> Result<Option<Change>, NoMemory>
-    ensures { IfOk result (λ c. c ≡ spec.change_by (plain_type left.now.ty) (spec.operation_on (plain_scope scope.now).structs op (typing.typed (plain_type left.now.ty) (program.read (plain_place left.now.place.value))) (plain_typed right.now))) }
+    ensures { IfOk result (λ c. c ≡ spec.change_by (plain_type left.now.ty.value) (spec.operation_on (plain_scope scope.now).structs op (typing.typed (plain_type left.now.ty.value) (program.read (plain_place left.now.place.value))) (plain_typed right.now))) }
 {
-    let ty = copied(alloc, &left.ty)?;
+    let ty = same(alloc, &left.ty)?;
     let value = typed_value(ty, null(alloc)?);
     let o = operation_on(scope, op, &value, right);
     Ok(change_by(&left.ty, o))
@@ -137,7 +137,7 @@ fn one(alloc: Global) -> Result<Typed, NoMemory>
     ensures { IfOk result (λ x. plain_typed x ≡ spec.one) }
 {
     let core = Box::new(alloc, Expression::Number(1))?;
-    Ok(typed_value(CType::Int, core))
+    Ok(typed_value(int(alloc)?, core))
 }
 
 /// `++` and `--`, behind their operand or before it.

@@ -68,10 +68,10 @@ fn number_cast<'t>(
     alloc: Global,
     sign: &'t Token,
     x: Typed,
-    ty: CType,
+    ty: Box<CType>,
 ) -> Result<Operand<'t>, ElabError>
-    requires { spec.is_void (plain_type ty) ≡ false }
-    ensures { Answers (spec.cast_to (plain_token sign.now) (plain_typed x) (plain_type ty)) plain_operand result }
+    requires { spec.is_void (plain_type ty.value) ≡ false }
+    ensures { Answers (spec.cast_to (plain_token sign.now) (plain_typed x) (plain_type ty.value)) plain_operand result }
 {
     unless(is_integer(&x.ty), TypeKind::BadOperand, sign)?;
     let core = conversion(alloc, &ty, x.core)?;
@@ -84,7 +84,8 @@ fn discarded<'t>(alloc: Global, sign: &'t Token, x: Typed) -> Result<Operand<'t>
 {
     let core = unused(alloc, x.core)?;
     let core = Box::new(alloc, Expression::Discard(core))?;
-    Ok(of_value(sign, CType::Void, core))
+    let nothing = Box::new(alloc, CType::Void)?;
+    Ok(of_value(sign, nothing, core))
 }
 
 #[tactic(auto, using(c_types::specs::TypeLaws::type_kinds))]
@@ -100,6 +101,6 @@ pub fn cast_to<'t>(
         let done = discarded(alloc, sign, x)?;
         Ok(done)
     } else {
-        number_cast(alloc, sign, x, ty)
+        number_cast(alloc, sign, x, Box::new(alloc, ty)?)
     }
 }

@@ -1,7 +1,7 @@
 //! Conditions, and the results of `?:` (6.5.15).
 ghost use Rattle.std.specs.Prelude.{◌≡◌, IfOk};
 ghost use Rattle.c_text.specs.Token.{plain_token};
-ghost use Rattle.c_types.specs.Types.{plain_type};
+ghost use Rattle.c_types.specs.Types.{plain_type, void};
 ghost use Rattle.core_meaning.specs.Plain.{plain_expression};
 ghost use Rattle.core_meaning.specs.Expressions as spec;
 ghost use Rattle.plain_scope.specs.PlainScope.{plain_scope};
@@ -40,14 +40,28 @@ fn choice<'t>(
     alloc: Global,
     sign: &'t Token,
     condition: Box<Expression>,
-    ty: CType,
+    ty: Box<CType>,
     a: Box<Expression>,
     b: Box<Expression>,
 ) -> Result<Operand<'t>, ElabError>
-    ensures { Answers (spec.chosen_core (plain_token sign.now) (plain_expression condition.value) (plain_type ty) (plain_expression a.value) (plain_expression b.value)) plain_operand result }
+    ensures { Answers (spec.chosen_core (plain_token sign.now) (plain_expression condition.value) (plain_type ty.value) (plain_expression a.value) (plain_expression b.value)) plain_operand result }
 {
     let core = Box::new(alloc, Expression::Choose(condition, a, b))?;
     Ok(of_value(sign, ty, core))
+}
+
+#[tactic(auto, using(c_types::specs::TypeLaws::type_kinds))]
+fn chosen_void<'t>(
+    alloc: Global,
+    sign: &'t Token,
+    condition: Box<Expression>,
+    a: Box<Expression>,
+    b: Box<Expression>,
+) -> Result<Operand<'t>, ElabError>
+    ensures { Answers (spec.chosen_core (plain_token sign.now) (plain_expression condition.value) void (plain_expression a.value) (plain_expression b.value)) plain_operand result }
+{
+    let ty = Box::new(alloc, CType::Void)?;
+    choice(alloc, sign, condition, ty, a, b)
 }
 
 fn chosen_number<'t>(
@@ -59,7 +73,7 @@ fn chosen_number<'t>(
 ) -> Result<Operand<'t>, ElabError>
     ensures { Answers (chosen_number (plain_token sign.now) (plain_expression condition.value) (plain_typed a) (plain_typed b)) plain_operand result }
 {
-    let ty = common_type(alloc, &a.ty, &b.ty)?;
+    let ty = Box::new(alloc, common_type(alloc, &a.ty, &b.ty)?)?;
     let left = conversion(alloc, &ty, a.core)?;
     let right = conversion(alloc, &ty, b.core)?;
     choice(alloc, sign, condition, ty, left, right)
@@ -118,7 +132,7 @@ pub fn chosen<'t>(
     if is_integer(&a.ty) && is_integer(&b.ty) {
         chosen_number(alloc, sign, condition, a, b)
     } else if is_void(&a.ty) && is_void(&b.ty) {
-        choice(alloc, sign, condition, CType::Void, a.core, b.core)
+        chosen_void(alloc, sign, condition, a.core, b.core)
     } else {
         chosen_struct_or_pointer(alloc, sign, condition, a, b)
     }

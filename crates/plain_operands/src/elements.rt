@@ -23,10 +23,10 @@ use std::alloc::Global;
 pub fn at_target<'t>(
     alloc: Global,
     sign: &'t Token,
-    ty: CType,
+    ty: Box<CType>,
     pointer: Box<Expression>,
 ) -> Result<Operand<'t>, NoMemory>
-    ensures { IfOk result (λ x. plain_operand x ≡ typing.of_object (plain_token sign.now) (plain_type ty) (program.target (plain_expression pointer.value)) true) }
+    ensures { IfOk result (λ x. plain_operand x ≡ typing.of_object (plain_token sign.now) (plain_type ty.value) (program.target (plain_expression pointer.value)) true) }
 {
     let place = Box::new(alloc, Place::Target(pointer))?;
     Ok(of_object(sign, ty, place, true))
@@ -37,15 +37,15 @@ fn element<'t>(
     alloc: Global,
     scope: &Scope,
     sign: &'t Token,
-    pointer: CType,
+    pointer: Box<CType>,
     core: Box<Expression>,
 ) -> Result<Operand<'t>, ElabError>
-    ensures { Answers (spec.element_target (plain_scope scope.now) (plain_token sign.now) (plain_type pointer) (plain_expression core.value)) plain_operand result }
+    ensures { Answers (spec.element_target (plain_scope scope.now) (plain_token sign.now) (plain_type pointer.value) (plain_expression core.value)) plain_operand result }
 {
-    match pointer {
+    match Box::into_inner(pointer) {
         CType::Pointer(target) => {
             unless(scope.is_complete(&target), TypeKind::Incomplete, sign)?;
-            let x = at_target(alloc, sign, Box::into_inner(target), core)?;
+            let x = at_target(alloc, sign, target, core)?;
             Ok(x)
         }
         CType::Void

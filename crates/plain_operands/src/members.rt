@@ -11,7 +11,7 @@ ghost use Rattle.plain_operands.specs.PlainOperands.{plain_operand, plain_design
 ghost use Rattle.plain_scope.specs.Judgements.{AnswersBound};
 ghost use Rattle.plain_operands.specs.Operators.{member_of_loaded};
 
-use crate::operands::{Designation, Operand, loaded, of_object};
+use crate::operands::{Designation, Operand, loaded, of_object, same};
 use c_text::Token;
 use c_types::CType;
 use cond_formula::NoMemory;
@@ -36,7 +36,7 @@ fn member_at<'t>(
 ) -> Result<Operand<'t>, NoMemory>
     ensures { IfOk result (λ x. plain_operand x ≡ typing.of_object (plain_token name.now) (plain_type ty.now) (program.member (plain_place base.place.value) number) base.free) }
 {
-    let ty = copied(alloc, ty)?;
+    let ty = same(alloc, ty)?;
     let place = Box::new(alloc, Place::Member(base.place, number))?;
     Ok(of_object(name, ty, place, base.free))
 }
@@ -120,12 +120,12 @@ fn member_of_target<'t>(
     scope: &Scope,
     sign: &Token,
     name: &'t Token,
-    ty: CType,
+    ty: Box<CType>,
     core: Box<Expression>,
 ) -> Result<Operand<'t>, ElabError>
-    ensures { AnswersBound (spec.member_of_target (plain_scope scope.now) (plain_token sign.now) (plain_token name.now) (typing.typed (plain_type ty) (plain_expression core.value)) (plain_type ty)) plain_operand result }
+    ensures { AnswersBound (spec.member_of_target (plain_scope scope.now) (plain_token sign.now) (plain_token name.now) (typing.typed (plain_type ty.value) (plain_expression core.value)) (plain_type ty.value)) plain_operand result }
 {
-    match ty {
+    match Box::into_inner(ty) {
         CType::Pointer(target) => {
             let base = target_of(alloc, core)?;
             let x = member_of(alloc, scope, sign, name, &target, base)?;
@@ -150,7 +150,7 @@ fn member_of_operand<'t>(
     name: &'t Token,
     operand: Operand,
 ) -> Result<Operand<'t>, ElabError>
-    ensures { AnswersBound (spec.member_of (plain_scope scope.now) (plain_token sign.now) (plain_token name.now) (plain_type operand.entry.ty) (spec.struct_place (plain_type operand.entry.ty) (plain_designation operand.entry.designates)) (spec.is_free (plain_designation operand.entry.designates))) plain_operand result }
+    ensures { AnswersBound (spec.member_of (plain_scope scope.now) (plain_token sign.now) (plain_token name.now) (plain_type operand.entry.ty.value) (spec.struct_place (plain_type operand.entry.ty.value) (plain_designation operand.entry.designates)) (spec.is_free (plain_designation operand.entry.designates))) plain_operand result }
 {
     let Operand { ty, designates, .. } = operand;
     let base = base_of(alloc, &ty, designates)?;

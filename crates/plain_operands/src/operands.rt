@@ -1,7 +1,7 @@
 //! What expressions designate, and their values (6.3.2.1).
 ghost use Rattle.std.specs.Prelude.{◌≡◌, true, false, pos, IfOk, Some, option_map};
 ghost use Rattle.c_text.specs.Token.{plain_token};
-ghost use Rattle.c_types.specs.Types.{plain_type};
+ghost use Rattle.c_types.specs.Types.{plain_type, int};
 ghost use Rattle.core_meaning.specs.Plain.{plain_expression, plain_place};
 ghost use Rattle.core_meaning.specs.Checking.{found_or};
 ghost use Rattle.core_meaning.specs.Typing as spec;
@@ -16,7 +16,8 @@ use c_types::CType;
 use cond_formula::NoMemory;
 use core_meaning::{Expression, Place, TypeKind};
 use plain_scope::{
-    ElabError, Scope, integer_type, is_integer, is_pointer, is_struct, refused, same_type, unless,
+    ElabError, Scope, copied, integer_type, is_integer, is_pointer, is_struct, refused, same_type,
+    unless,
 };
 use std::alloc::Global;
 
@@ -29,7 +30,7 @@ pub enum Designation {
 
 #[derive(Drop)]
 pub struct Operand<'t> {
-    pub ty: CType,
+    pub ty: Box<CType>,
     pub designates: Designation,
     /// It is the null constant: a number of value 0, perhaps in parentheses.
     pub is_null: bool,
@@ -40,13 +41,13 @@ pub struct Operand<'t> {
 /// An expression by its value.
 #[derive(Drop)]
 pub struct Typed {
-    pub ty: CType,
+    pub ty: Box<CType>,
     pub core: Box<Expression>,
     pub is_null: bool,
 }
 
-pub fn of_value(token: &Token, ty: CType, core: Box<Expression>) -> Operand<'_>
-    ensures { plain_operand result ≡ spec.of_value (plain_token token.now) (plain_type ty) (plain_expression core.value) }
+pub fn of_value(token: &Token, ty: Box<CType>, core: Box<Expression>) -> Operand<'_>
+    ensures { plain_operand result ≡ spec.of_value (plain_token token.now) (plain_type ty.value) (plain_expression core.value) }
 {
     Operand {
         ty,
@@ -56,8 +57,8 @@ pub fn of_value(token: &Token, ty: CType, core: Box<Expression>) -> Operand<'_>
     }
 }
 
-pub fn of_object(token: &Token, ty: CType, place: Box<Place>, free: bool) -> Operand<'_>
-    ensures { plain_operand result ≡ spec.of_object (plain_token token.now) (plain_type ty) (plain_place place.value) free }
+pub fn of_object(token: &Token, ty: Box<CType>, place: Box<Place>, free: bool) -> Operand<'_>
+    ensures { plain_operand result ≡ spec.of_object (plain_token token.now) (plain_type ty.value) (plain_place place.value) free }
 {
     Operand {
         ty,
@@ -67,14 +68,28 @@ pub fn of_object(token: &Token, ty: CType, place: Box<Place>, free: bool) -> Ope
     }
 }
 
-pub fn typed_value(ty: CType, core: Box<Expression>) -> Typed
-    ensures { plain_typed result ≡ spec.typed (plain_type ty) (plain_expression core.value) }
+pub fn typed_value(ty: Box<CType>, core: Box<Expression>) -> Typed
+    ensures { plain_typed result ≡ spec.typed (plain_type ty.value) (plain_expression core.value) }
 {
     Typed {
         ty,
         core,
         is_null: false,
     }
+}
+
+/// A copy of a type in a box.
+pub fn same(alloc: Global, ty: &CType) -> Result<Box<CType>, NoMemory>
+    ensures { IfOk result (λ c. plain_type c.value ≡ plain_type ty.now) }
+{
+    Ok(Box::new(alloc, copied(alloc, ty)?)?)
+}
+
+#[tactic(auto, using(c_types::specs::TypeLaws::type_kinds))]
+pub fn int(alloc: Global) -> Result<Box<CType>, NoMemory>
+    ensures { IfOk result (λ c. plain_type c.value ≡ int) }
+{
+    Ok(Box::new(alloc, CType::Int)?)
 }
 
 #[tactic(auto, using(core_meaning::specs::PlainLaws::expression_kinds))]
@@ -94,11 +109,11 @@ fn first_of(alloc: Global, place: Box<Place>) -> Result<Box<Expression>, NoMemor
 fn read_from(
     alloc: Global,
     scope: &Scope,
-    ty: CType,
+    ty: Box<CType>,
     place: Box<Place>,
     at: &Token,
 ) -> Result<Typed, ElabError>
-    ensures { Answers (read_object (plain_scope scope.now).structs (plain_type ty) (plain_place place.value) (plain_token at.now)) plain_typed result }
+    ensures { Answers (read_object (plain_scope scope.now).structs (plain_type ty.value) (plain_place place.value) (plain_token at.now)) plain_typed result }
 {
     unless(scope.is_complete(&ty), TypeKind::Incomplete, at)?;
     Ok(typed_value(ty, read_of(alloc, place)?))
@@ -108,18 +123,22 @@ fn read_from(
 fn loaded_object(
     alloc: Global,
     scope: &Scope,
-    ty: CType,
+    ty: Box<CType>,
     place: Box<Place>,
     at: &Token,
 ) -> Result<Typed, ElabError>
-    ensures { Answers (load_object (plain_scope scope.now).structs (plain_type ty) (plain_place place.value) (plain_token at.now)) plain_typed result }
+    ensures { Answers (load_object (plain_scope scope.now).structs (plain_type ty.value) (plain_place place.value) (plain_token at.now)) plain_typed result }
 {
+    let ty = Box::into_inner(ty);
     match ty {
         CType::Array(element, _) => {
-            let first = first_of(alloc, place)?;
-            Ok(typed_value(CType::Pointer(element), first))
+            let pointer = Box::new(alloc, CType::Pointer(element))?;
+            Ok(typed_value(pointer, first_of(alloc, place)?))
         }
-        CType::Void => Ok(typed_value(CType::Void, read_of(alloc, place)?)),
+        CType::Void => {
+            let nothing = Box::new(alloc, CType::Void)?;
+            Ok(typed_value(nothing, read_of(alloc, place)?))
+        }
         CType::Char
         | CType::UChar
         | CType::Int
@@ -127,7 +146,7 @@ fn loaded_object(
         | CType::Long
         | CType::ULong
         | CType::Pointer(_)
-        | CType::Struct(_) => read_from(alloc, scope, ty, place, at),
+        | CType::Struct(_) => read_from(alloc, scope, Box::new(alloc, ty)?, place, at),
     }
 }
 

@@ -11,7 +11,7 @@ ghost use Rattle.plain_operands.specs.PlainOperands.{plain_operand, plain_typed}
 ghost use Rattle.plain_scope.specs.Judgements.{Answers};
 ghost use Rattle.plain_operands.specs.Operators.{joined_by, combined_as, operated};
 
-use crate::operands::{Operand, Typed, of_value};
+use crate::operands::{Operand, Typed, int, of_value};
 use c_text::Token;
 use c_types::{BinaryOp, CType};
 use cond_formula::NoMemory;
@@ -213,7 +213,7 @@ fn operated<'t>(
 ) -> Result<Operand<'t>, NoMemory>
     ensures { IfOk result (λ x. plain_operand x ≡ operated (plain_token sign.now) o (plain_typed a) (plain_typed b)) }
 {
-    let ty = operation_type(alloc, o, &a.ty, &b.ty)?;
+    let ty = Box::new(alloc, operation_type(alloc, o, &a.ty, &b.ty)?)?;
     let left = operand_core(alloc, o, a)?;
     let right = operand_core(alloc, o, b)?;
     let core = binary(alloc, o, left, right)?;
@@ -273,5 +273,5 @@ pub fn logical<'t>(
         sign,
     )?;
     let core = joined(alloc, and, a.core, b.core)?;
-    Ok(of_value(sign, CType::Int, core))
+    Ok(of_value(sign, int(alloc)?, core))
 }

@@ -12,7 +12,7 @@ ghost use Rattle.plain_scope.specs.Judgements.{Answers};
 ghost use Rattle.plain_operands.specs.Operators.{on_value, on_loaded};
 
 use crate::elements::at_target;
-use crate::operands::{Designation, Operand, Typed, conversion, loaded, of_value};
+use crate::operands::{Designation, Operand, Typed, conversion, int, loaded, of_value};
 use crate::operators::binary;
 use c_text::Token;
 use c_types::{BinaryOp, CType};
@@ -35,7 +35,7 @@ fn pointed_at<'t>(
     let Designation::Object(place, true) = designates else {
         return Err(refused(TypeKind::BadOperand, sign));
     };
-    let pointer = CType::Pointer(Box::new(alloc, ty)?);
+    let pointer = Box::new(alloc, CType::Pointer(ty))?;
     let address = Box::new(alloc, Expression::Address(place))?;
     Ok(of_value(sign, pointer, address))
 }
@@ -44,14 +44,14 @@ fn pointed_at<'t>(
 fn dereferenced<'t>(
     alloc: Global,
     sign: &'t Token,
-    ty: CType,
+    ty: Box<CType>,
     core: Box<Expression>,
 ) -> Result<Operand<'t>, ElabError>
-    ensures { Answers (spec.dereferenced (plain_token sign.now) (typing.typed (plain_type ty) (plain_expression core.value)) (plain_type ty)) plain_operand result }
+    ensures { Answers (spec.dereferenced (plain_token sign.now) (typing.typed (plain_type ty.value) (plain_expression core.value)) (plain_type ty.value)) plain_operand result }
 {
-    match ty {
+    match Box::into_inner(ty) {
         CType::Pointer(target) => {
-            let x = at_target(alloc, sign, Box::into_inner(target), core)?;
+            let x = at_target(alloc, sign, target, core)?;
             Ok(x)
         }
         CType::Void
@@ -114,7 +114,7 @@ fn signed<'t>(alloc: Global, sign: &'t Token, x: Typed) -> Result<Operand<'t>, E
     ensures { Answers (spec.signed (plain_token sign.now) (plain_typed x)) plain_operand result }
 {
     unless(is_integer(&x.ty), TypeKind::BadOperand, sign)?;
-    let ty = promoted_type(alloc, &x.ty)?;
+    let ty = Box::new(alloc, promoted_type(alloc, &x.ty)?)?;
     let core = signed_core(alloc, sign.text.as_slice(), &ty, x)?;
     Ok(of_value(sign, ty, core))
 }
@@ -125,7 +125,7 @@ fn negated<'t>(alloc: Global, sign: &'t Token, x: Typed) -> Result<Operand<'t>, 
 {
     unless(is_scalar(&x.ty), TypeKind::BadOperand, sign)?;
     let core = Box::new(alloc, Expression::Not(x.core))?;
-    Ok(of_value(sign, CType::Int, core))
+    Ok(of_value(sign, int(alloc)?, core))
 }
 
 /// An operator before the value of its operand.
