@@ -9,15 +9,15 @@ use Rattle.c_tree.specs.declared.terminals.Terminal.TheVariants as t
 use Rattle.c_tree.specs.Trees.{PlainTree, PlainTrees, leaf, node, none, more}
 use Rattle.c_tree.specs.Grammar.{is_word}
 use Rattle.core_meaning.specs.declared.refusals.TypeKind.{TypeKind}
-use Rattle.core_meaning.specs.declared.refusals.TypeKind.TheVariants.{Redeclared, BadOperand, Incomplete}
+use Rattle.core_meaning.specs.declared.refusals.TypeKind.TheVariants.{Redeclared, BadOperand, Incomplete, BadConstant}
 use Rattle.core_meaning.specs.Program.{PlainItems, no_item, PlainConstantPart}
 use Rattle.core_meaning.specs.Checking.{file_entity, member_entity, Checked, fine, refused, broken, ◌>>=◌, give, unless_so, declares, in_function, or_broken}
 use Rattle.c_types.specs.Tags.{PlainMember}
-use Rattle.core_meaning.specs.Entities.{Table, no_entry, with_entry, Struct, Signature, Sort, variable, function, FileName, Numbers, Scope}
+use Rattle.core_meaning.specs.Entities.{Table, no_entry, with_entry, Struct, Signature, Sort, variable, function, FileName, Numbers, Scope, or_else}
 use Rattle.core_meaning.specs.Typing.{same_type, is_complete}
 use Rattle.core_meaning.specs.Expressions.{first_token, has_terminal, is_void}
-use Rattle.core_meaning.specs.Constancy.{Initial, initial, first_scalar}
-use Rattle.core_meaning.specs.Declarations.{name_in, behind_word, based, starred, object_type, Parameter, parameters_of, judged_object, with_local}
+use Rattle.core_meaning.specs.Constancy.{is_small, Initial, initial, first_scalar}
+use Rattle.core_meaning.specs.Declarations.{name_in, behind_word, based, starred, object_type, Parameter, parameters_of, judged_object, with_block, with_parameter}
 use Rattle.core_meaning.specs.Statements.{JudgedItems, judged_items, items_as}
 
 -- what a definition gives its name
@@ -181,10 +181,21 @@ abbrev pub refused_initialiser : Option PlainTree → PlainToken → Checked (Un
 refused_initialiser None name = give tt
 refused_initialiser (Some initialiser) name = refused BadOperand (first_token initialiser name)
 
+-- Another declaration of the name stands in the way of a function with this result, whatever its parameters are.
+abbrev pub gives_result : PlainType → Sort → Bool
+gives_result result (variable ty) = false
+gives_result result (function signature) = same_type signature.result result
+
+abbrev pub may_be_function : Storage → PlainType → Option FileName → Bool
+may_be_function storage result None = true
+may_be_function storage result (Some visible) =
+    gives_result result visible.sort && same_bool visible.internal (linkage storage true (Some visible))
+
 -- a declaration of a function that doesn't define it
 abbrev pub declared_function : UnitState → Storage → PlainType → PlainTrees → PlainToken → Option PlainTree → Checked UnitState
 declared_function unit storage ty parts name initialiser = do
   bound ← declares (file_entity name.text)
+  new ← unless_so (may_be_function storage (starred parts ty) (unit.scope.file_names name.text)) Redeclared name
   parameters ← parameters_of false unit.scope (behind_word t.OpenParenthesis parts) name
   scope ← with_name unit.scope name (function (signature_of (starred parts ty) parameters)) storage
   none_given ← refused_initialiser initialiser name
@@ -216,10 +227,6 @@ declared_from globals unit storage ty (more tree (more sign (more next (more com
       declared_from globals first storage ty (more next (more comma others)) rest)
 
 -- the parameters of a definition are the first slots
-abbrev pub with_parameter : Scope → ℕ → Option PlainToken → PlainType → Scope
-with_parameter scope slot None ty = scope
-with_parameter scope slot (Some name) ty = with_local scope name.text slot ty
-
 abbrev pub with_parameters : Scope → ℕ → List Parameter → Scope
 with_parameters scope slot [] = scope
 with_parameters scope slot (p ∷ rest) = with_parameters (with_parameter scope slot p.name p.ty) (slot + 1) rest
@@ -244,10 +251,6 @@ judged_body scope result slots (node kind (more brace (more (node k.Items items)
 judged_body scope result slots (node kind (more brace (more (node k.Absent items) (more last none)))) = give (items_as slots no_item)
 judged_body scope result slots other = broken
 
--- a scope with a block of its own
-abbrev pub with_block : Scope → Scope
-with_block scope = record scope { blocks = no_entry ∷ scope.blocks }
-
 abbrev pub is_function_body : Body → Bool
 is_function_body (function_body slots items) = true
 is_function_body other = false
@@ -260,6 +263,7 @@ count_functions (d ∷ rest) = (if is_function_body d.body then 1 else 0) + coun
 abbrev pub defined_function : UnitState → Storage → PlainType → PlainTrees → PlainToken → PlainTree → Checked UnitState
 defined_function unit storage ty parts name body = do
   bound ← declares (file_entity name.text)
+  new ← unless_so (may_be_function storage (starred parts ty) (unit.scope.file_names name.text)) Redeclared name
   fits ← unless_so (is_result unit.scope (starred parts ty)) (result_kind unit.scope storage (starred parts ty) name (parameters_of true unit.scope (behind_word t.OpenParenthesis parts) name)) name
   parameters ← parameters_of true unit.scope (behind_word t.OpenParenthesis parts) name
   scope ← with_name unit.scope name (function (signature_of (starred parts ty) parameters)) storage
@@ -378,7 +382,38 @@ unit_start structs numbers = record {
   defined = [];
 }
 
+-- ---- the end of a unit, where all structs are complete that it completes (6.9.2)
+
+abbrev pub is_too_big : Scope → Option FileName → Bool
+is_too_big scope None = false
+is_too_big scope (Some n) = elim n.sort as (λ x. Bool) [ variable ty ↦ not (is_small scope.structs ty) | function signature ↦ false ]
+
+abbrev pub name_if_too_big : Scope → Option PlainToken → Option PlainToken
+name_if_too_big scope None = None
+name_if_too_big scope (Some name) = if is_too_big scope (scope.file_names name.text) then Some name else None
+
+-- the first name of an object that is too big, among declarators and in a unit
+abbrev pub too_big_among : Scope → PlainTrees → Option PlainToken
+too_big_among scope none = None
+too_big_among scope (more (node k.Declarator parts) rest) = or_else (name_if_too_big scope (name_in parts)) (too_big_among scope rest)
+too_big_among scope (more tree rest) = too_big_among scope rest
+
+abbrev pub too_big_in_item : Scope → PlainTree → Option PlainToken
+too_big_in_item scope (node k.Declaration (more words (more (node list_kind declarators) end))) = too_big_among scope declarators
+too_big_in_item scope tree = None
+
+abbrev pub too_big_in : Scope → PlainTrees → Option PlainToken
+too_big_in scope none = None
+too_big_in scope (more tree rest) = or_else (too_big_in_item scope tree) (too_big_in scope rest)
+
+abbrev pub unless_too_big : Option PlainToken → Checked (Unit {0})
+unless_too_big None = give tt
+unless_too_big (Some name) = refused BadConstant name
+
 -- What a unit is, with so many globals in the program.
 abbrev pub judged_unit : ℕ → List Struct → Numbers → PlainTree → Checked UnitState
-judged_unit globals structs numbers (node kind parts) = judged_file_items globals (unit_start structs numbers) parts
+judged_unit globals structs numbers (node kind parts) = do
+  unit ← judged_file_items globals (unit_start structs numbers) parts
+  small ← unless_too_big (too_big_in unit.scope parts)
+  give unit
 judged_unit globals structs numbers (leaf token) = broken
