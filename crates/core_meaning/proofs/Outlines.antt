@@ -12,6 +12,7 @@ use Rattle.c_tree.specs.declared.kinds.Kind.TheVariants as k
 use Rattle.c_tree.specs.declared.terminals.Terminal.TheVariants as t
 use Rattle.c_tree.specs.Grammar.{is_word}
 use Rattle.c_tree.specs.Trees.{PlainTree, PlainTrees, leaf, node, none, more}
+use Rattle.core_meaning.specs.declared.refusals.TypeKind.{TypeKind}
 use Rattle.core_meaning.specs.declared.refusals.TypeKind.TheVariants.{Redeclared}
 use Rattle.core_meaning.specs.Checking.{Binding, Checked, fine, refused, broken, with_bindings, ◌>>=◌, give, unless_so, declares, file_entity, in_function, or_broken}
 use Rattle.core_meaning.specs.Entities.{Table, no_entry, with_entry, Struct, Sort, variable, function, FileName, Numbers, Scope}
@@ -19,7 +20,7 @@ use Rattle.core_meaning.specs.Expressions.{has_terminal, arithmetic_words}
 use Rattle.core_meaning.specs.Constancy.{initial}
 use Rattle.core_meaning.specs.Declarations.{name_in, behind_word, Based, based, based_on_tag, with_struct, starred, object_type, Parameter, parameters_of, with_block}
 use Rattle.core_meaning.specs.Statements.{JudgedItems}
-use Rattle.core_meaning.specs.UnitNames.{Body, object_body, tentative_body, function_body, Defined, UnitState, Storage, by_static, by_extern, by_none, storage_of, is_function, linkage, with_name, declared_as, same_sort, same_bool, with_file_name, with_defined, with_scope, defined_object, constant_parts, judged_global, declared_object, signature_of, refused_initialiser, declared_function, declared_one, declared_from, is_result, result_kind, judged_body, with_parameters, parameter_types, count_functions, defined_function, Members, members_from, AllMembers, all_members, with_members_at, number_of_struct, is_defined_tag, defined_struct, judged_item, judged_file_items, unit_start, may_be_function, too_big_in, unless_too_big, judged_unit}
+use Rattle.core_meaning.specs.UnitNames.{Body, object_body, tentative_body, function_body, Defined, UnitState, Storage, by_static, by_extern, by_none, storage_of, is_function, linkage, with_name, declared_as, same_sort, same_bool, with_file_name, with_defined, with_scope, defined_object, constant_parts, judged_global, declared_object, signature_of, refused_initialiser, declared_function, declared_one, declared_from, is_result, result_kind, judged_body, with_parameters, parameter_types, count_functions, defined_function, Members, members_from, AllMembers, all_members, with_members_at, number_of_struct, is_defined_tag, defined_struct, judged_item, judged_file_items, unit_start, new_function, too_big_in, unless_too_big, judged_unit}
 use Rattle.core_meaning.specs.Linking.{Unit, Units, uses_in, closed, judged_units, is_internal, is_tentative, defines, count_whole, count_defined, count_external, built_in_named, is_available, Linked, linked_in, all_linked, each_once, is_of_sort, is_wanted, listed}
 use Rattle.core_meaning.specs.Judgings.{JudgingsListAlike}
 
@@ -241,10 +242,9 @@ function_declared : (unit : UnitState) (storage : Storage) (ty : PlainType) (par
 function_declared unit storage ty parts name initialiser after bindings h =
     let given_as : Scope → Checked UnitState = λ scope. refused_initialiser initialiser name >>= (λ none_given. give (with_scope unit scope)) in
     let named_as : List Parameter → Checked UnitState = λ parameters. with_name unit.scope name (function (signature_of (starred parts ty) parameters)) storage >>= given_as in
-    let test : Checked (Prim.Unit {0}) = unless_so (may_be_function storage (starred parts ty) (unit.scope.file_names name.text)) Redeclared name in
-    let declaring = bound (declares (file_entity name.text)) (λ bound. test >>= (λ new. parameters_of false unit.scope (behind_word t.OpenParenthesis parts) name >>= named_as)) after bindings h in
-    let new = bound test (λ new. parameters_of false unit.scope (behind_word t.OpenParenthesis parts) name >>= named_as) after declaring.behind declaring.rest in
-    let parameters = bound (parameters_of false unit.scope (behind_word t.OpenParenthesis parts) name) named_as after new.behind new.rest in
+    let taken : Checked (List Parameter) = new_function false unit.scope storage (starred parts ty) parts name in
+    let declaring = bound (declares (file_entity name.text)) (λ bound. taken >>= named_as) after bindings h in
+    let parameters = bound taken named_as after declaring.behind declaring.rest in
     let scope = bound (with_name unit.scope name (function (signature_of (starred parts ty) parameters.value)) storage) given_as after parameters.behind parameters.rest in
     let none_given = bound (refused_initialiser initialiser name) (λ none_given. give (with_scope unit scope.value)) after scope.behind scope.rest in
     ap (λ (state : UnitState). outline state.scope state.defined) (sym (given_is (with_scope unit scope.value) after none_given.behind none_given.rest))
@@ -299,15 +299,14 @@ declarators_are globals storage ty (more tree (more sign (more next (more comma 
 function_defined : (unit : UnitState) (storage : Storage) (ty : PlainType) (parts : PlainTrees) (name : PlainToken) (body : PlainTree) (after : UnitState) (bindings : List Binding) → defined_function unit storage ty parts name body ≡ fine after bindings → outline_of after ≡ with_body name.text (object_body []) (noted storage true name.text (outline_of unit))
 function_defined unit storage ty parts name body after bindings h =
     let result : PlainType = starred parts ty in
-    let taken : Checked (List Parameter) = parameters_of true unit.scope (behind_word t.OpenParenthesis parts) name in
+    let taken : Checked (List Parameter) = new_function true unit.scope storage result parts name in
+    let kind : TypeKind = result_kind unit.scope storage result name (parameters_of true unit.scope (behind_word t.OpenParenthesis parts) name) in
     let items_given : List Parameter → Scope → JudgedItems → Checked UnitState = λ parameters scope items. give (with_defined (with_scope unit scope) name.text (function_body items.slots items.core)) in
     let judged_as : List Parameter → Scope → Checked UnitState = λ parameters scope. judged_body (with_parameters (with_block scope) 0 parameters) result (parameter_types parameters) body >>= items_given parameters scope in
     let named_as : List Parameter → Checked UnitState = λ parameters. with_name unit.scope name (function (signature_of result parameters)) storage >>= judged_as parameters in
-    let test : Checked (Prim.Unit {0}) = unless_so (may_be_function storage result (unit.scope.file_names name.text)) Redeclared name in
-    let fitting : Checked (Prim.Unit {0}) = unless_so (is_result unit.scope result) (result_kind unit.scope storage result name taken) name in
-    let declaring = bound (declares (file_entity name.text)) (λ bound. test >>= (λ new. fitting >>= (λ fits. taken >>= named_as))) after bindings h in
-    let new = bound test (λ new. fitting >>= (λ fits. taken >>= named_as)) after declaring.behind declaring.rest in
-    let fits = bound fitting (λ fits. taken >>= named_as) after new.behind new.rest in
+    let fitting : Checked (Prim.Unit {0}) = unless_so (is_result unit.scope result) kind name in
+    let declaring = bound (declares (file_entity name.text)) (λ bound. fitting >>= (λ fits. taken >>= named_as)) after bindings h in
+    let fits = bound fitting (λ fits. taken >>= named_as) after declaring.behind declaring.rest in
     let parameters = bound taken named_as after fits.behind fits.rest in
     let scope = bound (with_name unit.scope name (function (signature_of result parameters.value)) storage) (judged_as parameters.value) after parameters.behind parameters.rest in
     let items = bound (judged_body (with_parameters (with_block scope.value) 0 parameters.value) result (parameter_types parameters.value) body) (items_given parameters.value scope.value) after scope.behind scope.rest in

@@ -191,12 +191,17 @@ may_be_function storage result None = true
 may_be_function storage result (Some visible) =
     gives_result result visible.sort && same_bool visible.internal (linkage storage true (Some visible))
 
+-- the parameters of a function whose name no other declaration keeps from it
+abbrev pub new_function : Bool → Scope → Storage → PlainType → PlainTrees → PlainToken → Checked (List Parameter)
+new_function defining scope storage result parts name = do
+  new ← unless_so (may_be_function storage result (scope.file_names name.text)) Redeclared name
+  parameters_of defining scope (behind_word t.OpenParenthesis parts) name
+
 -- a declaration of a function that doesn't define it
 abbrev pub declared_function : UnitState → Storage → PlainType → PlainTrees → PlainToken → Option PlainTree → Checked UnitState
 declared_function unit storage ty parts name initialiser = do
   bound ← declares (file_entity name.text)
-  new ← unless_so (may_be_function storage (starred parts ty) (unit.scope.file_names name.text)) Redeclared name
-  parameters ← parameters_of false unit.scope (behind_word t.OpenParenthesis parts) name
+  parameters ← new_function false unit.scope storage (starred parts ty) parts name
   scope ← with_name unit.scope name (function (signature_of (starred parts ty) parameters)) storage
   none_given ← refused_initialiser initialiser name
   give (with_scope unit scope)
@@ -240,10 +245,14 @@ kind_or_incomplete (refused kind token) = kind
 kind_or_incomplete other = Incomplete
 
 -- Where the result isn't complete, another declaration of the name is refused first, as both stand at the name.
-abbrev pub result_kind : Scope → Storage → PlainType → PlainToken → Checked (List Parameter) → TypeKind
-result_kind scope storage result name (fine parameters bindings) =
+abbrev pub kind_by_parameters : Scope → Storage → PlainType → PlainToken → Checked (List Parameter) → TypeKind
+kind_by_parameters scope storage result name (fine parameters bindings) =
     kind_or_incomplete (with_name scope name (function (signature_of result parameters)) storage)
-result_kind scope storage result name other = Incomplete
+kind_by_parameters scope storage result name other = Incomplete
+
+abbrev pub result_kind : Scope → Storage → PlainType → PlainToken → Checked (List Parameter) → TypeKind
+result_kind scope storage result name parameters =
+    if may_be_function storage result (scope.file_names name.text) then kind_by_parameters scope storage result name parameters else Redeclared
 
 abbrev pub judged_body : Scope → PlainType → List PlainType → PlainTree → Checked JudgedItems
 judged_body scope result slots (node kind (more brace (more (node k.Items items) (more last none)))) =
@@ -263,9 +272,8 @@ count_functions (d ∷ rest) = (if is_function_body d.body then 1 else 0) + coun
 abbrev pub defined_function : UnitState → Storage → PlainType → PlainTrees → PlainToken → PlainTree → Checked UnitState
 defined_function unit storage ty parts name body = do
   bound ← declares (file_entity name.text)
-  new ← unless_so (may_be_function storage (starred parts ty) (unit.scope.file_names name.text)) Redeclared name
   fits ← unless_so (is_result unit.scope (starred parts ty)) (result_kind unit.scope storage (starred parts ty) name (parameters_of true unit.scope (behind_word t.OpenParenthesis parts) name)) name
-  parameters ← parameters_of true unit.scope (behind_word t.OpenParenthesis parts) name
+  parameters ← new_function true unit.scope storage (starred parts ty) parts name
   scope ← with_name unit.scope name (function (signature_of (starred parts ty) parameters)) storage
   items ← judged_body (with_parameters (with_block scope) 0 parameters) (starred parts ty) (parameter_types parameters) body
   give (with_defined (with_scope unit scope) name.text (function_body items.slots items.core))
@@ -384,22 +392,33 @@ unit_start structs numbers = record {
 
 -- ---- the end of a unit, where all structs are complete that it completes (6.9.2)
 
+abbrev pub is_big : Scope → Sort → Bool
+is_big scope (variable ty) = not (is_small scope.structs ty)
+is_big scope (function signature) = false
+
 abbrev pub is_too_big : Scope → Option FileName → Bool
 is_too_big scope None = false
-is_too_big scope (Some n) = elim n.sort as (λ x. Bool) [ variable ty ↦ not (is_small scope.structs ty) | function signature ↦ false ]
+is_too_big scope (Some n) = is_big scope n.sort
 
 abbrev pub name_if_too_big : Scope → Option PlainToken → Option PlainToken
 name_if_too_big scope None = None
 name_if_too_big scope (Some name) = if is_too_big scope (scope.file_names name.text) then Some name else None
 
+abbrev pub too_big_declarator : Scope → PlainTree → Option PlainToken
+too_big_declarator scope (node k.Declarator parts) = name_if_too_big scope (name_in parts)
+too_big_declarator scope tree = None
+
 -- the first name of an object that is too big, among declarators and in a unit
 abbrev pub too_big_among : Scope → PlainTrees → Option PlainToken
 too_big_among scope none = None
-too_big_among scope (more (node k.Declarator parts) rest) = or_else (name_if_too_big scope (name_in parts)) (too_big_among scope rest)
-too_big_among scope (more tree rest) = too_big_among scope rest
+too_big_among scope (more tree rest) = or_else (too_big_declarator scope tree) (too_big_among scope rest)
+
+abbrev pub too_big_declared : Scope → PlainTrees → Option PlainToken
+too_big_declared scope (more words (more (node kind declarators) end)) = too_big_among scope declarators
+too_big_declared scope parts = None
 
 abbrev pub too_big_in_item : Scope → PlainTree → Option PlainToken
-too_big_in_item scope (node k.Declaration (more words (more (node list_kind declarators) end))) = too_big_among scope declarators
+too_big_in_item scope (node k.Declaration parts) = too_big_declared scope parts
 too_big_in_item scope tree = None
 
 abbrev pub too_big_in : Scope → PlainTrees → Option PlainToken
@@ -410,10 +429,13 @@ abbrev pub unless_too_big : Option PlainToken → Checked (Unit {0})
 unless_too_big None = give tt
 unless_too_big (Some name) = refused BadConstant name
 
--- What a unit is, with so many globals in the program.
-abbrev pub judged_unit : ℕ → List Struct → Numbers → PlainTree → Checked UnitState
-judged_unit globals structs numbers (node kind parts) = do
-  unit ← judged_file_items globals (unit_start structs numbers) parts
+abbrev pub judged_to_end : ℕ → UnitState → PlainTrees → Checked UnitState
+judged_to_end globals start parts = do
+  unit ← judged_file_items globals start parts
   small ← unless_too_big (too_big_in unit.scope parts)
   give unit
+
+-- What a unit is, with so many globals in the program.
+abbrev pub judged_unit : ℕ → List Struct → Numbers → PlainTree → Checked UnitState
+judged_unit globals structs numbers (node kind parts) = judged_to_end globals (unit_start structs numbers) parts
 judged_unit globals structs numbers (leaf token) = broken
