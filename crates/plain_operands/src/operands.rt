@@ -6,7 +6,8 @@ ghost use Rattle.core_meaning.specs.Plain.{plain_expression, plain_place};
 ghost use Rattle.core_meaning.specs.Checking.{found_or};
 ghost use Rattle.core_meaning.specs.Typing as spec;
 ghost use Rattle.plain_scope.specs.PlainScope.{plain_scope};
-ghost use Rattle.plain_operands.specs.PlainOperands.{plain_operand, plain_typed};
+ghost use Rattle.core_meaning.specs.Program as program;
+ghost use Rattle.plain_operands.specs.PlainOperands.{plain_operand, plain_typed, boxed_expression};
 ghost use Rattle.plain_scope.specs.Judgements.{Answers};
 ghost use Rattle.plain_operands.specs.Values.{load_object, read_object};
 
@@ -21,9 +22,9 @@ use std::alloc::Global;
 
 #[derive(Drop)]
 pub enum Designation {
-    Value(Expression),
+    Value(Box<Expression>),
     /// An object or a part of one, and whether it may be assigned to and pointed at.
-    Object(Place, bool),
+    Object(Box<Place>, bool),
 }
 
 #[derive(Drop)]
@@ -40,12 +41,12 @@ pub struct Operand<'t> {
 #[derive(Drop)]
 pub struct Typed {
     pub ty: CType,
-    pub core: Expression,
+    pub core: Box<Expression>,
     pub is_null: bool,
 }
 
-pub fn of_value(token: &Token, ty: CType, core: Expression) -> Operand<'_>
-    ensures { plain_operand result ≡ spec.of_value (plain_token token.now) (plain_type ty) (plain_expression core) }
+pub fn of_value(token: &Token, ty: CType, core: Box<Expression>) -> Operand<'_>
+    ensures { plain_operand result ≡ spec.of_value (plain_token token.now) (plain_type ty) (plain_expression core.value) }
 {
     Operand {
         ty,
@@ -55,8 +56,8 @@ pub fn of_value(token: &Token, ty: CType, core: Expression) -> Operand<'_>
     }
 }
 
-pub fn of_object(token: &Token, ty: CType, place: Place, free: bool) -> Operand<'_>
-    ensures { plain_operand result ≡ spec.of_object (plain_token token.now) (plain_type ty) (plain_place place) free }
+pub fn of_object(token: &Token, ty: CType, place: Box<Place>, free: bool) -> Operand<'_>
+    ensures { plain_operand result ≡ spec.of_object (plain_token token.now) (plain_type ty) (plain_place place.value) free }
 {
     Operand {
         ty,
@@ -66,8 +67,8 @@ pub fn of_object(token: &Token, ty: CType, place: Place, free: bool) -> Operand<
     }
 }
 
-pub fn typed_value(ty: CType, core: Expression) -> Typed
-    ensures { plain_typed result ≡ spec.typed (plain_type ty) (plain_expression core) }
+pub fn typed_value(ty: CType, core: Box<Expression>) -> Typed
+    ensures { plain_typed result ≡ spec.typed (plain_type ty) (plain_expression core.value) }
 {
     Typed {
         ty,
@@ -76,54 +77,49 @@ pub fn typed_value(ty: CType, core: Expression) -> Typed
     }
 }
 
-/// What a pointer to `void` points to has no value.
 #[tactic(auto, using(core_meaning::specs::PlainLaws::expression_kinds))]
-fn nothing_of(alloc: Global, place: Place) -> Result<Expression, NoMemory>
-    ensures { IfOk result (λ e. plain_expression e ≡ spec.nothing_of (plain_place place)) }
+fn read_of(alloc: Global, place: Box<Place>) -> Result<Box<Expression>, NoMemory>
+    ensures { IfOk result (λ e. plain_expression e.value ≡ program.read (plain_place place.value)) }
 {
-    match place {
-        Place::Target(pointer) => Ok(Expression::Discard(pointer)),
-        Place::Slot(_)
-        | Place::Global(_)
-        | Place::Literal(_)
-        | Place::Member(..)
-        | Place::Temporary(..) => {
-            let read = Expression::Read(Box::new(alloc, place)?);
-            Ok(Expression::Discard(Box::new(alloc, read)?))
-        }
-    }
+    Ok(Box::new(alloc, Expression::Read(place))?)
 }
 
 #[tactic(auto, using(core_meaning::specs::PlainLaws::expression_kinds))]
+fn first_of(alloc: Global, place: Box<Place>) -> Result<Box<Expression>, NoMemory>
+    ensures { IfOk result (λ e. plain_expression e.value ≡ program.first_element (plain_place place.value)) }
+{
+    Ok(Box::new(alloc, Expression::FirstElement(place))?)
+}
+
 fn read_from(
     alloc: Global,
     scope: &Scope,
     ty: CType,
-    place: Place,
+    place: Box<Place>,
     at: &Token,
 ) -> Result<Typed, ElabError>
-    ensures { Answers (read_object (plain_scope scope.now).structs (plain_type ty) (plain_place place) (plain_token at.now)) plain_typed result }
+    ensures { Answers (read_object (plain_scope scope.now).structs (plain_type ty) (plain_place place.value) (plain_token at.now)) plain_typed result }
 {
     unless(scope.is_complete(&ty), TypeKind::Incomplete, at)?;
-    Ok(typed_value(ty, Expression::Read(Box::new(alloc, place)?)))
+    Ok(typed_value(ty, read_of(alloc, place)?))
 }
 
-#[tactic(auto, using(core_meaning::specs::PlainLaws::expression_kinds, c_types::specs::TypeLaws::type_kinds))]
+#[tactic(auto, using(c_types::specs::TypeLaws::type_kinds))]
 fn loaded_object(
     alloc: Global,
     scope: &Scope,
     ty: CType,
-    place: Place,
+    place: Box<Place>,
     at: &Token,
 ) -> Result<Typed, ElabError>
-    ensures { Answers (load_object (plain_scope scope.now).structs (plain_type ty) (plain_place place) (plain_token at.now)) plain_typed result }
+    ensures { Answers (load_object (plain_scope scope.now).structs (plain_type ty) (plain_place place.value) (plain_token at.now)) plain_typed result }
 {
     match ty {
-        CType::Array(element, _) => Ok(typed_value(
-            CType::Pointer(element),
-            Expression::FirstElement(Box::new(alloc, place)?),
-        )),
-        CType::Void => Ok(typed_value(CType::Void, nothing_of(alloc, place)?)),
+        CType::Array(element, _) => {
+            let first = first_of(alloc, place)?;
+            Ok(typed_value(CType::Pointer(element), first))
+        }
+        CType::Void => Ok(typed_value(CType::Void, read_of(alloc, place)?)),
         CType::Char
         | CType::UChar
         | CType::Int
@@ -151,27 +147,37 @@ pub fn loaded(alloc: Global, scope: &Scope, operand: Operand) -> Result<Typed, E
     }
 }
 
-/// A number in another type; nothing is written out where the types are the same.
 #[tactic(auto, using(core_meaning::specs::PlainLaws::expression_kinds))]
-pub fn in_type(alloc: Global, ty: &CType, x: Typed) -> Result<Expression, NoMemory>
-    ensures { IfOk result (λ e. plain_expression e ≡ spec.in_type (plain_type ty.now) (plain_typed x)) }
+pub fn conversion(
+    alloc: Global,
+    ty: &CType,
+    core: Box<Expression>,
+) -> Result<Box<Expression>, NoMemory>
+    ensures { IfOk result (λ e. plain_expression e.value ≡ program.convert (spec.integer_type (plain_type ty.now)) (plain_expression core.value)) }
+{
+    Ok(Box::new(alloc, Expression::Convert(integer_type(ty), core))?)
+}
+
+/// A number in another type; nothing is written out where the types are the same.
+pub fn in_type(alloc: Global, ty: &CType, x: Typed) -> Result<Box<Expression>, NoMemory>
+    ensures { IfOk result (λ e. plain_expression e.value ≡ spec.in_type (plain_type ty.now) (plain_typed x)) }
 {
     if same_type(ty, &x.ty) {
         Ok(x.core)
     } else {
-        Ok(Expression::Convert(integer_type(ty), Box::new(alloc, x.core)?))
+        conversion(alloc, ty, x.core)
     }
 }
 
 /// A value as one of another type, where it may be assigned, passed or returned as one (6.5.16.1).
 #[tactic(auto, using(core_meaning::specs::PlainLaws::expression_kinds))]
-pub fn fits_into(alloc: Global, ty: &CType, x: Typed) -> Result<Option<Expression>, NoMemory>
-    ensures { IfOk result (λ core. option_map plain_expression core ≡ spec.fits_into (plain_type ty.now) (plain_typed x)) }
+pub fn fits_into(alloc: Global, ty: &CType, x: Typed) -> Result<Option<Box<Expression>>, NoMemory>
+    ensures { IfOk result (λ core. option_map boxed_expression core ≡ spec.fits_into (plain_type ty.now) (plain_typed x)) }
 {
     if is_integer(ty) && is_integer(&x.ty) {
         Ok(Some(in_type(alloc, ty, x)?))
     } else if is_pointer(ty) && x.is_null {
-        Ok(Some(Expression::Null))
+        Ok(Some(Box::new(alloc, Expression::Null)?))
     } else if (is_pointer(ty) || is_struct(ty)) && same_type(ty, &x.ty) {
         Ok(Some(x.core))
     } else {
@@ -186,8 +192,8 @@ pub fn fitted(
     x: Typed,
     kind: TypeKind,
     at: &Token,
-) -> Result<Expression, ElabError>
-    ensures { Answers (found_or (spec.fits_into (plain_type ty.now) (plain_typed x)) kind (plain_token at.now)) plain_expression result }
+) -> Result<Box<Expression>, ElabError>
+    ensures { Answers (found_or (spec.fits_into (plain_type ty.now) (plain_typed x)) kind (plain_token at.now)) boxed_expression result }
 {
     match fits_into(alloc, ty, x)? {
         Some(core) => Ok(core),
