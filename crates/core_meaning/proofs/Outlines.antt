@@ -1,5 +1,5 @@
 -- What a unit declares and defines, whatever numbers its names have.
-use Rattle.std.proofs.Common.{◌≡◌, ℕ, ◌+◌, Bool, true, false, List, [], ◌∷◌, ◌++◌, map, refl, sym, ap, subst, Option, Some, None, ◌∙◌}
+use Rattle.std.proofs.Common.{◌≡◌, ℕ, ◌+◌, Bool, true, false, List, [], ◌∷◌, ◌++◌, map, refl, sym, ap, subst, Option, Some, None, ◌∙◌, inl, inr}
 use Rattle.std.specs.Prelude.{not, ◌&&◌, ◌||◌, is_some, nat_le, length, filter, if◌then◌else◌, option_map, ◌==◌}
 use Rattle.std.specs.List.{list_any}
 use Rattle.std.specs.Str.{bytes_eq}
@@ -23,6 +23,8 @@ use Rattle.core_meaning.specs.Statements.{JudgedItems}
 use Rattle.core_meaning.specs.UnitNames.{Body, object_body, tentative_body, function_body, Defined, UnitState, Storage, by_static, by_extern, by_none, storage_of, is_function, linkage, with_name, declared_as, same_sort, same_bool, with_file_name, with_defined, with_scope, defined_object, constant_parts, judged_global, declared_object, signature_of, refused_initialiser, declared_function, declared_one, declared_from, is_result, result_kind, judged_body, with_parameters, parameter_types, count_functions, defined_function, Members, members_from, AllMembers, all_members, with_members_at, number_of_struct, is_defined_tag, defined_struct, judged_item, judged_file_items, unit_start, new_function, too_big_in, unless_too_big, judged_unit}
 use Rattle.core_meaning.specs.Linking.{Unit, Units, uses_in, closed, judged_units, is_internal, is_tentative, defines, count_whole, count_defined, count_external, built_in_named, is_available, Linked, linked_in, all_linked, each_once, is_of_sort, is_wanted, listed}
 use Rattle.core_meaning.specs.Judgings.{JudgingsListAlike}
+use Rattle.core_meaning.proofs.NameOrder.{Among, among_left, among_right}
+use Rattle.std.specs.Cmp.Lexicographic.{bytes_decides}
 
 -- ---- outlines: names without types, definitions without values
 
@@ -124,21 +126,21 @@ with_fine before (fine z behind) y bindings h =
 with_fine before (refused kind token) y bindings h = absurd cc
 with_fine before broken y bindings h = absurd cc
 
-record Bound {A B : Type 0} (c : Checked A) (next : A → Checked B) (y : B) : Type 0 where
-  value : A
-  before : List Binding
-  behind : List Binding
-  first : c ≡ fine value before
-  rest : next value ≡ fine y behind
+pub record Bound {A B : Type 0} (c : Checked A) (next : A → Checked B) (y : B) : Type 0 where
+  pub value : A
+  pub before : List Binding
+  pub behind : List Binding
+  pub first : c ≡ fine value before
+  pub rest : next value ≡ fine y behind
 
-bound : {A B : Type 0} (c : Checked A) (next : A → Checked B) (y : B) (bindings : List Binding) → (c >>= next) ≡ fine y bindings → Bound c next y
+pub bound : {A B : Type 0} (c : Checked A) (next : A → Checked B) (y : B) (bindings : List Binding) → (c >>= next) ≡ fine y bindings → Bound c next y
 bound (fine x before) next y bindings h =
     let after = with_fine before (next x) y bindings h in
     record { value = x; before = before; behind = after.0; first = refl; rest = after.1 }
 bound (refused kind token) next y bindings h = absurd cc
 bound broken next y bindings h = absurd cc
 
-given_is : {A : Type 0} (x y : A) (bindings : List Binding) → give x ≡ fine y bindings → x ≡ y
+pub given_is : {A : Type 0} (x y : A) (bindings : List Binding) → give x ≡ fine y bindings → x ≡ y
 given_is x y bindings h = cc
 
 -- ---- names
@@ -385,6 +387,74 @@ unit_is globals structs numbers (node kind parts) after bindings h =
     ap (λ (state : UnitState). outline state.scope state.defined) (sym (given_is items.value after small.behind small.rest))
     ∙ items_are globals parts (unit_start structs numbers) items.value items.before items.first
 unit_is globals structs numbers (leaf token) after bindings h = absurd cc
+
+-- ---- each name that is declared stands in the order of the names
+
+abbrev Supported : Unit → Type 0
+Supported o = (name : List ℕ) → is_some (o.names name) ≡ true → Among o.order name
+
+entry_supported : (o : Unit) (name other : List ℕ) (n : FileName) (same : Bool) → bytes_eq other name ≡ same → Supported o → is_some (if same then Some n else o.names other) ≡ true → Among (o.order ++ name ∷ []) other
+entry_supported o name other n true e h is = among_right o.order (name ∷ []) other (inl ((bytes_decides other name).0 e))
+entry_supported o name other n false e h is = among_left o.order (name ∷ []) other (h other is)
+
+from_supported : (storage : Storage) (of_function : Bool) (name : List ℕ) (o : Unit) (visible : Option FileName) → Supported o → Supported (noted_from storage of_function name o visible)
+from_supported storage of_function name o (Some visible) h = h
+from_supported storage of_function name o None h = λ other is. entry_supported o name other (record { sort = plain_sort of_function; internal = linkage storage of_function None }) (bytes_eq other name) refl h is
+
+noted_supported : (storage : Storage) (of_function : Bool) (name : List ℕ) (o : Unit) → Supported o → Supported (noted storage of_function name o)
+noted_supported storage of_function name o h = from_supported storage of_function name o (o.names name) h
+
+object_supported : (storage : Storage) (initialiser : Option PlainTree) (name : List ℕ) (o : Unit) → Supported o → Supported (object_noted storage initialiser name o)
+object_supported by_extern None name o h = h
+object_supported by_static None name o h = h
+object_supported by_none None name o h = h
+object_supported storage (Some initialiser) name o h = h
+
+name_supported : (name : Option PlainToken) (change : List ℕ → Unit → Unit) (o : Unit) → ((n : List ℕ) (u : Unit) → Supported u → Supported (change n u)) → Supported o → Supported (for_name name change o)
+name_supported None change o keeps h = h
+name_supported (Some name) change o keeps h = keeps name.text o h
+
+declarator_supported : (storage : Storage) (tree : PlainTree) (initialiser : Option PlainTree) (o : Unit) → Supported o → Supported (declarator_noted storage tree initialiser o)
+declarator_supported storage (node k.FunctionDeclarator parts) initialiser o h = name_supported (name_in parts) (noted storage true) o (λ n u g. noted_supported storage true n u g) h
+declarator_supported storage (node kind parts) initialiser o h = name_supported (name_in parts) (λ name u. object_noted storage initialiser name (noted storage false name u)) o (λ n u g. object_supported storage initialiser n (noted storage false n u) (noted_supported storage false n u g)) h
+declarator_supported storage (leaf token) initialiser o h = h
+
+if_supported : (test : Bool) (a b : Unit) → Supported a → Supported b → Supported (if test then a else b)
+if_supported true a b h g = h
+if_supported false a b h g = g
+
+declarators_supported : (storage : Storage) (trees : PlainTrees) (o : Unit) → Supported o → Supported (declarators_noted storage trees o)
+declarators_supported storage none o h = h
+declarators_supported storage (more tree none) o h = declarator_supported storage tree None o h
+declarators_supported storage (more tree (more sign none)) o h = h
+declarators_supported storage (more tree (more sign (more next none))) o h =
+    if_supported (is_word (t.Assign ∷ []) sign) (declarator_noted storage tree (Some next) o) (declarators_noted storage (more next none) (declarator_noted storage tree None o))
+    (declarator_supported storage tree (Some next) o h) (declarators_supported storage (more next none) (declarator_noted storage tree None o) (declarator_supported storage tree None o h))
+declarators_supported storage (more tree (more sign (more next (more comma others)))) o h =
+    if_supported (is_word (t.Assign ∷ []) sign) (declarators_noted storage others (declarator_noted storage tree (Some next) o)) (declarators_noted storage (more next (more comma others)) (declarator_noted storage tree None o))
+    (declarators_supported storage others (declarator_noted storage tree (Some next) o) (declarator_supported storage tree (Some next) o h)) (declarators_supported storage (more next (more comma others)) (declarator_noted storage tree None o) (declarator_supported storage tree None o h))
+
+item_supported : (tree : PlainTree) (o : Unit) → Supported o → Supported (item_noted tree o)
+item_supported (node k.Declaration (more (node words_kind words) (more (node list_kind declarators) (more end none)))) o h = declarators_supported (storage_of words) declarators o h
+item_supported (node k.Function (more (node words_kind words) (more (node list_kind (more (node kind parts) none)) (more body none)))) o h = name_supported (name_in parts) (λ name u. with_body name (object_body []) (noted (storage_of words) true name u)) o (λ n u g. noted_supported (storage_of words) true n u g) h
+item_supported tree o h = h
+
+items_supported : (trees : PlainTrees) (o : Unit) → Supported o → Supported (items_noted trees o)
+items_supported none o h = h
+items_supported (more tree rest) o h = items_supported rest (item_noted tree o) (item_supported tree o h)
+
+unit_noted_supported : (tree : PlainTree) → Supported (unit_noted tree)
+unit_noted_supported (node kind parts) = items_supported parts (record { names = no_entry; order = []; defined = []; uses = λ name. false }) (λ name is. absurd cc)
+unit_noted_supported (leaf token) = λ name is. absurd cc
+
+some_bare : (n : Option FileName) → is_some n ≡ true → is_some (option_map bare_name n) ≡ true
+some_bare None is = absurd cc
+some_bare (Some n) is = refl
+
+pub unit_supported : (globals : ℕ) (structs : List Struct) (numbers : Numbers) (tree : PlainTree) (after : UnitState) (bindings : List Binding) → judged_unit globals structs numbers tree ≡ fine after bindings → (name : List ℕ) → is_some (after.scope.file_names name) ≡ true → Among after.scope.order name
+unit_supported globals structs numbers tree after bindings h name is =
+    let supported : Supported (outline_of after) = subst Supported (sym (unit_is globals structs numbers tree after bindings h)) (unit_noted_supported tree) in
+    supported name (some_bare (after.scope.file_names name) is)
 
 -- ---- units
 
