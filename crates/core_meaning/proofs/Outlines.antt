@@ -332,14 +332,14 @@ members_keep number (more tree rest) scope known after bindings h = absurd cc
 struct_keeps : (unit : UnitState) (words members : PlainTrees) (after : UnitState) (bindings : List Binding) → defined_struct unit words members ≡ fine after bindings → outline_of after ≡ outline_of unit
 struct_keeps unit words members after bindings h =
     let given_as : Based → AllMembers → Checked UnitState = λ base all. give (with_scope unit (record all.scope { structs = with_members_at (number_of_struct base.ty) all.known all.scope.structs })) in
-    let all_of : Based → Checked UnitState = λ base. all_members base.scope (number_of_struct base.ty) (record { members = []; numbers = no_entry }) members >>= given_as base in
+    let all_of : Based → Checked UnitState = λ base. all_members base.scope (number_of_struct base.ty) (record { members = []; numbers = no_entry; scalars = 0 }) members >>= given_as base in
     let new_of : PlainToken → Checked UnitState = λ tag. unless_so (not (is_defined_tag unit.scope (unit.scope.tags tag.text))) Redeclared tag >>= (λ new. based true unit.scope words >>= all_of) in
     let tag = bound (or_broken (name_in words)) new_of after bindings h in
     let new = bound (unless_so (not (is_defined_tag unit.scope (unit.scope.tags tag.value.text))) Redeclared tag.value) (λ new. based true unit.scope words >>= all_of) after tag.behind tag.rest in
     let base = bound (based true unit.scope words) all_of after new.behind new.rest in
-    let all = bound (all_members base.value.scope (number_of_struct base.value.ty) (record { members = []; numbers = no_entry }) members) (given_as base.value) after base.behind base.rest in
+    let all = bound (all_members base.value.scope (number_of_struct base.value.ty) (record { members = []; numbers = no_entry; scalars = 0 }) members) (given_as base.value) after base.behind base.rest in
     let keeps = kept_both unit.scope base.value.scope all.value.scope (based_keeps true unit.scope words base.value base.before base.first)
-    (members_keep (number_of_struct base.value.ty) members base.value.scope (record { members = []; numbers = no_entry }) all.value all.before all.first) in
+    (members_keep (number_of_struct base.value.ty) members base.value.scope (record { members = []; numbers = no_entry; scalars = 0 }) all.value all.before all.first) in
     ap (λ (state : UnitState). outline state.scope state.defined) (sym (given_is (with_scope unit (record all.value.scope { structs = with_members_at (number_of_struct base.value.ty) all.value.known all.value.scope.structs })) after all.behind all.rest))
     ∙ kept_outline unit.scope all.value.scope unit.defined keeps
 

@@ -1,5 +1,5 @@
 -- Constant expressions and initialisers (ISO/IEC 9899:2011, 6.6, 6.7.9).
-use Rattle.std.specs.Prelude.{ℕ, zero, suc, ◌+◌, ◌*◌, ◌==◌, nat_le, nat_lt, Bool, true, false, not, ◌&&◌, ℤ, pos, negsuc, List, [], ◌∷◌, ◌++◌, length, take, Option, Some, None, is_some, option_map, slice_get, if◌then◌else◌}
+use Rattle.std.specs.Prelude.{ℕ, suc, ◌+◌, ◌*◌, min, ◌==◌, nat_le, nat_lt, Bool, true, false, not, ◌&&◌, ℤ, pos, negsuc, List, [], ◌∷◌, ◌++◌, length, take, Option, Some, None, is_some, option_map, slice_get, if◌then◌else◌}
 use Rattle.text_edits.specs.Span.{PlainSpan}
 use Rattle.c_text.specs.Token.{PlainToken}
 use Rattle.c_types.specs.Types.{PlainType, char, unsigned_char, array_of, structure}
@@ -86,26 +86,26 @@ judged_count scope tree behind = do
   x ← valued scope tree
   found_or (if is_integer x.ty then count_of_value (value_if_constant x.core) else None) BadConstant (first_token tree behind)
 
--- how many scalars an object of a type has; a struct is no part of itself, so as many levels as there are structs are enough
-abbrev pub members_of : Option Struct → List PlainMember
-members_of (Some s) = s.members
-members_of None = []
+-- counts beyond the limit are all the same
+abbrev pub capped : ℕ → ℕ
+capped n = min n (most_scalars + 1)
 
-abbrev pub sum_over : (PlainType → ℕ) → List PlainMember → ℕ
-sum_over count [] = 0
-sum_over count (m ∷ rest) = count m.ty + sum_over count rest
+abbrev pub scalars_of : Option Struct → ℕ
+scalars_of (Some s) = s.scalars
+scalars_of None = 0
 
-abbrev pub scalars_at : List Struct → (PlainType → ℕ) → PlainType → ℕ
-scalars_at structs deeper (array_of element count) = count * scalars_at structs deeper element
-scalars_at structs deeper (structure s) = sum_over deeper (members_of (slice_get structs s))
-scalars_at structs deeper other = 1
+-- how many scalars an object of a type has
+abbrev pub scalars_in : List Struct → PlainType → ℕ
+scalars_in structs (array_of element count) = capped (count * scalars_in structs element)
+scalars_in structs (structure n) = scalars_of (slice_get structs n)
+scalars_in structs other = 1
 
-abbrev pub scalars_within : List Struct → ℕ → PlainType → ℕ
-scalars_within structs zero t = 0
-scalars_within structs (suc levels) t = scalars_at structs (scalars_within structs levels) t
+-- so many scalars, and those of one more part
+abbrev pub scalars_with : List Struct → ℕ → PlainType → ℕ
+scalars_with structs so_far t = capped (so_far + scalars_in structs t)
 
 abbrev pub is_small : List Struct → PlainType → Bool
-is_small structs t = nat_le (scalars_within structs (suc (length structs)) t) most_scalars
+is_small structs t = nat_le (scalars_in structs t) most_scalars
 
 -- ---- initialisers
 
@@ -127,6 +127,10 @@ address_scalar globals other = None
 abbrev pub first_scalar : ℕ → PlainExpression → Option Scalar
 first_scalar globals e =
     if is_constant e then option_map number (constant_value e) else address_scalar globals e
+
+abbrev pub members_of : Option Struct → List PlainMember
+members_of (Some s) = s.members
+members_of None = []
 
 -- the part of an object that the initialiser with this number in braces is for
 abbrev pub part_for : List Struct → PlainType → ℕ → Option PlainType

@@ -45,7 +45,7 @@ pub record Based : Type 0 where
   pub scope : Scope
 
 abbrev pub new_struct : List ℕ → Struct
-new_struct name = record { name = name; members = []; numbers = no_entry; complete = false }
+new_struct name = record { name = name; members = []; numbers = no_entry; complete = false; scalars = 0 }
 
 abbrev pub with_struct : Scope → List ℕ → Scope
 with_struct scope name =

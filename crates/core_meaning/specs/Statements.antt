@@ -11,7 +11,7 @@ use Rattle.core_meaning.specs.Program.{PlainExpression, constant, PlainStatement
 use Rattle.core_meaning.specs.Checking.{Checked, broken, ◌>>=◌, give, unless_so, found_or}
 use Rattle.core_meaning.specs.Entities.{no_entry, Scope}
 use Rattle.core_meaning.specs.Typing.{fits_into}
-use Rattle.core_meaning.specs.Expressions.{valued, judged_condition, is_void}
+use Rattle.core_meaning.specs.Expressions.{valued, judged_condition, is_void, unused}
 use Rattle.core_meaning.specs.Declarations.{LocalItem, judged_locals}
 
 -- where a statement stands: what is visible, what its function's result is, and whether a loop is around it
@@ -57,7 +57,7 @@ abbrev pub discarded : Scope → PlainTree → PlainExpression → Checked Plain
 discarded scope (node k.Absent parts) otherwise = give otherwise
 discarded scope tree otherwise = do
   x ← valued scope tree
-  give x.core
+  give (unused x.core)
 
 -- a condition that is left out holds
 abbrev pub condition_or_true : Scope → PlainTree → PlainToken → Checked PlainExpression
@@ -68,7 +68,7 @@ abbrev pub expression_statement : Scope → PlainTree → Checked PlainStatement
 expression_statement scope (node k.Absent parts) = give (block no_item)
 expression_statement scope tree = do
   x ← valued scope tree
-  give (evaluate x.core)
+  give (evaluate (unused x.core))
 
 abbrev pub jump : Around → PlainToken → Checked PlainStatement
 jump around word = do

@@ -16,7 +16,7 @@ use Rattle.c_types.specs.Tags.{PlainMember}
 use Rattle.core_meaning.specs.Entities.{Table, no_entry, with_entry, Struct, Signature, Sort, variable, function, FileName, Numbers, Scope, or_else}
 use Rattle.core_meaning.specs.Typing.{same_type, is_complete}
 use Rattle.core_meaning.specs.Expressions.{first_token, has_terminal, is_void}
-use Rattle.core_meaning.specs.Constancy.{is_small, Initial, initial, first_scalar}
+use Rattle.core_meaning.specs.Constancy.{is_small, Initial, initial, first_scalar, scalars_with}
 use Rattle.core_meaning.specs.Declarations.{name_in, behind_word, based, starred, object_type, Parameter, parameters_of, judged_object, with_block, with_parameter}
 use Rattle.core_meaning.specs.Statements.{JudgedItems, judged_items, items_as}
 
@@ -284,11 +284,14 @@ defined_function unit storage ty parts name body = do
 pub record Members : Type 0 where
   pub members : List PlainMember
   pub numbers : Table ℕ
+  -- how many scalars they have
+  pub scalars : ℕ
 
-abbrev pub with_member : Members → List ℕ → PlainType → Members
-with_member known name ty = record {
+abbrev pub with_member : List Struct → Members → List ℕ → PlainType → Members
+with_member structs known name ty = record {
   members = known.members ++ record { name = name; ty = ty } ∷ [];
   numbers = with_entry known.numbers name (length known.members);
+  scalars = scalars_with structs known.scalars ty;
 }
 
 abbrev pub declared_member : Scope → ℕ → Members → PlainType → Kind → PlainTrees → PlainToken → Checked Members
@@ -297,7 +300,7 @@ declared_member scope number known ty kind parts name = do
   bound ← declares (member_entity number (length known.members))
   whole ← object_type scope ty kind parts name None
   complete ← unless_so (is_complete scope.structs whole) Incomplete name
-  give (with_member known name.text whole)
+  give (with_member scope.structs known name.text whole)
 
 abbrev pub one_member : Scope → ℕ → Members → PlainType → PlainTree → Checked Members
 one_member scope number known ty (node kind parts) =
@@ -325,7 +328,7 @@ all_members scope number known (more (node kind (more (node words_kind words) (m
 all_members scope number known (more tree rest) = broken
 
 abbrev pub completed : Members → Struct → Struct
-completed known s = record s { members = known.members; numbers = known.numbers; complete = true }
+completed known s = record s { members = known.members; numbers = known.numbers; complete = true; scalars = known.scalars }
 
 abbrev pub with_members_at : ℕ → Members → List Struct → List Struct
 with_members_at n known [] = []
@@ -350,7 +353,7 @@ defined_struct unit words members = do
   tag ← or_broken (name_in words)
   new ← unless_so (not (is_defined_tag unit.scope (unit.scope.tags tag.text))) Redeclared tag
   base ← based true unit.scope words
-  all ← all_members base.scope (number_of_struct base.ty) (record { members = []; numbers = no_entry }) members
+  all ← all_members base.scope (number_of_struct base.ty) (record { members = []; numbers = no_entry; scalars = 0 }) members
   give (with_scope unit (record all.scope { structs = with_members_at (number_of_struct base.ty) all.known all.scope.structs }))
 
 -- ---- items

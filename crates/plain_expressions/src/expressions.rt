@@ -12,7 +12,7 @@ ghost use Rattle.plain_scope.specs.PlainScope.{plain_scope, plain_signature};
 ghost use Rattle.plain_scope.specs.Parts.{parts_in};
 ghost use Rattle.plain_scope.specs.Judgements.{Answers, Judges};
 ghost use Rattle.plain_operands.specs.PlainOperands.{plain_operand, plain_typed, boxed_expression};
-ghost use Rattle.plain_expressions.specs.Steps.{operated, on_operand, written_object, passed_argument, cast_value, two_in, on_two, joined_values, assigned_in, may_be_called, called_with, called_by, not_called, is_list, is_between};
+ghost use Rattle.plain_expressions.specs.Steps.{operated, on_operand, written_object, passed_argument, cast_value, two_in, on_two, joined_values, assigned_in, called_with, called_by, not_called, is_list, is_between};
 ghost use Rattle.plain_expressions.specs.PlainSteps.{plain_two, plain_callee, plain_left};
 
 use crate::callees::{Callee, called_function};
@@ -27,8 +27,8 @@ use plain_operands::{
     loaded, logical, of_value, prefixed, selected, stepped, written_place,
 };
 use plain_scope::{
-    ElabError, Scope, Signature, Used, arithmetic_words, copied, first_token, is_void, leaf, parts_of,
-    refused, unless,
+    ElabError, Scope, Signature, Used, arithmetic_words, copied, first_token, is_void, leaf,
+    parts_of, refused, unless,
 };
 use std::alloc::Global;
 
@@ -323,7 +323,7 @@ fn may_be_called(
     count: usize,
     bracket: &Token,
 ) -> Result<(), ElabError>
-    ensures { Answers (may_be_called (plain_scope scope.now) (plain_signature signature.now) count (plain_token bracket.now)) (λ _. tt) result }
+    ensures { Answers (spec.may_be_called (plain_scope scope.now) (plain_signature signature.now) count (plain_token bracket.now)) (λ _. tt) result }
 {
     let result = &signature.result;
     let complete = is_void(result) || scope.is_complete(result);

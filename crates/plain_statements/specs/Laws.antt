@@ -17,7 +17,7 @@ use Rattle.plain_scope.specs.JudgementLaws.{gives_nothing_used, refuses_is}
 use Rattle.plain_declarations.specs.Words.{is_gone}
 use Rattle.plain_declarations.specs.Sequences.{bind_nothing, gives_of, refused_of}
 use Rattle.plain_scope.specs.Bindings.{then_same}
-use Rattle.plain_statements.specs.Steps.{nothing_returned, returned_as, value_of, evaluated, returned_value}
+use Rattle.plain_statements.specs.Steps.{nothing_returned, returned_as, unused_value, evaluated, returned_value}
 
 -- ---- parts that may be left out
 
@@ -26,7 +26,7 @@ discarded_gone scope (leaf token) otherwise is = cc
 discarded_gone scope (node k.Absent parts) otherwise is = refl
 discarded_gone scope (node other parts) otherwise is = cc
 
-pub discarded_there : (scope : Scope) (tree : PlainTree) (otherwise : PlainExpression) → is_gone tree ≡ false → discarded scope tree otherwise ≡ value_of scope tree
+pub discarded_there : (scope : Scope) (tree : PlainTree) (otherwise : PlainExpression) → is_gone tree ≡ false → discarded scope tree otherwise ≡ unused_value scope tree
 discarded_there scope (leaf token) otherwise is = refl
 discarded_there scope (node k.Absent parts) otherwise is = cc
 discarded_there scope (node other parts) otherwise is = refl
@@ -81,11 +81,11 @@ returned_law around word (node other parts) = refl
 
 -- ---- the same, by what is judged
 
-pub discarded_gives : (scope : Scope) (tree : PlainTree) (otherwise x : PlainExpression) (before after : List ℕ → Bool) → is_gone tree ≡ false → Gives (value_of scope tree) x before after → Gives (discarded scope tree otherwise) x before after
-discarded_gives scope tree otherwise x before after is g = gives_of (discarded scope tree otherwise) (value_of scope tree) x before after (discarded_there scope tree otherwise is) g
+pub discarded_gives : (scope : Scope) (tree : PlainTree) (otherwise x : PlainExpression) (before after : List ℕ → Bool) → is_gone tree ≡ false → Gives (unused_value scope tree) x before after → Gives (discarded scope tree otherwise) x before after
+discarded_gives scope tree otherwise x before after is g = gives_of (discarded scope tree otherwise) (unused_value scope tree) x before after (discarded_there scope tree otherwise is) g
 
-pub discarded_refused : (scope : Scope) (tree : PlainTree) (otherwise : PlainExpression) (error : ElabError) → is_gone tree ≡ false → RefusedAs (value_of scope tree) error → RefusedAs (discarded scope tree otherwise) error
-discarded_refused scope tree otherwise error is r = refused_of (discarded scope tree otherwise) (value_of scope tree) error (discarded_there scope tree otherwise is) r
+pub discarded_refused : (scope : Scope) (tree : PlainTree) (otherwise : PlainExpression) (error : ElabError) → is_gone tree ≡ false → RefusedAs (unused_value scope tree) error → RefusedAs (discarded scope tree otherwise) error
+discarded_refused scope tree otherwise error is r = refused_of (discarded scope tree otherwise) (unused_value scope tree) error (discarded_there scope tree otherwise is) r
 
 pub discarded_nothing : (scope : Scope) (tree : PlainTree) (otherwise x : PlainExpression) (before : List ℕ → Bool) → is_gone tree ≡ true → x ≡ otherwise → Gives (discarded scope tree otherwise) x before before
 discarded_nothing scope tree otherwise x before is same = gives_nothing_used (discarded scope tree otherwise) x before (discarded_gone scope tree otherwise is ∙ ap give (sym same))

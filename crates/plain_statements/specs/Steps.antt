@@ -11,7 +11,7 @@ use Rattle.core_meaning.specs.Program.{PlainExpression, PlainStatement, block, e
 use Rattle.core_meaning.specs.Checking.{Checked, broken, ◌>>=◌, give, refused, unless_so, found_or}
 use Rattle.core_meaning.specs.Entities.{Scope}
 use Rattle.core_meaning.specs.Typing.{fits_into}
-use Rattle.core_meaning.specs.Expressions.{valued, judged_condition, is_void}
+use Rattle.core_meaning.specs.Expressions.{valued, judged_condition, is_void, unused}
 use Rattle.core_meaning.specs.Declarations.{judged_locals}
 use Rattle.plain_scope.specs.Blocks.{with_block, without_block}
 use Rattle.core_meaning.specs.Statements.{Around, Judged, JudgedItems, judged_as, items_as, in_block, within_loop, before_items, one_item, nothing_to_do, discarded, condition_or_true, expression_statement, loop_of, judged_statement, judged_else, judged_items}
@@ -21,16 +21,16 @@ around_of scope returns in_loop = record { scope = scope; result = returns; in_l
 
 -- ---- statements that take no slots
 
--- the value of an expression
-abbrev pub value_of : Scope → PlainTree → Checked PlainExpression
-value_of scope tree = do
+-- an expression whose value isn't used
+abbrev pub unused_value : Scope → PlainTree → Checked PlainExpression
+unused_value scope tree = do
   x ← valued scope tree
-  give x.core
+  give (unused x.core)
 
 abbrev pub evaluated : Scope → PlainTree → Checked PlainStatement
 evaluated scope tree = do
   x ← valued scope tree
-  give (evaluate x.core)
+  give (evaluate (unused x.core))
 
 -- the value of a `return` in a function with a result
 abbrev pub returned_value : Scope → PlainType → PlainToken → PlainTree → Checked PlainStatement

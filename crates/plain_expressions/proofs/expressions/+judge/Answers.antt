@@ -1,5 +1,5 @@
 -- Expressions, each kind of node from what its parts are judged as.
-use Rattle.std.proofs.Common.{◌≡◌, ℕ, ◌+◌, ◌*◌, ◌==◌, List, true, Vec, Global, get_or, map, drop, length, refl, sym, ap, subst, ◌∙◌, arith}
+use Rattle.std.proofs.Common.{rules, ◌≡◌, ℕ, ◌+◌, ◌*◌, ◌==◌, List, true, Vec, Global, get_or, map, drop, length, refl, sym, ap, subst, ◌∙◌, arith}
 use Rattle.std.proofs.lemmas.List.{length-map}
 use Rattle.c_types.specs.declared.types.CType.{CType}
 use Rattle.c_types.specs.Types.{plain_type}
@@ -21,7 +21,7 @@ use Rattle.plain_scope.specs.Judgements.{Gives}
 use Rattle.plain_scope.specs.JudgementLaws.{gives_then, refused_first}
 use Rattle.plain_operands.specs.PlainOperands.{plain_operand, plain_typed}
 use Rattle.plain_expressions.specs.PlainSteps.{plain_two, plain_callee, plain_left}
-use Rattle.plain_expressions.specs.Steps.{both, two_values, two_in, on_two, written_object, assigned_to, assigned_in, cast_value, on_operand, called_by, called_with, not_called, call_of, is_list}
+use Rattle.plain_expressions.specs.Steps.{passed_argument, both, two_values, two_in, on_two, written_object, assigned_to, assigned_in, cast_value, on_operand, called_by, called_with, not_called, call_of, is_list}
 use Rattle.plain_expressions.proofs.Answering.{judges_as, passed_on, gives_as, refused_as, refused_behind, gives_last}
 use Rattle.plain_expressions.proofs.Shapes.{two_parts, three_parts, three_first, three_around, three_inside, four_but_third, four_but_last, five_but_fourth}
 use Rattle.plain_expressions.proofs.NodeLaws.{between_law, index_law, behind_law, before_law, prefix_law, inner_law, selection_law, cast_law, assigned_law, conditional_law, call_law, list_law, called_gives, cast_shape}
@@ -414,5 +414,8 @@ arguments-loop-i-preserved t c =
     let bracket = plain_token c.args.bracket.now in
     let whole = from scope bracket c.args.types.now c.args.parts.now in
     let i = c.loop-i.i in
+    let core = c.into_inner.result in
+    let is : c.in_ok-core.core.value ≡ core = search rules in
+    let given = subst (λ (e : Expression). Gives (passed_argument scope (plain_type c.index-types-i.result) (plain_tree c.in-Some.tree.now) bracket) (plain_expression e) (uses_of c.loop-i.used) (uses_of c.passed.new.used)) is c.in_ok-core.ensures in
     subst (λ (es : List Expression). Continues whole (from scope bracket (drop (i + 1) c.args.types.now) (drop (2 * (i + 1)) c.args.parts.now)) (plain_arguments es) (uses_of c.args.used.now) (uses_of c.passed.new.used)) (sym c.in_ok-push.ensures.items)
-    (step_at scope whole c.args.types.now c.args.parts.now i c.index-types-i.result c.in-Some.tree.now bracket c.loop-i.given.items c.in_ok-core.core.value (uses_of c.args.used.now) (uses_of c.loop-i.used) (uses_of c.passed.new.used) (omega arith) c.index-types-i.is c.in-Some.ensures.lookup.3.0 c.in-Some.ensures.lookup.1 c.loop-i.invariant c.in_ok-core.ensures)
+    (step_at scope whole c.args.types.now c.args.parts.now i c.index-types-i.result c.in-Some.tree.now bracket c.loop-i.given.items core (uses_of c.args.used.now) (uses_of c.loop-i.used) (uses_of c.passed.new.used) (omega arith) c.index-types-i.is c.in-Some.ensures.lookup.3.0 c.in-Some.ensures.lookup.1 c.loop-i.invariant given)
