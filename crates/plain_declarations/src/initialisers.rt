@@ -297,7 +297,7 @@ fn value_initial<'t>(
 {
     let x = valued(alloc, scope, used, tree)?;
     let core = fitted(alloc, ty, x, TypeKind::BadOperand, first)?;
-    let parts = allowed_part(alloc, scope, constant, path, core, first)?;
+    let parts = allowed_part(alloc, scope, constant, path, Box::into_inner(core), first)?;
     Ok(parts)
 }
 
