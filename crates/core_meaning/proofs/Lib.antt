@@ -1,3 +1,5 @@
 pub mod Growth
 pub mod Examples
 pub mod Outlines
+pub mod NameOrder
+pub mod FirstFaults

@@ -1,5 +1,5 @@
 -- What a unit declares and defines, whatever numbers its names have.
-use Rattle.std.proofs.Common.{◌≡◌, ℕ, ◌+◌, Bool, true, false, List, [], ◌∷◌, ◌++◌, map, refl, sym, ap, subst, Option, Some, None, ◌∙◌}
+use Rattle.std.proofs.Common.{◌≡◌, ℕ, ◌+◌, Bool, true, false, List, [], ◌∷◌, ◌++◌, map, refl, sym, ap, subst, Option, Some, None, ◌∙◌, inl, inr}
 use Rattle.std.specs.Prelude.{not, ◌&&◌, ◌||◌, is_some, nat_le, length, filter, if◌then◌else◌, option_map, ◌==◌}
 use Rattle.std.specs.List.{list_any}
 use Rattle.std.specs.Str.{bytes_eq}
@@ -12,16 +12,19 @@ use Rattle.c_tree.specs.declared.kinds.Kind.TheVariants as k
 use Rattle.c_tree.specs.declared.terminals.Terminal.TheVariants as t
 use Rattle.c_tree.specs.Grammar.{is_word}
 use Rattle.c_tree.specs.Trees.{PlainTree, PlainTrees, leaf, node, none, more}
+use Rattle.core_meaning.specs.declared.refusals.TypeKind.{TypeKind}
 use Rattle.core_meaning.specs.declared.refusals.TypeKind.TheVariants.{Redeclared}
 use Rattle.core_meaning.specs.Checking.{Binding, Checked, fine, refused, broken, with_bindings, ◌>>=◌, give, unless_so, declares, file_entity, in_function, or_broken}
 use Rattle.core_meaning.specs.Entities.{Table, no_entry, with_entry, Struct, Sort, variable, function, FileName, Numbers, Scope}
 use Rattle.core_meaning.specs.Expressions.{has_terminal, arithmetic_words}
 use Rattle.core_meaning.specs.Constancy.{initial}
-use Rattle.core_meaning.specs.Declarations.{name_in, behind_word, Based, based, based_on_tag, with_struct, starred, object_type, Parameter, parameters_of}
+use Rattle.core_meaning.specs.Declarations.{name_in, behind_word, Based, based, based_on_tag, with_struct, starred, object_type, Parameter, parameters_of, with_block}
 use Rattle.core_meaning.specs.Statements.{JudgedItems}
-use Rattle.core_meaning.specs.UnitNames.{Body, object_body, tentative_body, function_body, Defined, UnitState, Storage, by_static, by_extern, by_none, storage_of, is_function, linkage, with_name, declared_as, same_sort, same_bool, with_file_name, with_defined, with_scope, defined_object, constant_parts, judged_global, declared_object, signature_of, refused_initialiser, declared_function, declared_one, declared_from, is_result, result_kind, judged_body, with_parameters, with_block, parameter_types, count_functions, defined_function, Members, members_from, AllMembers, all_members, with_members_at, number_of_struct, is_defined_tag, defined_struct, judged_item, judged_file_items, unit_start, judged_unit}
+use Rattle.core_meaning.specs.UnitNames.{Body, object_body, tentative_body, function_body, Defined, UnitState, Storage, by_static, by_extern, by_none, storage_of, is_function, linkage, with_name, declared_as, same_sort, same_bool, with_file_name, with_defined, with_scope, defined_object, constant_parts, judged_global, declared_object, signature_of, refused_initialiser, declared_function, declared_one, declared_from, is_result, result_kind, judged_body, with_parameters, parameter_types, count_functions, defined_function, Members, members_from, AllMembers, all_members, with_members_at, number_of_struct, is_defined_tag, defined_struct, judged_item, judged_file_items, unit_start, new_function, too_big_in, unless_too_big, judged_unit}
 use Rattle.core_meaning.specs.Linking.{Unit, Units, uses_in, closed, judged_units, is_internal, is_tentative, defines, count_whole, count_defined, count_external, built_in_named, is_available, Linked, linked_in, all_linked, each_once, is_of_sort, is_wanted, listed}
 use Rattle.core_meaning.specs.Judgings.{JudgingsListAlike}
+use Rattle.core_meaning.proofs.NameOrder.{Among, among_left, among_right}
+use Rattle.std.specs.Cmp.Lexicographic.{bytes_decides}
 
 -- ---- outlines: names without types, definitions without values
 
@@ -123,21 +126,21 @@ with_fine before (fine z behind) y bindings h =
 with_fine before (refused kind token) y bindings h = absurd cc
 with_fine before broken y bindings h = absurd cc
 
-record Bound {A B : Type 0} (c : Checked A) (next : A → Checked B) (y : B) : Type 0 where
-  value : A
-  before : List Binding
-  behind : List Binding
-  first : c ≡ fine value before
-  rest : next value ≡ fine y behind
+pub record Bound {A B : Type 0} (c : Checked A) (next : A → Checked B) (y : B) : Type 0 where
+  pub value : A
+  pub before : List Binding
+  pub behind : List Binding
+  pub first : c ≡ fine value before
+  pub rest : next value ≡ fine y behind
 
-bound : {A B : Type 0} (c : Checked A) (next : A → Checked B) (y : B) (bindings : List Binding) → (c >>= next) ≡ fine y bindings → Bound c next y
+pub bound : {A B : Type 0} (c : Checked A) (next : A → Checked B) (y : B) (bindings : List Binding) → (c >>= next) ≡ fine y bindings → Bound c next y
 bound (fine x before) next y bindings h =
     let after = with_fine before (next x) y bindings h in
     record { value = x; before = before; behind = after.0; first = refl; rest = after.1 }
 bound (refused kind token) next y bindings h = absurd cc
 bound broken next y bindings h = absurd cc
 
-given_is : {A : Type 0} (x y : A) (bindings : List Binding) → give x ≡ fine y bindings → x ≡ y
+pub given_is : {A : Type 0} (x y : A) (bindings : List Binding) → give x ≡ fine y bindings → x ≡ y
 given_is x y bindings h = cc
 
 -- ---- names
@@ -241,8 +244,9 @@ function_declared : (unit : UnitState) (storage : Storage) (ty : PlainType) (par
 function_declared unit storage ty parts name initialiser after bindings h =
     let given_as : Scope → Checked UnitState = λ scope. refused_initialiser initialiser name >>= (λ none_given. give (with_scope unit scope)) in
     let named_as : List Parameter → Checked UnitState = λ parameters. with_name unit.scope name (function (signature_of (starred parts ty) parameters)) storage >>= given_as in
-    let declaring = bound (declares (file_entity name.text)) (λ bound. parameters_of false unit.scope (behind_word t.OpenParenthesis parts) name >>= named_as) after bindings h in
-    let parameters = bound (parameters_of false unit.scope (behind_word t.OpenParenthesis parts) name) named_as after declaring.behind declaring.rest in
+    let taken : Checked (List Parameter) = new_function false unit.scope storage (starred parts ty) parts name in
+    let declaring = bound (declares (file_entity name.text)) (λ bound. taken >>= named_as) after bindings h in
+    let parameters = bound taken named_as after declaring.behind declaring.rest in
     let scope = bound (with_name unit.scope name (function (signature_of (starred parts ty) parameters.value)) storage) given_as after parameters.behind parameters.rest in
     let none_given = bound (refused_initialiser initialiser name) (λ none_given. give (with_scope unit scope.value)) after scope.behind scope.rest in
     ap (λ (state : UnitState). outline state.scope state.defined) (sym (given_is (with_scope unit scope.value) after none_given.behind none_given.rest))
@@ -297,12 +301,14 @@ declarators_are globals storage ty (more tree (more sign (more next (more comma 
 function_defined : (unit : UnitState) (storage : Storage) (ty : PlainType) (parts : PlainTrees) (name : PlainToken) (body : PlainTree) (after : UnitState) (bindings : List Binding) → defined_function unit storage ty parts name body ≡ fine after bindings → outline_of after ≡ with_body name.text (object_body []) (noted storage true name.text (outline_of unit))
 function_defined unit storage ty parts name body after bindings h =
     let result : PlainType = starred parts ty in
-    let taken : Checked (List Parameter) = parameters_of true unit.scope (behind_word t.OpenParenthesis parts) name in
+    let taken : Checked (List Parameter) = new_function true unit.scope storage result parts name in
+    let kind : TypeKind = result_kind unit.scope storage result name (parameters_of true unit.scope (behind_word t.OpenParenthesis parts) name) in
     let items_given : List Parameter → Scope → JudgedItems → Checked UnitState = λ parameters scope items. give (with_defined (with_scope unit scope) name.text (function_body items.slots items.core)) in
     let judged_as : List Parameter → Scope → Checked UnitState = λ parameters scope. judged_body (with_parameters (with_block scope) 0 parameters) result (parameter_types parameters) body >>= items_given parameters scope in
     let named_as : List Parameter → Checked UnitState = λ parameters. with_name unit.scope name (function (signature_of result parameters)) storage >>= judged_as parameters in
-    let declaring = bound (declares (file_entity name.text)) (λ bound. unless_so (is_result unit.scope result) (result_kind unit.scope storage result name taken) name >>= (λ fits. taken >>= named_as)) after bindings h in
-    let fits = bound (unless_so (is_result unit.scope result) (result_kind unit.scope storage result name taken) name) (λ fits. taken >>= named_as) after declaring.behind declaring.rest in
+    let fitting : Checked (Prim.Unit {0}) = unless_so (is_result unit.scope result) kind name in
+    let declaring = bound (declares (file_entity name.text)) (λ bound. fitting >>= (λ fits. taken >>= named_as)) after bindings h in
+    let fits = bound fitting (λ fits. taken >>= named_as) after declaring.behind declaring.rest in
     let parameters = bound taken named_as after fits.behind fits.rest in
     let scope = bound (with_name unit.scope name (function (signature_of result parameters.value)) storage) (judged_as parameters.value) after parameters.behind parameters.rest in
     let items = bound (judged_body (with_parameters (with_block scope.value) 0 parameters.value) result (parameter_types parameters.value) body) (items_given parameters.value scope.value) after scope.behind scope.rest in
@@ -374,8 +380,81 @@ items_are globals (more tree rest) unit after bindings h =
     ∙ ap (items_noted rest) (item_is globals tree rest unit first.value first.before first.first)
 
 unit_is : (globals : ℕ) (structs : List Struct) (numbers : Numbers) (tree : PlainTree) (after : UnitState) (bindings : List Binding) → judged_unit globals structs numbers tree ≡ fine after bindings → outline_of after ≡ unit_noted tree
-unit_is globals structs numbers (node kind parts) after bindings h = items_are globals parts (unit_start structs numbers) after bindings h
+unit_is globals structs numbers (node kind parts) after bindings h =
+    let ended : UnitState → Checked UnitState = λ unit. unless_too_big (too_big_in unit.scope parts) >>= (λ small. give unit) in
+    let items = bound (judged_file_items globals (unit_start structs numbers) parts) ended after bindings h in
+    let small = bound (unless_too_big (too_big_in items.value.scope parts)) (λ small. give items.value) after items.behind items.rest in
+    ap (λ (state : UnitState). outline state.scope state.defined) (sym (given_is items.value after small.behind small.rest))
+    ∙ items_are globals parts (unit_start structs numbers) items.value items.before items.first
 unit_is globals structs numbers (leaf token) after bindings h = absurd cc
+
+-- ---- each name that is declared stands in the order of the names
+
+abbrev Supported : Unit → Type 0
+Supported o = (name : List ℕ) → is_some (o.names name) ≡ true → Among o.order name
+
+entry_supported : (o : Unit) (name other : List ℕ) (n : FileName) (same : Bool) → bytes_eq other name ≡ same → Supported o → is_some (if same then Some n else o.names other) ≡ true → Among (o.order ++ name ∷ []) other
+entry_supported o name other n true e h is = among_right o.order (name ∷ []) other (inl ((bytes_decides other name).0 e))
+entry_supported o name other n false e h is = among_left o.order (name ∷ []) other (h other is)
+
+from_supported : (storage : Storage) (of_function : Bool) (name : List ℕ) (o : Unit) (visible : Option FileName) → Supported o → Supported (noted_from storage of_function name o visible)
+from_supported storage of_function name o (Some visible) h = h
+from_supported storage of_function name o None h = λ other is. entry_supported o name other (record { sort = plain_sort of_function; internal = linkage storage of_function None }) (bytes_eq other name) refl h is
+
+noted_supported : (storage : Storage) (of_function : Bool) (name : List ℕ) (o : Unit) → Supported o → Supported (noted storage of_function name o)
+noted_supported storage of_function name o h = from_supported storage of_function name o (o.names name) h
+
+object_supported : (storage : Storage) (initialiser : Option PlainTree) (name : List ℕ) (o : Unit) → Supported o → Supported (object_noted storage initialiser name o)
+object_supported by_extern None name o h = h
+object_supported by_static None name o h = h
+object_supported by_none None name o h = h
+object_supported storage (Some initialiser) name o h = h
+
+name_supported : (name : Option PlainToken) (change : List ℕ → Unit → Unit) (o : Unit) → ((n : List ℕ) (u : Unit) → Supported u → Supported (change n u)) → Supported o → Supported (for_name name change o)
+name_supported None change o keeps h = h
+name_supported (Some name) change o keeps h = keeps name.text o h
+
+declarator_supported : (storage : Storage) (tree : PlainTree) (initialiser : Option PlainTree) (o : Unit) → Supported o → Supported (declarator_noted storage tree initialiser o)
+declarator_supported storage (node k.FunctionDeclarator parts) initialiser o h = name_supported (name_in parts) (noted storage true) o (λ n u g. noted_supported storage true n u g) h
+declarator_supported storage (node kind parts) initialiser o h = name_supported (name_in parts) (λ name u. object_noted storage initialiser name (noted storage false name u)) o (λ n u g. object_supported storage initialiser n (noted storage false n u) (noted_supported storage false n u g)) h
+declarator_supported storage (leaf token) initialiser o h = h
+
+if_supported : (test : Bool) (a b : Unit) → Supported a → Supported b → Supported (if test then a else b)
+if_supported true a b h g = h
+if_supported false a b h g = g
+
+declarators_supported : (storage : Storage) (trees : PlainTrees) (o : Unit) → Supported o → Supported (declarators_noted storage trees o)
+declarators_supported storage none o h = h
+declarators_supported storage (more tree none) o h = declarator_supported storage tree None o h
+declarators_supported storage (more tree (more sign none)) o h = h
+declarators_supported storage (more tree (more sign (more next none))) o h =
+    if_supported (is_word (t.Assign ∷ []) sign) (declarator_noted storage tree (Some next) o) (declarators_noted storage (more next none) (declarator_noted storage tree None o))
+    (declarator_supported storage tree (Some next) o h) (declarators_supported storage (more next none) (declarator_noted storage tree None o) (declarator_supported storage tree None o h))
+declarators_supported storage (more tree (more sign (more next (more comma others)))) o h =
+    if_supported (is_word (t.Assign ∷ []) sign) (declarators_noted storage others (declarator_noted storage tree (Some next) o)) (declarators_noted storage (more next (more comma others)) (declarator_noted storage tree None o))
+    (declarators_supported storage others (declarator_noted storage tree (Some next) o) (declarator_supported storage tree (Some next) o h)) (declarators_supported storage (more next (more comma others)) (declarator_noted storage tree None o) (declarator_supported storage tree None o h))
+
+item_supported : (tree : PlainTree) (o : Unit) → Supported o → Supported (item_noted tree o)
+item_supported (node k.Declaration (more (node words_kind words) (more (node list_kind declarators) (more end none)))) o h = declarators_supported (storage_of words) declarators o h
+item_supported (node k.Function (more (node words_kind words) (more (node list_kind (more (node kind parts) none)) (more body none)))) o h = name_supported (name_in parts) (λ name u. with_body name (object_body []) (noted (storage_of words) true name u)) o (λ n u g. noted_supported (storage_of words) true n u g) h
+item_supported tree o h = h
+
+items_supported : (trees : PlainTrees) (o : Unit) → Supported o → Supported (items_noted trees o)
+items_supported none o h = h
+items_supported (more tree rest) o h = items_supported rest (item_noted tree o) (item_supported tree o h)
+
+unit_noted_supported : (tree : PlainTree) → Supported (unit_noted tree)
+unit_noted_supported (node kind parts) = items_supported parts (record { names = no_entry; order = []; defined = []; uses = λ name. false }) (λ name is. absurd cc)
+unit_noted_supported (leaf token) = λ name is. absurd cc
+
+some_bare : (n : Option FileName) → is_some n ≡ true → is_some (option_map bare_name n) ≡ true
+some_bare None is = absurd cc
+some_bare (Some n) is = refl
+
+pub unit_supported : (globals : ℕ) (structs : List Struct) (numbers : Numbers) (tree : PlainTree) (after : UnitState) (bindings : List Binding) → judged_unit globals structs numbers tree ≡ fine after bindings → (name : List ℕ) → is_some (after.scope.file_names name) ≡ true → Among after.scope.order name
+unit_supported globals structs numbers tree after bindings h name is =
+    let supported : Supported (outline_of after) = subst Supported (sym (unit_is globals structs numbers tree after bindings h)) (unit_noted_supported tree) in
+    supported name (some_bare (after.scope.file_names name) is)
 
 -- ---- units
 

@@ -1,5 +1,5 @@
 -- Statements and blocks (ISO/IEC 9899:2011, 6.8).
-use Rattle.std.specs.Prelude.{Bool, true, false, pos, List, [], ◌∷◌, None, if◌then◌else◌}
+use Rattle.std.specs.Prelude.{Bool, true, false, not, pos, List, [], ◌∷◌, None, if◌then◌else◌}
 use Rattle.std.specs.Str.{bytes_eq}
 use Rattle.std.specs.Prelude.{codes}
 use Rattle.c_text.specs.Token.{PlainToken}
@@ -81,8 +81,9 @@ returned around word (node k.Absent parts) = do
   placed ← unless_so (is_void around.result) Misplaced word
   give return_nothing
 returned around word tree = do
+  placed ← unless_so (not (is_void around.result)) Misplaced word
   x ← valued around.scope tree
-  core ← found_or (if is_void around.result then None else fits_into around.result x) Misplaced word
+  core ← found_or (fits_into around.result x) Misplaced word
   give (return_value core)
 
 -- a loop whose step is evaluated behind each turn

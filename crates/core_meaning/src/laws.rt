@@ -1,6 +1,6 @@
 //! Laws of runs, and of judgements. Each function is its contract alone.
 ghost use Rattle.core_meaning.specs.Growth.{RunsGrow, ReachingIsTransitive, LargerBoundReaches};
-ghost use Rattle.core_meaning.specs.Judgings.{JudgingsListAlike};
+ghost use Rattle.core_meaning.specs.Judgings.{JudgingsListAlike, NoUnitsAreLeftOut};
 
 /// A larger bound keeps the answer of a run that has ended or is undefined, and only lengthens the output of one that the
 /// bound cut off.
@@ -21,4 +21,10 @@ pub fn a_larger_bound_reaches()
 /// Units that are judged with other numbers of their names list the same objects and functions, in the same order.
 pub fn judgings_list_alike()
     ensures { JudgingsListAlike }
+{}
+
+/// Of each list of trees one holds: it has a core program, a type is refused, its units don't link, or a tree is none of the
+/// grammar.
+pub fn no_units_are_left_out()
+    ensures { NoUnitsAreLeftOut }
 {}

@@ -1,5 +1,5 @@
 -- Steps in judging statements.
-use Rattle.std.specs.Prelude.{ℕ, Bool, true, false, List, Option, Some, None, if◌then◌else◌, codes}
+use Rattle.std.specs.Prelude.{ℕ, Bool, true, false, not, List, Option, Some, None, if◌then◌else◌, codes}
 use Rattle.std.specs.Str.{bytes_eq}
 use Rattle.c_text.specs.Token.{PlainToken}
 use Rattle.c_types.specs.Types.{PlainType}
@@ -39,12 +39,6 @@ returned_value scope returns word tree = do
   core ← found_or (fits_into returns x) Misplaced word
   give (return_value core)
 
--- the value of a `return` in a function without a result
-abbrev pub value_refused : Scope → PlainToken → PlainTree → Checked PlainStatement
-value_refused scope word tree = do
-  x ← valued scope tree
-  refused Misplaced word
-
 abbrev pub expression_in : Scope → PlainTrees → Checked PlainStatement
 expression_in scope (more tree (more end none)) = expression_statement scope tree
 expression_in scope other = broken
@@ -70,9 +64,8 @@ nothing_returned returns word = do
 abbrev pub returned_as : Scope → PlainType → PlainToken → PlainTree → Checked PlainStatement
 returned_as scope returns word (node k.Absent parts) = nothing_returned returns word
 returned_as scope returns word tree = do
-  x ← valued scope tree
-  core ← found_or (if is_void returns then None else fits_into returns x) Misplaced word
-  give (return_value core)
+  placed ← unless_so (not (is_void returns)) Misplaced word
+  returned_value scope returns word tree
 
 abbrev pub return_in : Scope → PlainType → PlainTrees → Checked PlainStatement
 return_in scope returns (more (leaf word) (more tree (more end none))) = returned_as scope returns word tree

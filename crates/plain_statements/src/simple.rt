@@ -9,7 +9,7 @@ ghost use Rattle.core_meaning.specs.Expressions as expressions;
 ghost use Rattle.core_meaning.specs.Statements as spec;
 ghost use Rattle.plain_scope.specs.PlainScope.{plain_scope};
 ghost use Rattle.plain_scope.specs.Judgements.{Answers, Judges};
-ghost use Rattle.plain_statements.specs.Steps.{around_of, simple_of, unused_value, evaluated, returned_value, returned_as, value_refused, nothing_returned, expression_in, jump_by, jump_if, jump_in, return_in};
+ghost use Rattle.plain_statements.specs.Steps.{around_of, simple_of, unused_value, evaluated, returned_value, returned_as, nothing_returned, expression_in, jump_by, jump_if, jump_in, return_in};
 
 use c_text::Token;
 use c_tree::{Kind, Tree};
@@ -211,21 +211,6 @@ fn returned_value(
     Ok(Statement::ReturnValue(Box::into_inner(core)))
 }
 
-/// A function without a result returns no value.
-#[tactic(auto, using(plain_declarations::specs::Sequences::steps, plain_scope::specs::JudgementLaws::refuses_is))]
-fn value_refused(
-    alloc: Global,
-    scope: &Scope,
-    used: &mut Used,
-    tree: &Tree,
-    word: &Token,
-) -> Result<Statement, ElabError>
-    ensures { Judges (value_refused (plain_scope scope.now) (plain_token word.now) (plain_tree tree.now)) plain_statement used.old used.new result }
-{
-    valued(alloc, scope, used, tree)?;
-    Err(refused(TypeKind::Misplaced, word))
-}
-
 /// A `return` (6.8.6.4).
 #[tactic(auto, using(crate::specs::Laws::return_laws))]
 fn returned(
@@ -242,8 +227,7 @@ fn returned(
         let s = nothing_returned(word, returns)?;
         Ok(s)
     } else if is_void(returns) {
-        let s = value_refused(alloc, scope, used, tree, word)?;
-        Ok(s)
+        Err(refused(TypeKind::Misplaced, word))
     } else {
         let s = returned_value(alloc, scope, used, tree, word, returns)?;
         Ok(s)
