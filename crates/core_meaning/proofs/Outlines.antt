@@ -1,5 +1,5 @@
 -- What a unit declares and defines, whatever numbers its names have.
-use Rattle.std.proofs.Common.{◌≡◌, ℕ, ◌+◌, Bool, true, false, List, [], ◌∷◌, ◌++◌, map, refl, sym, ap, subst, Option, Some, None, ◌∙◌, inl}
+use Rattle.std.proofs.Common.{◌≡◌, ℕ, ◌+◌, Bool, true, false, List, [], ◌∷◌, ◌++◌, map, refl, sym, ap, subst, Option, Some, None, ◌∙◌, inl, inr}
 use Rattle.std.specs.Prelude.{not, ◌&&◌, ◌||◌, is_some, nat_le, length, filter, if◌then◌else◌, option_map, ◌==◌}
 use Rattle.std.specs.List.{list_any}
 use Rattle.std.specs.Str.{bytes_eq}
@@ -12,14 +12,15 @@ use Rattle.c_tree.specs.declared.kinds.Kind.TheVariants as k
 use Rattle.c_tree.specs.declared.terminals.Terminal.TheVariants as t
 use Rattle.c_tree.specs.Grammar.{is_word}
 use Rattle.c_tree.specs.Trees.{PlainTree, PlainTrees, leaf, node, none, more}
+use Rattle.core_meaning.specs.declared.refusals.TypeKind.{TypeKind}
 use Rattle.core_meaning.specs.declared.refusals.TypeKind.TheVariants.{Redeclared}
 use Rattle.core_meaning.specs.Checking.{Binding, Checked, fine, refused, broken, with_bindings, ◌>>=◌, give, unless_so, declares, file_entity, in_function, or_broken}
 use Rattle.core_meaning.specs.Entities.{Table, no_entry, with_entry, Struct, Sort, variable, function, FileName, Numbers, Scope}
 use Rattle.core_meaning.specs.Expressions.{has_terminal, arithmetic_words}
 use Rattle.core_meaning.specs.Constancy.{initial}
-use Rattle.core_meaning.specs.Declarations.{name_in, behind_word, Based, based, based_on_tag, with_struct, starred, object_type, Parameter, parameters_of}
+use Rattle.core_meaning.specs.Declarations.{name_in, behind_word, Based, based, based_on_tag, with_struct, starred, object_type, Parameter, parameters_of, with_block}
 use Rattle.core_meaning.specs.Statements.{JudgedItems}
-use Rattle.core_meaning.specs.UnitNames.{Body, object_body, tentative_body, function_body, Defined, UnitState, Storage, by_static, by_extern, by_none, storage_of, is_function, linkage, with_name, declared_as, same_sort, same_bool, with_file_name, with_defined, with_scope, defined_object, constant_parts, judged_global, declared_object, signature_of, refused_initialiser, declared_function, declared_one, declared_from, is_result, result_kind, judged_body, with_parameters, with_block, parameter_types, count_functions, defined_function, Members, members_from, AllMembers, all_members, with_members_at, number_of_struct, is_defined_tag, defined_struct, judged_item, judged_file_items, unit_start, judged_unit}
+use Rattle.core_meaning.specs.UnitNames.{Body, object_body, tentative_body, function_body, Defined, UnitState, Storage, by_static, by_extern, by_none, storage_of, is_function, linkage, with_name, declared_as, same_sort, same_bool, with_file_name, with_defined, with_scope, defined_object, constant_parts, judged_global, declared_object, signature_of, refused_initialiser, declared_function, declared_one, declared_from, is_result, result_kind, judged_body, with_parameters, parameter_types, count_functions, defined_function, Members, members_from, AllMembers, all_members, with_members_at, number_of_struct, is_defined_tag, defined_struct, judged_item, judged_file_items, unit_start, new_function, too_big_in, unless_too_big, judged_unit}
 use Rattle.core_meaning.specs.Linking.{Unit, Units, uses_in, closed, judged_units, is_internal, is_tentative, defines, count_whole, count_defined, count_external, built_in_named, is_available, Linked, linked_in, all_linked, each_once, is_of_sort, is_wanted, listed}
 use Rattle.core_meaning.specs.Judgings.{JudgingsListAlike}
 use Rattle.core_meaning.proofs.NameOrder.{Among, among_left, among_right}
@@ -243,8 +244,9 @@ function_declared : (unit : UnitState) (storage : Storage) (ty : PlainType) (par
 function_declared unit storage ty parts name initialiser after bindings h =
     let given_as : Scope → Checked UnitState = λ scope. refused_initialiser initialiser name >>= (λ none_given. give (with_scope unit scope)) in
     let named_as : List Parameter → Checked UnitState = λ parameters. with_name unit.scope name (function (signature_of (starred parts ty) parameters)) storage >>= given_as in
-    let declaring = bound (declares (file_entity name.text)) (λ bound. parameters_of false unit.scope (behind_word t.OpenParenthesis parts) name >>= named_as) after bindings h in
-    let parameters = bound (parameters_of false unit.scope (behind_word t.OpenParenthesis parts) name) named_as after declaring.behind declaring.rest in
+    let taken : Checked (List Parameter) = new_function false unit.scope storage (starred parts ty) parts name in
+    let declaring = bound (declares (file_entity name.text)) (λ bound. taken >>= named_as) after bindings h in
+    let parameters = bound taken named_as after declaring.behind declaring.rest in
     let scope = bound (with_name unit.scope name (function (signature_of (starred parts ty) parameters.value)) storage) given_as after parameters.behind parameters.rest in
     let none_given = bound (refused_initialiser initialiser name) (λ none_given. give (with_scope unit scope.value)) after scope.behind scope.rest in
     ap (λ (state : UnitState). outline state.scope state.defined) (sym (given_is (with_scope unit scope.value) after none_given.behind none_given.rest))
@@ -299,12 +301,14 @@ declarators_are globals storage ty (more tree (more sign (more next (more comma 
 function_defined : (unit : UnitState) (storage : Storage) (ty : PlainType) (parts : PlainTrees) (name : PlainToken) (body : PlainTree) (after : UnitState) (bindings : List Binding) → defined_function unit storage ty parts name body ≡ fine after bindings → outline_of after ≡ with_body name.text (object_body []) (noted storage true name.text (outline_of unit))
 function_defined unit storage ty parts name body after bindings h =
     let result : PlainType = starred parts ty in
-    let taken : Checked (List Parameter) = parameters_of true unit.scope (behind_word t.OpenParenthesis parts) name in
+    let taken : Checked (List Parameter) = new_function true unit.scope storage result parts name in
+    let kind : TypeKind = result_kind unit.scope storage result name (parameters_of true unit.scope (behind_word t.OpenParenthesis parts) name) in
     let items_given : List Parameter → Scope → JudgedItems → Checked UnitState = λ parameters scope items. give (with_defined (with_scope unit scope) name.text (function_body items.slots items.core)) in
     let judged_as : List Parameter → Scope → Checked UnitState = λ parameters scope. judged_body (with_parameters (with_block scope) 0 parameters) result (parameter_types parameters) body >>= items_given parameters scope in
     let named_as : List Parameter → Checked UnitState = λ parameters. with_name unit.scope name (function (signature_of result parameters)) storage >>= judged_as parameters in
-    let declaring = bound (declares (file_entity name.text)) (λ bound. unless_so (is_result unit.scope result) (result_kind unit.scope storage result name taken) name >>= (λ fits. taken >>= named_as)) after bindings h in
-    let fits = bound (unless_so (is_result unit.scope result) (result_kind unit.scope storage result name taken) name) (λ fits. taken >>= named_as) after declaring.behind declaring.rest in
+    let fitting : Checked (Prim.Unit {0}) = unless_so (is_result unit.scope result) kind name in
+    let declaring = bound (declares (file_entity name.text)) (λ bound. fitting >>= (λ fits. taken >>= named_as)) after bindings h in
+    let fits = bound fitting (λ fits. taken >>= named_as) after declaring.behind declaring.rest in
     let parameters = bound taken named_as after fits.behind fits.rest in
     let scope = bound (with_name unit.scope name (function (signature_of result parameters.value)) storage) (judged_as parameters.value) after parameters.behind parameters.rest in
     let items = bound (judged_body (with_parameters (with_block scope.value) 0 parameters.value) result (parameter_types parameters.value) body) (items_given parameters.value scope.value) after scope.behind scope.rest in
@@ -328,14 +332,14 @@ members_keep number (more tree rest) scope known after bindings h = absurd cc
 struct_keeps : (unit : UnitState) (words members : PlainTrees) (after : UnitState) (bindings : List Binding) → defined_struct unit words members ≡ fine after bindings → outline_of after ≡ outline_of unit
 struct_keeps unit words members after bindings h =
     let given_as : Based → AllMembers → Checked UnitState = λ base all. give (with_scope unit (record all.scope { structs = with_members_at (number_of_struct base.ty) all.known all.scope.structs })) in
-    let all_of : Based → Checked UnitState = λ base. all_members base.scope (number_of_struct base.ty) (record { members = []; numbers = no_entry }) members >>= given_as base in
+    let all_of : Based → Checked UnitState = λ base. all_members base.scope (number_of_struct base.ty) (record { members = []; numbers = no_entry; scalars = 0 }) members >>= given_as base in
     let new_of : PlainToken → Checked UnitState = λ tag. unless_so (not (is_defined_tag unit.scope (unit.scope.tags tag.text))) Redeclared tag >>= (λ new. based true unit.scope words >>= all_of) in
     let tag = bound (or_broken (name_in words)) new_of after bindings h in
     let new = bound (unless_so (not (is_defined_tag unit.scope (unit.scope.tags tag.value.text))) Redeclared tag.value) (λ new. based true unit.scope words >>= all_of) after tag.behind tag.rest in
     let base = bound (based true unit.scope words) all_of after new.behind new.rest in
-    let all = bound (all_members base.value.scope (number_of_struct base.value.ty) (record { members = []; numbers = no_entry }) members) (given_as base.value) after base.behind base.rest in
+    let all = bound (all_members base.value.scope (number_of_struct base.value.ty) (record { members = []; numbers = no_entry; scalars = 0 }) members) (given_as base.value) after base.behind base.rest in
     let keeps = kept_both unit.scope base.value.scope all.value.scope (based_keeps true unit.scope words base.value base.before base.first)
-    (members_keep (number_of_struct base.value.ty) members base.value.scope (record { members = []; numbers = no_entry }) all.value all.before all.first) in
+    (members_keep (number_of_struct base.value.ty) members base.value.scope (record { members = []; numbers = no_entry; scalars = 0 }) all.value all.before all.first) in
     ap (λ (state : UnitState). outline state.scope state.defined) (sym (given_is (with_scope unit (record all.value.scope { structs = with_members_at (number_of_struct base.value.ty) all.value.known all.value.scope.structs })) after all.behind all.rest))
     ∙ kept_outline unit.scope all.value.scope unit.defined keeps
 
@@ -376,7 +380,12 @@ items_are globals (more tree rest) unit after bindings h =
     ∙ ap (items_noted rest) (item_is globals tree rest unit first.value first.before first.first)
 
 unit_is : (globals : ℕ) (structs : List Struct) (numbers : Numbers) (tree : PlainTree) (after : UnitState) (bindings : List Binding) → judged_unit globals structs numbers tree ≡ fine after bindings → outline_of after ≡ unit_noted tree
-unit_is globals structs numbers (node kind parts) after bindings h = items_are globals parts (unit_start structs numbers) after bindings h
+unit_is globals structs numbers (node kind parts) after bindings h =
+    let ended : UnitState → Checked UnitState = λ unit. unless_too_big (too_big_in unit.scope parts) >>= (λ small. give unit) in
+    let items = bound (judged_file_items globals (unit_start structs numbers) parts) ended after bindings h in
+    let small = bound (unless_too_big (too_big_in items.value.scope parts)) (λ small. give items.value) after items.behind items.rest in
+    ap (λ (state : UnitState). outline state.scope state.defined) (sym (given_is items.value after small.behind small.rest))
+    ∙ items_are globals parts (unit_start structs numbers) items.value items.before items.first
 unit_is globals structs numbers (leaf token) after bindings h = absurd cc
 
 -- ---- each name that is declared stands in the order of the names

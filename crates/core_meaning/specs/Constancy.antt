@@ -1,5 +1,6 @@
 -- Constant expressions and initialisers (ISO/IEC 9899:2011, 6.6, 6.7.9).
-use Rattle.std.specs.Prelude.{ℕ, zero, suc, ◌+◌, ◌*◌, ◌==◌, nat_le, nat_lt, Bool, true, false, not, ◌&&◌, ℤ, pos, negsuc, List, [], ◌∷◌, ◌++◌, length, take, Option, Some, None, is_some, option_map, slice_get, if◌then◌else◌}
+use Rattle.std.specs.Prelude.{ℕ, suc, ◌+◌, ◌*◌, min, ◌==◌, nat_le, nat_lt, Bool, true, false, not, ◌&&◌, ℤ, pos, negsuc, List, [], ◌∷◌, ◌++◌, length, take, Option, Some, None, is_some, option_map, slice_get, if◌then◌else◌}
+use Rattle.text_edits.specs.Span.{PlainSpan}
 use Rattle.c_text.specs.Token.{PlainToken}
 use Rattle.c_types.specs.Types.{PlainType, char, unsigned_char, array_of, structure}
 use Rattle.c_types.specs.Integers.{is_integer, converted}
@@ -8,14 +9,15 @@ use Rattle.c_tree.specs.declared.kinds.Kind.TheVariants as k
 use Rattle.c_tree.specs.Trees.{PlainTree, PlainTrees, node, none, more}
 use Rattle.core_meaning.specs.declared.expressions.Operation.{Operation}
 use Rattle.core_meaning.specs.declared.expressions.Operation.TheVariants as operation
-use Rattle.core_meaning.specs.declared.refusals.TypeKind.TheVariants.{BadOperand, BadConstant}
+use Rattle.core_meaning.specs.declared.refusals.TypeKind.{TypeKind}
+use Rattle.core_meaning.specs.declared.refusals.TypeKind.TheVariants.{BadOperand, BadConstant, Misplaced}
 use Rattle.core_meaning.specs.Program.{type_of, PlainExpression, constant, null_constant, address, first_element, convert, binary, logical_not, logical_and, logical_or, choose, global, literal}
 use Rattle.core_meaning.specs.Values.{part, Path, null, at, Scalar, number, pointer}
 use Rattle.core_meaning.specs.Meaning.{computed}
 use Rattle.core_meaning.specs.Checking.{Checked, refused, ◌>>=◌, give, unless_so, found_or, or_broken}
 use Rattle.c_types.specs.Tags.{PlainMember}
 use Rattle.core_meaning.specs.Entities.{Struct, Scope}
-use Rattle.core_meaning.specs.Typing.{fits_into}
+use Rattle.core_meaning.specs.Typing.{Typed, fits_into}
 use Rattle.core_meaning.specs.Expressions.{first_token, text_bytes, count_entries, valued}
 
 -- ---- constant expressions: numbers, characters and operators on them
@@ -84,26 +86,26 @@ judged_count scope tree behind = do
   x ← valued scope tree
   found_or (if is_integer x.ty then count_of_value (value_if_constant x.core) else None) BadConstant (first_token tree behind)
 
--- how many scalars an object of a type has; a struct is no part of itself, so as many levels as there are structs are enough
-abbrev pub members_of : Option Struct → List PlainMember
-members_of (Some s) = s.members
-members_of None = []
+-- counts beyond the limit are all the same
+abbrev pub capped : ℕ → ℕ
+capped n = min n (most_scalars + 1)
 
-abbrev pub sum_over : (PlainType → ℕ) → List PlainMember → ℕ
-sum_over count [] = 0
-sum_over count (m ∷ rest) = count m.ty + sum_over count rest
+abbrev pub scalars_of : Option Struct → ℕ
+scalars_of (Some s) = s.scalars
+scalars_of None = 0
 
-abbrev pub scalars_at : List Struct → (PlainType → ℕ) → PlainType → ℕ
-scalars_at structs deeper (array_of element count) = count * scalars_at structs deeper element
-scalars_at structs deeper (structure s) = sum_over deeper (members_of (slice_get structs s))
-scalars_at structs deeper other = 1
+-- how many scalars an object of a type has
+abbrev pub scalars_in : List Struct → PlainType → ℕ
+scalars_in structs (array_of element count) = capped (count * scalars_in structs element)
+scalars_in structs (structure n) = scalars_of (slice_get structs n)
+scalars_in structs other = 1
 
-abbrev pub scalars_within : List Struct → ℕ → PlainType → ℕ
-scalars_within structs zero t = 0
-scalars_within structs (suc levels) t = scalars_at structs (scalars_within structs levels) t
+-- so many scalars, and those of one more part
+abbrev pub scalars_with : List Struct → ℕ → PlainType → ℕ
+scalars_with structs so_far t = capped (so_far + scalars_in structs t)
 
 abbrev pub is_small : List Struct → PlainType → Bool
-is_small structs t = nat_le (scalars_within structs (suc (length structs)) t) most_scalars
+is_small structs t = nat_le (scalars_in structs t) most_scalars
 
 -- ---- initialisers
 
@@ -125,6 +127,10 @@ address_scalar globals other = None
 abbrev pub first_scalar : ℕ → PlainExpression → Option Scalar
 first_scalar globals e =
     if is_constant e then option_map number (constant_value e) else address_scalar globals e
+
+abbrev pub members_of : Option Struct → List PlainMember
+members_of (Some s) = s.members
+members_of None = []
 
 -- the part of an object that the initialiser with this number in braces is for
 abbrev pub part_for : List Struct → PlainType → ℕ → Option PlainType
@@ -154,7 +160,27 @@ text_initial element count path bytes first = do
   room ← unless_so (nat_le (length bytes) count) BadConstant first
   give (text_parts element path 0 (take count (bytes ++ 0 ∷ [])) first)
 
+-- One initialiser too many is an expression all the same. Where that is refused at the same place, the kind with the lesser number counts.
+abbrev pub same_span : PlainSpan → PlainSpan → Bool
+same_span a b = a.start == b.start && a.end == b.end
+
+abbrev pub same_place : PlainToken → PlainToken → Bool
+same_place a b = a.origin.file == b.origin.file && same_span a.origin.span b.origin.span
+
+abbrev pub is_before_bad_constant : TypeKind → Bool
+is_before_bad_constant BadConstant = false
+is_before_bad_constant Misplaced = false
+is_before_bad_constant other = true
+
+abbrev pub kind_of_excess : PlainToken → Checked Typed → TypeKind
+kind_of_excess first (refused kind token) = if same_place token first && is_before_bad_constant kind then kind else BadConstant
+kind_of_excess first other = BadConstant
+
 module _ (scope : Scope) (globals : Option ℕ) where
+  abbrev pub part_or_excess : Option PlainType → PlainTree → PlainToken → Checked PlainType
+  part_or_excess (Some element) tree first = give element
+  part_or_excess None tree first = refused (kind_of_excess first (valued scope tree)) first
+
   -- a global's value must be constant
   abbrev pub is_allowed : PlainExpression → Bool
   is_allowed e = elim globals as (λ x. Bool) [ None ↦ true | Some n ↦ is_some (first_scalar n e) ]
@@ -191,10 +217,10 @@ module _ (scope : Scope) (globals : Option ℕ) where
     pub initial_entries : PlainType → Path → ℕ → PlainTrees → PlainToken → Checked (List Initial)
     initial_entries ty path n none behind = give []
     initial_entries ty path n (more tree none) behind = do
-      element ← found_or (part_for scope.structs ty n) BadConstant (first_token tree behind)
+      element ← part_or_excess (part_for scope.structs ty n) tree (first_token tree behind)
       initial element (path_for ty path n) tree behind
     initial_entries ty path n (more tree (more comma rest)) behind = do
-      element ← found_or (part_for scope.structs ty n) BadConstant (first_token tree behind)
+      element ← part_or_excess (part_for scope.structs ty n) tree (first_token tree behind)
       first ← initial element (path_for ty path n) tree behind
       others ← initial_entries ty path (n + 1) rest behind
       give (first ++ others)

@@ -20,10 +20,13 @@ use Rattle.core_meaning.specs.Typing.{is_complete}
 use Rattle.core_meaning.specs.Expressions.{first_token_in, has_terminal, arithmetic_words, is_void}
 use Rattle.core_meaning.specs.Constancy.{judged_count, count_by_initialiser, most_elements, is_small, Initial, initial}
 
--- the first name among words
+-- the first name among words; what stands in `[ ]` is none of them
 abbrev pub name_in : PlainTrees → Option PlainToken
 name_in none = None
-name_in (more (leaf token) rest) = if same t.Name (terminal token) then Some token else name_in rest
+name_in (more (leaf token) rest) =
+    if same t.Name (terminal token) then Some token
+    else if same t.OpenBracket (terminal token) then None
+    else name_in rest
 name_in (more (node kind parts) rest) = None
 
 -- what stands behind the first word of a terminal
@@ -42,7 +45,7 @@ pub record Based : Type 0 where
   pub scope : Scope
 
 abbrev pub new_struct : List ℕ → Struct
-new_struct name = record { name = name; members = []; numbers = no_entry; complete = false }
+new_struct name = record { name = name; members = []; numbers = no_entry; complete = false; scalars = 0 }
 
 abbrev pub with_struct : Scope → List ℕ → Scope
 with_struct scope name =
@@ -107,6 +110,23 @@ object_type scope ty k.ArrayDeclarator parts name initialiser = do
 object_type scope ty k.Declarator parts name initialiser = give (starred parts ty)
 object_type scope ty kind parts name initialiser = broken
 
+-- ---- what is visible in blocks (6.2.1)
+
+abbrev pub innermost : List (Table Local) → Table Local
+innermost [] = no_entry
+innermost (block ∷ others) = block
+
+abbrev pub with_local_in : List (Table Local) → List ℕ → Local → List (Table Local)
+with_local_in [] name l = with_entry no_entry name l ∷ []
+with_local_in (block ∷ others) name l = with_entry block name l ∷ others
+
+abbrev pub with_local : Scope → List ℕ → ℕ → PlainType → Scope
+with_local scope name slot ty = record scope { blocks = with_local_in scope.blocks name (record { slot = slot; ty = ty }) }
+
+-- a block of its own
+abbrev pub with_block : Scope → Scope
+with_block scope = record scope { blocks = no_entry ∷ scope.blocks }
+
 -- ---- parameters (6.7.6.3)
 
 pub record Parameter : Type 0 where
@@ -151,15 +171,20 @@ declares_name (Some name) entity = declares entity
 abbrev pub may_be_parameter : Bool → Scope → PlainType → Bool
 may_be_parameter defining scope ty = not (is_void ty) && (not defining || is_complete scope.structs ty)
 
+abbrev pub judged_parameter : Bool → Scope → PlainType → PlainToken → Checked (Unit {0})
+judged_parameter defining scope ty at = do
+  fits ← unless_so (may_be_parameter defining scope ty) Incomplete at
+  unless_so (is_small scope.structs ty) BadConstant at
+
 abbrev pub declared_parameter : Bool → Scope → List Parameter → PlainType → PlainToken → PlainTree → Checked Parameter
 declared_parameter defining scope before ty first (node k.Absent parts) = do
-  fits ← unless_so (may_be_parameter defining scope ty) Incomplete first
+  judged ← judged_parameter defining scope ty first
   give (record { name = None; ty = ty })
 declared_parameter defining scope before ty first (node kind parts) = do
   new ← unless_so (is_new_parameter before (name_in parts)) Redeclared (token_of (name_in parts) first)
   bound ← declares_name (name_in parts) (parameter_entity defining (length before))
   whole ← parameter_type scope ty kind parts (token_of (name_in parts) first)
-  fits ← unless_so (may_be_parameter defining scope whole) Incomplete (token_of (name_in parts) first)
+  judged ← judged_parameter defining scope whole (token_of (name_in parts) first)
   give (record { name = name_in parts; ty = whole })
 declared_parameter defining scope before ty first (leaf token) = broken
 
@@ -169,6 +194,11 @@ one_parameter defining scope before (node kind (more (node words_kind words) (mo
   declared_parameter defining scope before base.ty (first_token_in words behind) declarator
 one_parameter defining scope before tree behind = broken
 
+-- A parameter is visible behind its declarator.
+abbrev pub with_parameter : Scope → ℕ → Option PlainToken → PlainType → Scope
+with_parameter scope slot None ty = scope
+with_parameter scope slot (Some name) ty = with_local scope name.text slot ty
+
 abbrev pub parameters_from : Bool → Scope → List Parameter → PlainTrees → PlainToken → Checked (List Parameter)
 parameters_from defining scope before none behind = give before
 parameters_from defining scope before (more tree none) behind = do
@@ -176,12 +206,12 @@ parameters_from defining scope before (more tree none) behind = do
   give (before ++ p ∷ [])
 parameters_from defining scope before (more tree (more comma rest)) behind = do
   p ← one_parameter defining scope before tree behind
-  parameters_from defining scope (before ++ p ∷ []) rest behind
+  parameters_from defining (with_parameter scope (length before) p.name p.ty) (before ++ p ∷ []) rest behind
 
 -- the lone `void` stands for no parameter
 abbrev pub parameters_in : Bool → Scope → PlainTree → PlainToken → Checked (List Parameter)
 parameters_in defining scope (node k.Parameters parts) behind =
-    if is_lone_void parts then give [] else parameters_from defining scope [] parts behind
+    if is_lone_void parts then give [] else parameters_from defining (with_block scope) [] parts behind
 parameters_in defining scope other behind = give []
 
 abbrev pub parameters_of : Bool → Scope → Option PlainTree → PlainToken → Checked (List Parameter)
@@ -201,19 +231,8 @@ pub record Locals : Type 0 where
   pub slots : List PlainType
   pub items : List LocalItem
 
-abbrev pub innermost : List (Table Local) → Table Local
-innermost [] = no_entry
-innermost (block ∷ others) = block
-
 abbrev pub is_new_local : Scope → List ℕ → Bool
 is_new_local scope name = not (is_some (innermost scope.blocks name))
-
-abbrev pub with_local_in : List (Table Local) → List ℕ → Local → List (Table Local)
-with_local_in [] name l = with_entry no_entry name l ∷ []
-with_local_in (block ∷ others) name l = with_entry block name l ∷ others
-
-abbrev pub with_local : Scope → List ℕ → ℕ → PlainType → Scope
-with_local scope name slot ty = record scope { blocks = with_local_in scope.blocks name (record { slot = slot; ty = ty }) }
 
 abbrev pub plain_part : Initial → PlainPart
 plain_part i = record { path = i.path; value = i.value }

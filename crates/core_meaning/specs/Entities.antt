@@ -20,6 +20,8 @@ pub record Struct : Type 0 where
   -- the members' numbers
   pub numbers : Table ℕ
   pub complete : Bool
+  -- how many scalars an object of the struct has
+  pub scalars : ℕ
 
 -- a parameter or local
 pub record Local : Type 0 where

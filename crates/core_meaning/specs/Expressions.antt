@@ -23,7 +23,7 @@ use Rattle.core_meaning.specs.Program.{PlainExpression, constant, null_constant,
 use Rattle.core_meaning.specs.Checking.{local_entity, file_entity, member_entity, Checked, refused, broken, ◌>>=◌, give, unless_so, uses, found_or, or_broken}
 use Rattle.core_meaning.specs.Entities.{Struct, Local, Signature, Sort, variable, function, FileName, Scope, local_in, number_of}
 use Rattle.c_types.specs.Tags.{PlainMember}
-use Rattle.core_meaning.specs.Typing.{promoted, common, integer_type, same_type, is_complete, is_struct, is_pointer, is_scalar_type, is_movable, Designation, value, object, Operand, Typed, typed, of_value, of_object, loaded, in_type, fits_into}
+use Rattle.core_meaning.specs.Typing.{promoted, common, integer_type, same_type, is_complete, is_struct, is_pointer, is_scalar_type, is_movable, Designation, value, object, Operand, Typed, typed, of_value, of_object, loaded, fits_into}
 
 -- ---- trees
 
@@ -226,6 +226,16 @@ place_in operand sign other = refused NotAssignable sign
 abbrev pub assigned_place : Operand → PlainToken → Checked PlainPlace
 assigned_place operand sign = place_in operand sign operand.designates
 
+abbrev pub is_plain_assignment : PlainToken → Bool
+is_plain_assignment sign = bytes_eq sign.text (codes "=")
+
+-- the same; what an operator changes has a value, so its type is complete
+abbrev pub written_place : Scope → PlainToken → Operand → Checked PlainPlace
+written_place scope sign operand = do
+  place ← assigned_place operand sign
+  complete ← unless_so (is_plain_assignment sign || is_complete scope.structs operand.ty) Incomplete operand.stands_at
+  give place
+
 abbrev pub left_value : Operand → PlainPlace → Typed
 left_value operand place = typed operand.ty (read place)
 
@@ -241,11 +251,8 @@ one = typed int (constant (pos 1))
 -- `++` and `--` (6.5.2.4, 6.5.3.1)
 abbrev pub stepped : Scope → (Change → PlainPlace → PlainExpression → PlainExpression) → PlainToken → Operand → Checked Operand
 stepped scope make sign operand = do
-  place ← assigned_place operand sign
+  place ← written_place scope sign operand
   updated scope make sign operand place one
-
-abbrev pub is_plain_assignment : PlainToken → Bool
-is_plain_assignment sign = bytes_eq sign.text (codes "=")
 
 abbrev pub assignment : Scope → PlainToken → Operand → PlainPlace → Typed → Checked Operand
 assignment scope sign left place right =
@@ -269,7 +276,7 @@ abbrev pub signed_core : List ℕ → PlainType → Typed → PlainExpression
 signed_core text ty x =
     if bytes_eq text (codes "-") then binary (operation.Numbers Sub (integer_type ty)) (constant (pos 0)) x.core
     else if bytes_eq text (codes "~") then binary (operation.Numbers BitXor (integer_type ty)) x.core (constant (negsuc 0))
-    else in_type ty x
+    else convert (integer_type ty) x.core
 
 abbrev pub signed : PlainToken → Typed → Checked Operand
 signed sign x =
@@ -304,8 +311,18 @@ abbrev pub arithmetic_words : PlainTrees → PlainType
 arithmetic_words words =
     words_type (has_terminal t.Void words) (has_terminal t.Unsigned words) (has_terminal t.Char words) (has_terminal t.Long words)
 
+-- An expression whose value isn't used (6.8.3): neither are the results of `?:`, which aren't converted then. Each number that is a result
+-- of `?:` stands in one conversion.
+abbrev pub unused_part : Bool → PlainExpression → PlainExpression
+unused_part true (convert ty e) = unused_part false e
+unused_part is_result (choose c a b) = choose c (unused_part true a) (unused_part true b)
+unused_part is_result e = e
+
+abbrev pub unused : PlainExpression → PlainExpression
+unused e = unused_part false e
+
 abbrev pub cast_to : PlainToken → Typed → PlainType → Checked Operand
-cast_to sign x void = give (of_value sign void (discard x.core))
+cast_to sign x void = give (of_value sign void (discard (unused x.core)))
 cast_to sign x ty = if is_integer x.ty then give (of_value sign ty (convert (integer_type ty) x.core)) else refused BadOperand sign
 
 -- ---- subscripts and members (6.5.2.1, 6.5.2.3)
@@ -370,11 +387,14 @@ is_void other = false
 abbrev pub chosen_core : PlainToken → PlainExpression → PlainType → PlainExpression → PlainExpression → Checked Operand
 chosen_core sign condition ty a b = give (of_value sign ty (choose condition a b))
 
+abbrev pub converted_to : PlainType → Typed → PlainExpression
+converted_to ty x = convert (integer_type ty) x.core
+
 -- the two results of `?:`
 abbrev pub chosen : PlainToken → PlainExpression → Typed → Typed → Checked Operand
 chosen sign condition a b =
     if is_integer a.ty && is_integer b.ty
-    then chosen_core sign condition (common a.ty b.ty) (in_type (common a.ty b.ty) a) (in_type (common a.ty b.ty) b)
+    then chosen_core sign condition (common a.ty b.ty) (converted_to (common a.ty b.ty) a) (converted_to (common a.ty b.ty) b)
     else if is_void a.ty && is_void b.ty then chosen_core sign condition void a.core b.core
     else if (is_struct a.ty || is_pointer a.ty) && same_type a.ty b.ty then chosen_core sign condition a.ty a.core b.core
     else if is_pointer a.ty && b.is_null then chosen_core sign condition a.ty a.core null_constant
@@ -410,11 +430,15 @@ count_entries none = 0
 count_entries (more tree none) = 1
 count_entries (more tree (more comma rest)) = 1 + count_entries rest
 
-abbrev pub result_of_call : Scope → Callee → PlainToken → PlainArguments → Checked Operand
+-- what a call gives has a complete type or none, and there are as many arguments as parameters
+abbrev pub may_be_called : Scope → Signature → ℕ → PlainToken → Checked (Unit {0})
+may_be_called scope signature count bracket = do
+  complete ← unless_so (is_void signature.result || is_complete scope.structs signature.result) Incomplete bracket
+  unless_so (count == length signature.parameters) ArgumentCount bracket
+
+abbrev pub result_of_call : Scope → Callee → PlainToken → PlainArguments → Operand
 result_of_call scope f bracket arguments =
-    if is_void f.signature.result || is_complete scope.structs f.signature.result
-    then give (of_value bracket f.signature.result (call (number_of scope.numbers.functions f.name.text) arguments))
-    else refused Incomplete bracket
+    of_value bracket f.signature.result (call (number_of scope.numbers.functions f.name.text) arguments)
 
 abbrev pub passed : Scope → PlainType → Operand → PlainToken → Checked PlainExpression
 passed scope ty operand first = do
@@ -470,9 +494,9 @@ module _ (scope : Scope) where
         elim (callee scope first) as (λ x. Checked Operand) [
           | Some f ↦ (do
             bound ← uses (file_entity f.name.text)
-            enough ← unless_so (count_entries parts == length f.signature.parameters) ArgumentCount bracket
+            callable ← may_be_called scope f.signature (count_entries parts) bracket
             arguments ← judged_arguments f.signature.parameters parts bracket
-            result_of_call scope f bracket arguments)
+            give (result_of_call scope f bracket arguments))
           | None ↦ (do
             operand ← judged first
             x ← loaded scope operand
@@ -482,8 +506,8 @@ module _ (scope : Scope) where
         elim (callee scope first) as (λ x. Checked Operand) [
           | Some f ↦ (do
             bound ← uses (file_entity f.name.text)
-            enough ← unless_so (length f.signature.parameters == 0) ArgumentCount bracket
-            result_of_call scope f bracket no_argument)
+            callable ← may_be_called scope f.signature 0 bracket
+            give (result_of_call scope f bracket no_argument))
           | None ↦ (do
             operand ← judged first
             x ← loaded scope operand
@@ -491,7 +515,7 @@ module _ (scope : Scope) where
         ]
     judged (node k.Assignment (more first (more (leaf sign) (more second none)))) = do
       left ← judged first
-      place ← assigned_place left sign
+      place ← written_place scope sign left
       operand ← judged second
       right ← loaded scope operand
       assignment scope sign left place right

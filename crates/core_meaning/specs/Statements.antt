@@ -1,5 +1,5 @@
 -- Statements and blocks (ISO/IEC 9899:2011, 6.8).
-use Rattle.std.specs.Prelude.{Bool, true, false, pos, List, [], ◌∷◌, None, if◌then◌else◌}
+use Rattle.std.specs.Prelude.{Bool, true, false, not, pos, List, [], ◌∷◌, None, if◌then◌else◌}
 use Rattle.std.specs.Str.{bytes_eq}
 use Rattle.std.specs.Prelude.{codes}
 use Rattle.c_text.specs.Token.{PlainToken}
@@ -11,7 +11,7 @@ use Rattle.core_meaning.specs.Program.{PlainExpression, constant, PlainStatement
 use Rattle.core_meaning.specs.Checking.{Checked, broken, ◌>>=◌, give, unless_so, found_or}
 use Rattle.core_meaning.specs.Entities.{no_entry, Scope}
 use Rattle.core_meaning.specs.Typing.{fits_into}
-use Rattle.core_meaning.specs.Expressions.{valued, judged_condition, is_void}
+use Rattle.core_meaning.specs.Expressions.{valued, judged_condition, is_void, unused}
 use Rattle.core_meaning.specs.Declarations.{LocalItem, judged_locals}
 
 -- where a statement stands: what is visible, what its function's result is, and whether a loop is around it
@@ -57,7 +57,7 @@ abbrev pub discarded : Scope → PlainTree → PlainExpression → Checked Plain
 discarded scope (node k.Absent parts) otherwise = give otherwise
 discarded scope tree otherwise = do
   x ← valued scope tree
-  give x.core
+  give (unused x.core)
 
 -- a condition that is left out holds
 abbrev pub condition_or_true : Scope → PlainTree → PlainToken → Checked PlainExpression
@@ -68,7 +68,7 @@ abbrev pub expression_statement : Scope → PlainTree → Checked PlainStatement
 expression_statement scope (node k.Absent parts) = give (block no_item)
 expression_statement scope tree = do
   x ← valued scope tree
-  give (evaluate x.core)
+  give (evaluate (unused x.core))
 
 abbrev pub jump : Around → PlainToken → Checked PlainStatement
 jump around word = do
@@ -81,8 +81,9 @@ returned around word (node k.Absent parts) = do
   placed ← unless_so (is_void around.result) Misplaced word
   give return_nothing
 returned around word tree = do
+  placed ← unless_so (not (is_void around.result)) Misplaced word
   x ← valued around.scope tree
-  core ← found_or (if is_void around.result then None else fits_into around.result x) Misplaced word
+  core ← found_or (fits_into around.result x) Misplaced word
   give (return_value core)
 
 -- a loop whose step is evaluated behind each turn

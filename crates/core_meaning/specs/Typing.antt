@@ -6,7 +6,7 @@ use Rattle.c_types.specs.Integers.{is_integer}
 use Rattle.core_meaning.specs.declared.integers.IntegerType.{IntegerType}
 use Rattle.core_meaning.specs.declared.integers.IntegerType.TheVariants.{Char, UnsignedChar, Int, UnsignedInt, Long, UnsignedLong}
 use Rattle.core_meaning.specs.declared.refusals.TypeKind.TheVariants.{Incomplete}
-use Rattle.core_meaning.specs.Program.{PlainExpression, null_constant, read, first_element, convert, discard, PlainPlace, target}
+use Rattle.core_meaning.specs.Program.{PlainExpression, null_constant, read, first_element, convert, PlainPlace}
 use Rattle.core_meaning.specs.Checking.{Checked, refused, give}
 use Rattle.core_meaning.specs.Entities.{Struct, Scope}
 
@@ -107,16 +107,12 @@ of_value token t core = record { ty = t; designates = value core; is_null = fals
 abbrev pub of_object : PlainToken → PlainType → PlainPlace → Bool → Operand
 of_object token t place free = record { ty = t; designates = object place free; is_null = false; stands_at = token }
 
--- what a pointer to `void` points to has no value
-abbrev pub nothing_of : PlainPlace → PlainExpression
-nothing_of (target pointer) = discard pointer
-nothing_of place = discard (read place)
-
--- The value of what an expression designates: that of an array is a pointer to its first element (6.3.2.1).
+-- The value of what an expression designates: that of an array is a pointer to its first element (6.3.2.1). What a pointer to `void` points
+-- to is read as well, though nothing can stand there.
 abbrev pub loaded_from : List Struct → Operand → PlainType → Designation → Checked Typed
 loaded_from structs operand t (value core) = give (record { ty = t; core = core; is_null = operand.is_null })
 loaded_from structs operand (array_of element count) (object place free) = give (typed (pointer_to element) (first_element place))
-loaded_from structs operand void (object place free) = give (typed void (nothing_of place))
+loaded_from structs operand void (object place free) = give (typed void (read place))
 loaded_from structs operand t (object place free) =
     if is_complete structs t then give (typed t (read place)) else refused Incomplete operand.stands_at
 

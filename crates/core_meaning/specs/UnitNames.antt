@@ -9,15 +9,15 @@ use Rattle.c_tree.specs.declared.terminals.Terminal.TheVariants as t
 use Rattle.c_tree.specs.Trees.{PlainTree, PlainTrees, leaf, node, none, more}
 use Rattle.c_tree.specs.Grammar.{is_word}
 use Rattle.core_meaning.specs.declared.refusals.TypeKind.{TypeKind}
-use Rattle.core_meaning.specs.declared.refusals.TypeKind.TheVariants.{Redeclared, BadOperand, Incomplete}
+use Rattle.core_meaning.specs.declared.refusals.TypeKind.TheVariants.{Redeclared, BadOperand, Incomplete, BadConstant}
 use Rattle.core_meaning.specs.Program.{PlainItems, no_item, PlainConstantPart}
 use Rattle.core_meaning.specs.Checking.{file_entity, member_entity, Checked, fine, refused, broken, ◌>>=◌, give, unless_so, declares, in_function, or_broken}
 use Rattle.c_types.specs.Tags.{PlainMember}
-use Rattle.core_meaning.specs.Entities.{Table, no_entry, with_entry, Struct, Signature, Sort, variable, function, FileName, Numbers, Scope}
+use Rattle.core_meaning.specs.Entities.{Table, no_entry, with_entry, Struct, Signature, Sort, variable, function, FileName, Numbers, Scope, or_else}
 use Rattle.core_meaning.specs.Typing.{same_type, is_complete}
 use Rattle.core_meaning.specs.Expressions.{first_token, has_terminal, is_void}
-use Rattle.core_meaning.specs.Constancy.{Initial, initial, first_scalar}
-use Rattle.core_meaning.specs.Declarations.{name_in, behind_word, based, starred, object_type, Parameter, parameters_of, judged_object, with_local}
+use Rattle.core_meaning.specs.Constancy.{is_small, Initial, initial, first_scalar, scalars_with}
+use Rattle.core_meaning.specs.Declarations.{name_in, behind_word, based, starred, object_type, Parameter, parameters_of, judged_object, with_block, with_parameter}
 use Rattle.core_meaning.specs.Statements.{JudgedItems, judged_items, items_as}
 
 -- what a definition gives its name
@@ -181,11 +181,27 @@ abbrev pub refused_initialiser : Option PlainTree → PlainToken → Checked (Un
 refused_initialiser None name = give tt
 refused_initialiser (Some initialiser) name = refused BadOperand (first_token initialiser name)
 
+-- Another declaration of the name stands in the way of a function with this result, whatever its parameters are.
+abbrev pub gives_result : PlainType → Sort → Bool
+gives_result result (variable ty) = false
+gives_result result (function signature) = same_type signature.result result
+
+abbrev pub may_be_function : Storage → PlainType → Option FileName → Bool
+may_be_function storage result None = true
+may_be_function storage result (Some visible) =
+    gives_result result visible.sort && same_bool visible.internal (linkage storage true (Some visible))
+
+-- the parameters of a function whose name no other declaration keeps from it
+abbrev pub new_function : Bool → Scope → Storage → PlainType → PlainTrees → PlainToken → Checked (List Parameter)
+new_function defining scope storage result parts name = do
+  new ← unless_so (may_be_function storage result (scope.file_names name.text)) Redeclared name
+  parameters_of defining scope (behind_word t.OpenParenthesis parts) name
+
 -- a declaration of a function that doesn't define it
 abbrev pub declared_function : UnitState → Storage → PlainType → PlainTrees → PlainToken → Option PlainTree → Checked UnitState
 declared_function unit storage ty parts name initialiser = do
   bound ← declares (file_entity name.text)
-  parameters ← parameters_of false unit.scope (behind_word t.OpenParenthesis parts) name
+  parameters ← new_function false unit.scope storage (starred parts ty) parts name
   scope ← with_name unit.scope name (function (signature_of (starred parts ty) parameters)) storage
   none_given ← refused_initialiser initialiser name
   give (with_scope unit scope)
@@ -216,10 +232,6 @@ declared_from globals unit storage ty (more tree (more sign (more next (more com
       declared_from globals first storage ty (more next (more comma others)) rest)
 
 -- the parameters of a definition are the first slots
-abbrev pub with_parameter : Scope → ℕ → Option PlainToken → PlainType → Scope
-with_parameter scope slot None ty = scope
-with_parameter scope slot (Some name) ty = with_local scope name.text slot ty
-
 abbrev pub with_parameters : Scope → ℕ → List Parameter → Scope
 with_parameters scope slot [] = scope
 with_parameters scope slot (p ∷ rest) = with_parameters (with_parameter scope slot p.name p.ty) (slot + 1) rest
@@ -233,20 +245,20 @@ kind_or_incomplete (refused kind token) = kind
 kind_or_incomplete other = Incomplete
 
 -- Where the result isn't complete, another declaration of the name is refused first, as both stand at the name.
-abbrev pub result_kind : Scope → Storage → PlainType → PlainToken → Checked (List Parameter) → TypeKind
-result_kind scope storage result name (fine parameters bindings) =
+abbrev pub kind_by_parameters : Scope → Storage → PlainType → PlainToken → Checked (List Parameter) → TypeKind
+kind_by_parameters scope storage result name (fine parameters bindings) =
     kind_or_incomplete (with_name scope name (function (signature_of result parameters)) storage)
-result_kind scope storage result name other = Incomplete
+kind_by_parameters scope storage result name other = Incomplete
+
+abbrev pub result_kind : Scope → Storage → PlainType → PlainToken → Checked (List Parameter) → TypeKind
+result_kind scope storage result name parameters =
+    if may_be_function storage result (scope.file_names name.text) then kind_by_parameters scope storage result name parameters else Redeclared
 
 abbrev pub judged_body : Scope → PlainType → List PlainType → PlainTree → Checked JudgedItems
 judged_body scope result slots (node kind (more brace (more (node k.Items items) (more last none)))) =
     judged_items (record { scope = scope; result = result; in_loop = false }) slots items
 judged_body scope result slots (node kind (more brace (more (node k.Absent items) (more last none)))) = give (items_as slots no_item)
 judged_body scope result slots other = broken
-
--- a scope with a block of its own
-abbrev pub with_block : Scope → Scope
-with_block scope = record scope { blocks = no_entry ∷ scope.blocks }
 
 abbrev pub is_function_body : Body → Bool
 is_function_body (function_body slots items) = true
@@ -261,7 +273,7 @@ abbrev pub defined_function : UnitState → Storage → PlainType → PlainTrees
 defined_function unit storage ty parts name body = do
   bound ← declares (file_entity name.text)
   fits ← unless_so (is_result unit.scope (starred parts ty)) (result_kind unit.scope storage (starred parts ty) name (parameters_of true unit.scope (behind_word t.OpenParenthesis parts) name)) name
-  parameters ← parameters_of true unit.scope (behind_word t.OpenParenthesis parts) name
+  parameters ← new_function true unit.scope storage (starred parts ty) parts name
   scope ← with_name unit.scope name (function (signature_of (starred parts ty) parameters)) storage
   items ← judged_body (with_parameters (with_block scope) 0 parameters) (starred parts ty) (parameter_types parameters) body
   give (with_defined (with_scope unit scope) name.text (function_body items.slots items.core))
@@ -272,11 +284,14 @@ defined_function unit storage ty parts name body = do
 pub record Members : Type 0 where
   pub members : List PlainMember
   pub numbers : Table ℕ
+  -- how many scalars they have
+  pub scalars : ℕ
 
-abbrev pub with_member : Members → List ℕ → PlainType → Members
-with_member known name ty = record {
+abbrev pub with_member : List Struct → Members → List ℕ → PlainType → Members
+with_member structs known name ty = record {
   members = known.members ++ record { name = name; ty = ty } ∷ [];
   numbers = with_entry known.numbers name (length known.members);
+  scalars = scalars_with structs known.scalars ty;
 }
 
 abbrev pub declared_member : Scope → ℕ → Members → PlainType → Kind → PlainTrees → PlainToken → Checked Members
@@ -285,7 +300,7 @@ declared_member scope number known ty kind parts name = do
   bound ← declares (member_entity number (length known.members))
   whole ← object_type scope ty kind parts name None
   complete ← unless_so (is_complete scope.structs whole) Incomplete name
-  give (with_member known name.text whole)
+  give (with_member scope.structs known name.text whole)
 
 abbrev pub one_member : Scope → ℕ → Members → PlainType → PlainTree → Checked Members
 one_member scope number known ty (node kind parts) =
@@ -313,7 +328,7 @@ all_members scope number known (more (node kind (more (node words_kind words) (m
 all_members scope number known (more tree rest) = broken
 
 abbrev pub completed : Members → Struct → Struct
-completed known s = record s { members = known.members; numbers = known.numbers; complete = true }
+completed known s = record s { members = known.members; numbers = known.numbers; complete = true; scalars = known.scalars }
 
 abbrev pub with_members_at : ℕ → Members → List Struct → List Struct
 with_members_at n known [] = []
@@ -338,7 +353,7 @@ defined_struct unit words members = do
   tag ← or_broken (name_in words)
   new ← unless_so (not (is_defined_tag unit.scope (unit.scope.tags tag.text))) Redeclared tag
   base ← based true unit.scope words
-  all ← all_members base.scope (number_of_struct base.ty) (record { members = []; numbers = no_entry }) members
+  all ← all_members base.scope (number_of_struct base.ty) (record { members = []; numbers = no_entry; scalars = 0 }) members
   give (with_scope unit (record all.scope { structs = with_members_at (number_of_struct base.ty) all.known all.scope.structs }))
 
 -- ---- items
@@ -378,7 +393,52 @@ unit_start structs numbers = record {
   defined = [];
 }
 
+-- ---- the end of a unit, where all structs are complete that it completes (6.9.2)
+
+abbrev pub is_big : Scope → Sort → Bool
+is_big scope (variable ty) = not (is_small scope.structs ty)
+is_big scope (function signature) = false
+
+abbrev pub is_too_big : Scope → Option FileName → Bool
+is_too_big scope None = false
+is_too_big scope (Some n) = is_big scope n.sort
+
+abbrev pub name_if_too_big : Scope → Option PlainToken → Option PlainToken
+name_if_too_big scope None = None
+name_if_too_big scope (Some name) = if is_too_big scope (scope.file_names name.text) then Some name else None
+
+abbrev pub too_big_declarator : Scope → PlainTree → Option PlainToken
+too_big_declarator scope (node k.Declarator parts) = name_if_too_big scope (name_in parts)
+too_big_declarator scope tree = None
+
+-- the first name of an object that is too big, among declarators and in a unit
+abbrev pub too_big_among : Scope → PlainTrees → Option PlainToken
+too_big_among scope none = None
+too_big_among scope (more tree rest) = or_else (too_big_declarator scope tree) (too_big_among scope rest)
+
+abbrev pub too_big_declared : Scope → PlainTrees → Option PlainToken
+too_big_declared scope (more words (more (node kind declarators) end)) = too_big_among scope declarators
+too_big_declared scope parts = None
+
+abbrev pub too_big_in_item : Scope → PlainTree → Option PlainToken
+too_big_in_item scope (node k.Declaration parts) = too_big_declared scope parts
+too_big_in_item scope tree = None
+
+abbrev pub too_big_in : Scope → PlainTrees → Option PlainToken
+too_big_in scope none = None
+too_big_in scope (more tree rest) = or_else (too_big_in_item scope tree) (too_big_in scope rest)
+
+abbrev pub unless_too_big : Option PlainToken → Checked (Unit {0})
+unless_too_big None = give tt
+unless_too_big (Some name) = refused BadConstant name
+
+abbrev pub judged_to_end : ℕ → UnitState → PlainTrees → Checked UnitState
+judged_to_end globals start parts = do
+  unit ← judged_file_items globals start parts
+  small ← unless_too_big (too_big_in unit.scope parts)
+  give unit
+
 -- What a unit is, with so many globals in the program.
 abbrev pub judged_unit : ℕ → List Struct → Numbers → PlainTree → Checked UnitState
-judged_unit globals structs numbers (node kind parts) = judged_file_items globals (unit_start structs numbers) parts
+judged_unit globals structs numbers (node kind parts) = judged_to_end globals (unit_start structs numbers) parts
 judged_unit globals structs numbers (leaf token) = broken

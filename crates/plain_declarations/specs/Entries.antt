@@ -1,5 +1,5 @@
 -- Steps in judging initialisers.
-use Rattle.std.proofs.Common.{◌≡◌, ℕ, suc, ◌+◌, ◌<◌, ◌≤◌, Bool, true, false, List, [], ◌∷◌, ◌++◌, length, take, map, reverse, refl, sym, ap, arith, ◌∙◌}
+use Rattle.std.proofs.Common.{◌≡◌, ℕ, suc, ◌+◌, ◌<◌, ◌≤◌, ◌==◌, ◌&&◌, Bool, true, false, List, [], ◌∷◌, ◌++◌, length, take, map, reverse, refl, sym, ap, arith, ◌∙◌}
 use Rattle.std.specs.Prelude.{pos, Option, Some, None, if◌then◌else◌}
 use Rattle.std.proofs.lemmas.List.{map-append, append_assoc, reverse-append, append-nil, length-append}
 use Rattle.std.proofs.Math.Seq.{take-append_seam}
@@ -7,12 +7,14 @@ use Rattle.std.proofs.Common.{add-one, take_all, drop, get_or, zero, ◌*◌}
 use Rattle.std.proofs.Math.Seq.{drop-cons}
 use Rattle.std.proofs.Math.ListN.{drop_of_length-le}
 use Rattle.plain_scope.specs.declared.errors.ElabError.{ElabError}
-use Rattle.plain_scope.specs.Judgements.{Gives, Refuses, RefusedAs}
-use Rattle.plain_scope.specs.JudgementLaws.{refuses_is, refused_first}
+use Rattle.plain_scope.specs.Judgements.{Gives, IsRefused, RefusedAs}
+use Rattle.plain_scope.specs.JudgementLaws.{refused_first}
 use Rattle.plain_declarations.specs.Shapes.{braced}
 use Rattle.plain_declarations.specs.Sequences.{bind_nothing, gives_next, refused_next, gives_of, refused_of}
 use Rattle.plain_declarations.specs.Progress.{Continues, continues_with, continues_refused}
+use Rattle.text_edits.specs.Span.{plain_span}
 use Rattle.c_text.specs.Token.{PlainToken}
+use Rattle.c_text.specs.declared.origin.FileToken.{FileToken}
 use Rattle.c_types.specs.Types.{PlainType, char, unsigned_char}
 use Rattle.c_types.specs.Integers.{converted, is_integer}
 use Rattle.c_tree.specs.declared.kinds.Kind.{Kind}
@@ -24,10 +26,11 @@ use Rattle.core_meaning.specs.Program.{PlainExpression, constant}
 use Rattle.core_meaning.specs.Values.{part, Path}
 use Rattle.core_meaning.specs.Plain.{path_from}
 use Rattle.core_meaning.specs.declared.refusals.TypeKind.TheVariants.{BadOperand, BadConstant}
-use Rattle.core_meaning.specs.Checking.{Checked, fine, refused, broken, ◌>>=◌, give, unless_so, or_broken, found_or}
+use Rattle.core_meaning.specs.Checking.{Checked, fine, refused, broken, ◌>>=◌, give, unless_so, or_broken}
 use Rattle.core_meaning.specs.Entities.{Scope}
+use Rattle.core_meaning.specs.Typing.{Typed}
 use Rattle.core_meaning.specs.Expressions.{first_token, text_bytes, valued}
-use Rattle.core_meaning.specs.Constancy.{Initial, initial, initial_entries, part_for, path_for, text_initial, text_parts, is_character_type, is_allowed, whole_initial}
+use Rattle.core_meaning.specs.Constancy.{Initial, initial, initial_entries, part_for, path_for, text_initial, text_parts, is_character_type, is_allowed, whole_initial, same_span, is_before_bad_constant, kind_of_excess, part_or_excess}
 
 -- whether the object is a global; its parts don't depend on how many globals there are
 abbrev pub globals_if : Bool → Option ℕ
@@ -36,7 +39,7 @@ globals_if of_global = if of_global then Some 0 else None
 -- one initialiser among those in braces
 abbrev pub entry_initial : Scope → Option ℕ → PlainType → Path → ℕ → PlainTree → PlainToken → Checked (List Initial)
 entry_initial scope globals ty path n tree behind = do
-  element ← found_or (part_for scope.structs ty n) BadConstant (first_token tree behind)
+  element ← part_or_excess scope globals (part_for scope.structs ty n) tree (first_token tree behind)
   initial scope globals element (path_for ty path n) tree behind
 
 -- an array from texts
@@ -95,15 +98,15 @@ joined_to_none (fine x bindings) = rw (append-nil x, append-nil bindings) refl
 joined_to_none (refused kind token) = refl
 joined_to_none broken = refl
 
-regrouped : {A B D : Type 0} (found : Option A) (kind : TypeKind) (token : PlainToken) (f : A → Checked B) (g : B → Checked D) → (found_or found kind token >>= (λ x. f x >>= g)) ≡ ((found_or found kind token >>= f) >>= g)
-regrouped (Some x) kind token f g = bind_nothing (f x >>= g) ∙ ap (λ (d : Checked _). d >>= g) (sym (bind_nothing (f x)))
-regrouped None kind token f g = refl
+regrouped : {B D : Type 0} (scope : Scope) (globals : Option ℕ) (found : Option PlainType) (tree : PlainTree) (first : PlainToken) (f : PlainType → Checked B) (g : B → Checked D) → (part_or_excess scope globals found tree first >>= (λ x. f x >>= g)) ≡ ((part_or_excess scope globals found tree first >>= f) >>= g)
+regrouped scope globals (Some x) tree first f g = bind_nothing (f x >>= g) ∙ ap (λ (d : Checked _). d >>= g) (sym (bind_nothing (f x)))
+regrouped scope globals None tree first f g = refl
 
 -- the first of some initialisers, and then those behind the comma
 pub entries_step : (scope : Scope) (globals : Option ℕ) (ty : PlainType) (path : Path) (n : ℕ) (tree : PlainTree) (rest : PlainTrees) (behind : PlainToken) → initial_entries scope globals ty path n (more tree rest) behind ≡ (entry_initial scope globals ty path n tree behind >>= (λ first. initial_entries scope globals ty path (n + 1) (behind_comma rest) behind >>= (λ others. give (first ++ others))))
 entries_step scope globals ty path n tree none behind = joined_to_none (entry_initial scope globals ty path n tree behind)
 entries_step scope globals ty path n tree (more comma rest) behind =
-    regrouped (part_for scope.structs ty n) BadConstant (first_token tree behind) (λ element. initial scope globals element (path_for ty path n) tree behind) (λ first. initial_entries scope globals ty path (n + 1) rest behind >>= (λ others. give (first ++ others)))
+    regrouped scope globals (part_for scope.structs ty n) tree (first_token tree behind) (λ element. initial scope globals element (path_for ty path n) tree behind) (λ first. initial_entries scope globals ty path (n + 1) rest behind >>= (λ others. give (first ++ others)))
 
 pub next_behind : (m : ℕ) (parts : List Tree) → behind_comma (plain_trees (drop m parts)) ≡ plain_trees (drop (suc m) parts)
 next_behind zero [] = refl
@@ -141,15 +144,30 @@ initial_braces scope globals ty path (more brace (more (leaf token) rest)) given
 initial_braces scope globals ty path (more brace (more (node kind inner) none)) given behind is = cc
 initial_braces scope globals ty path (more brace (more (node kind inner) (more last (more other rest)))) given behind is = cc
 
--- behind what is found
-pub found_passed : {A B : Type 0} (found : Option A) (kind : TypeKind) (token : PlainToken) (next : A → Checked B) (x : A) (y : B) (before after : List ℕ → Bool) → found ≡ Some x → Gives (next x) y before after → Gives (found_or found kind token >>= next) y before after
-found_passed found kind token next x y before after is g = gives_next (found_or found kind token) next x y before after (rw is refl) g
+-- behind the part that an initialiser is for
+pub part_gives : {B : Type 0} (scope : Scope) (globals : Option ℕ) (found : Option PlainType) (tree : PlainTree) (first : PlainToken) (next : PlainType → Checked B) (x : PlainType) (y : B) (before after : List ℕ → Bool) → found ≡ Some x → Gives (next x) y before after → Gives (part_or_excess scope globals found tree first >>= next) y before after
+part_gives scope globals found tree first next x y before after is g = gives_next (part_or_excess scope globals found tree first) next x y before after (rw is refl) g
 
-pub found_refused : {A B : Type 0} (found : Option A) (kind : TypeKind) (token : PlainToken) (next : A → Checked B) (x : A) (error : ElabError) → found ≡ Some x → RefusedAs (next x) error → RefusedAs (found_or found kind token >>= next) error
-found_refused found kind token next x error is r = refused_next (found_or found kind token) next x error (rw is refl) r
+pub part_refused : {B : Type 0} (scope : Scope) (globals : Option ℕ) (found : Option PlainType) (tree : PlainTree) (first : PlainToken) (next : PlainType → Checked B) (x : PlainType) (error : ElabError) → found ≡ Some x → RefusedAs (next x) error → RefusedAs (part_or_excess scope globals found tree first >>= next) error
+part_refused scope globals found tree first next x error is r = refused_next (part_or_excess scope globals found tree first) next x error (rw is refl) r
 
-pub nothing_refused : {A B : Type 0} (found : Option A) (kind : TypeKind) (token : PlainToken) (next : A → Checked B) (error : ElabError) → found ≡ None → Refuses kind token error → RefusedAs (found_or found kind token >>= next) error
-nothing_refused found kind token next error is r = refused_first (found_or found kind token) next error (refuses_is (found_or found kind token) kind token error (rw is refl) r)
+-- an initialiser too many
+abbrev pub excess : Scope → PlainTree → PlainToken → Checked PlainType
+excess scope tree first = refused (kind_of_excess first (valued scope tree)) first
+
+pub nothing_refused : {B : Type 0} (scope : Scope) (globals : Option ℕ) (found : Option PlainType) (tree : PlainTree) (first : PlainToken) (next : PlainType → Checked B) (error : ElabError) → found ≡ None → RefusedAs (excess scope tree first) error → RefusedAs (part_or_excess scope globals found tree first >>= next) error
+nothing_refused scope globals found tree first next error is r = refused_first (part_or_excess scope globals found tree first) next error (refused_of (part_or_excess scope globals found tree first) (excess scope tree first) error (rw is refl) r)
+
+-- the kind of a refusal at a place, if it counts before that of an initialiser too many
+abbrev pub kind_at : TypeKind → FileToken → PlainToken → TypeKind
+kind_at kind at first =
+    if (at.file == first.origin.file && same_span (plain_span at.span) first.origin.span) && is_before_bad_constant kind then kind else BadConstant
+
+pub excess_refused : (c : Checked Typed) (first : PlainToken) (kind found : TypeKind) (at : FileToken) → IsRefused c kind at → found ≡ kind_at kind at first → found ≡ kind_of_excess first c
+excess_refused c first kind found at r is = is ∙ rw (r.judged, r.stands.file, r.stands.span) refl
+
+pub excess_given : (c : Checked Typed) (first : PlainToken) (x : Typed) (before after : List ℕ → Bool) → Gives c x before after → BadConstant ≡ kind_of_excess first c
+excess_given c first x before after g = sym (ap (kind_of_excess first) g.judged)
 
 -- a list in braces, or texts
 abbrev pub is_listed : PlainTree → Bool

@@ -15,7 +15,7 @@ use Rattle.c_tree.specs.Trees.{PlainTree, PlainTrees, leaf, node, none, more, pl
 use Rattle.core_meaning.specs.declared.refusals.TypeKind.TheVariants.{Redeclared, Incomplete}
 use Rattle.core_meaning.specs.Checking.{Binding, Checked, fine, refused, broken, with_bindings, ◌>>=◌, give, unless_so}
 use Rattle.core_meaning.specs.Entities.{Scope}
-use Rattle.core_meaning.specs.Declarations.{Parameter, parameter_type, may_be_parameter, is_new_parameter, token_of, name_in, declares_name, parameter_entity, declared_parameter, based, one_parameter, parameters_from}
+use Rattle.core_meaning.specs.Declarations.{Parameter, parameter_type, judged_parameter, with_parameter, is_new_parameter, token_of, name_in, declares_name, parameter_entity, declared_parameter, based, one_parameter, parameters_from}
 use Rattle.plain_scope.specs.declared.errors.ElabError.{ElabError}
 use Rattle.plain_scope.specs.Judgements.{Gives, RefusedAs}
 use Rattle.plain_scope.specs.JudgementLaws.{gives_nothing_used, refused_first, refused_then}
@@ -30,13 +30,13 @@ use Rattle.plain_declarations.specs.Sequences.{gives_next, refused_next, gives_o
 -- a parameter without a declarator
 abbrev pub nameless : Bool → Scope → PlainType → PlainToken → Checked Parameter
 nameless defining scope ty first = do
-  fits ← unless_so (may_be_parameter defining scope ty) Incomplete first
+  judged ← judged_parameter defining scope ty first
   give (record { name = None; ty = ty })
 
 abbrev pub named_type : Bool → Scope → PlainType → Kind → PlainTrees → PlainToken → Checked PlainType
 named_type defining scope ty kind parts at = do
   whole ← parameter_type scope ty kind parts at
-  fits ← unless_so (may_be_parameter defining scope whole) Incomplete at
+  judged ← judged_parameter defining scope whole at
   give whole
 
 -- a parameter with a declarator
@@ -57,10 +57,10 @@ given_behind (refused kind token) test f = refl
 given_behind broken test f = refl
 given_behind (fine x bindings) test f = tested bindings (test x) x f
 
-named_as_declared : (defining : Bool) (scope : Scope) (before : List Parameter) (ty : PlainType) (first : PlainToken) (kind : Kind) (parts : PlainTrees) → let at : PlainToken = token_of (name_in parts) first in (unless_so (is_new_parameter before (name_in parts)) Redeclared at >>= (λ new. declares_name (name_in parts) (parameter_entity defining (length before)) >>= (λ bound. parameter_type scope ty kind parts at >>= (λ whole. unless_so (may_be_parameter defining scope whole) Incomplete at >>= (λ fits. give (record { name = name_in parts; ty = whole })))))) ≡ named defining scope before ty first kind parts
+named_as_declared : (defining : Bool) (scope : Scope) (before : List Parameter) (ty : PlainType) (first : PlainToken) (kind : Kind) (parts : PlainTrees) → let at : PlainToken = token_of (name_in parts) first in (unless_so (is_new_parameter before (name_in parts)) Redeclared at >>= (λ new. declares_name (name_in parts) (parameter_entity defining (length before)) >>= (λ bound. parameter_type scope ty kind parts at >>= (λ whole. judged_parameter defining scope whole at >>= (λ judged. give (record { name = name_in parts; ty = whole })))))) ≡ named defining scope before ty first kind parts
 named_as_declared defining scope before ty first kind parts =
     let at = token_of (name_in parts) first in
-    ap (λ (c : Checked Parameter). unless_so (is_new_parameter before (name_in parts)) Redeclared at >>= (λ new. declares_name (name_in parts) (parameter_entity defining (length before)) >>= (λ bound. c))) (sym (given_behind (parameter_type scope ty kind parts at) (λ whole. unless_so (may_be_parameter defining scope whole) Incomplete at) (λ whole. record { name = name_in parts; ty = whole })))
+    ap (λ (c : Checked Parameter). unless_so (is_new_parameter before (name_in parts)) Redeclared at >>= (λ new. declares_name (name_in parts) (parameter_entity defining (length before)) >>= (λ bound. c))) (sym (given_behind (parameter_type scope ty kind parts at) (λ whole. judged_parameter defining scope whole at) (λ whole. record { name = name_in parts; ty = whole })))
 
 -- behind the binding of a parameter, which is no name of file scope
 pub name_bound : {B : Type 0} (name : Option PlainToken) (defining : Bool) (slot : ℕ) (next : Unit {0} → Checked B) (y : B) (before after : List ℕ → Bool) → Gives (next tt) y before after → Gives (declares_name name (parameter_entity defining slot) >>= next) y before after
@@ -139,27 +139,31 @@ parameter_refused defining scope before tree words declarator parts naming behin
 abbrev pub parameters_at : Bool → Scope → List Parameter → ℕ → List Tree → PlainToken → Checked (List Parameter)
 parameters_at defining scope before n list behind = parameters_from defining scope before (plain_trees (drop (2 * n) list)) behind
 
-one_then : (defining : Bool) (scope : Scope) (before : List Parameter) (tree : PlainTree) (rest : PlainTrees) (behind : PlainToken) → parameters_from defining scope before (more tree rest) behind ≡ (one_parameter defining scope before tree behind >>= (λ p. parameters_from defining scope (before ++ p ∷ []) (behind_comma rest) behind))
+-- what is visible behind parameters and one more
+abbrev pub with_one : Scope → List Parameter → Parameter → Scope
+with_one scope before p = with_parameter scope (length before) p.name p.ty
+
+one_then : (defining : Bool) (scope : Scope) (before : List Parameter) (tree : PlainTree) (rest : PlainTrees) (behind : PlainToken) → parameters_from defining scope before (more tree rest) behind ≡ (one_parameter defining scope before tree behind >>= (λ p. parameters_from defining (with_one scope before p) (before ++ p ∷ []) (behind_comma rest) behind))
 one_then defining scope before tree none behind = refl
 one_then defining scope before tree (more comma rest) behind = refl
 
-next_parameter : (defining : Bool) (scope : Scope) (before : List Parameter) (n : ℕ) (list : List Tree) (tree : Tree) (behind : PlainToken) → 2 * n < length list → tree ≡ get_or list (2 * n) tree → parameters_at defining scope before n list behind ≡ (one_parameter defining scope before (plain_tree tree) behind >>= (λ p. parameters_at defining scope (before ++ p ∷ []) (n + 1) list behind))
+next_parameter : (defining : Bool) (scope : Scope) (before : List Parameter) (n : ℕ) (list : List Tree) (tree : Tree) (behind : PlainToken) → 2 * n < length list → tree ≡ get_or list (2 * n) tree → parameters_at defining scope before n list behind ≡ (one_parameter defining scope before (plain_tree tree) behind >>= (λ p. parameters_at defining (with_one scope before p) (before ++ p ∷ []) (n + 1) list behind))
 next_parameter defining scope before n list tree behind inside is =
     let front : drop (2 * n) list ≡ tree ∷ drop (suc (2 * n)) list = drop-cons list (2 * n) tree inside ∙ ap (λ t. t ∷ drop (suc (2 * n)) list) (sym is) in
     let two : suc (suc (2 * n)) ≡ 2 * (n + 1) = omega arith in
     let last : behind_comma (plain_trees (drop (suc (2 * n)) list)) ≡ plain_trees (drop (2 * (n + 1)) list) = next_behind (suc (2 * n)) list ∙ ap (λ k. plain_trees (drop k list)) two in
     ap (λ l. parameters_from defining scope before (plain_trees l) behind) front
     ∙ one_then defining scope before (plain_tree tree) (plain_trees (drop (suc (2 * n)) list)) behind
-    ∙ ap (λ l. one_parameter defining scope before (plain_tree tree) behind >>= (λ p. parameters_from defining scope (before ++ p ∷ []) l behind)) last
+    ∙ ap (λ l. one_parameter defining scope before (plain_tree tree) behind >>= (λ p. parameters_from defining (with_one scope before p) (before ++ p ∷ []) l behind)) last
 
 -- what is left of a list behind one parameter
-pub parameters_continue : (defining : Bool) (scope : Scope) (before all : List Parameter) (n : ℕ) (list : List Tree) (tree : Tree) (behind : PlainToken) (p : Parameter) (whole : Checked (List Parameter)) (old between new : List ℕ → Bool) → 2 * n < length list → tree ≡ get_or list (2 * n) tree → Continues whole (parameters_at defining scope before n list behind) (λ found. found) old between → Gives (one_parameter defining scope before (plain_tree tree) behind) p between new → all ≡ before ++ p ∷ [] → Continues whole (parameters_at defining scope all (n + 1) list behind) (λ found. found) old new
-parameters_continue defining scope before all n list tree behind p whole old between new inside is c g with_p =
-    rw with_p (continues_on whole (parameters_at defining scope before n list behind) (λ found. found) old between new (one_parameter defining scope before (plain_tree tree) behind) (λ q. parameters_at defining scope (before ++ q ∷ []) (n + 1) list behind) p c (next_parameter defining scope before n list tree behind inside is) g)
+pub parameters_continue : (defining : Bool) (scope after : Scope) (before all : List Parameter) (n : ℕ) (list : List Tree) (tree : Tree) (behind : PlainToken) (p : Parameter) (whole : Checked (List Parameter)) (old between new : List ℕ → Bool) → 2 * n < length list → tree ≡ get_or list (2 * n) tree → Continues whole (parameters_at defining scope before n list behind) (λ found. found) old between → Gives (one_parameter defining scope before (plain_tree tree) behind) p between new → all ≡ before ++ p ∷ [] → after ≡ with_one scope before p → Continues whole (parameters_at defining after all (n + 1) list behind) (λ found. found) old new
+parameters_continue defining scope after before all n list tree behind p whole old between new inside is c g with_p within_p =
+    rw (with_p, within_p) (continues_on whole (parameters_at defining scope before n list behind) (λ found. found) old between new (one_parameter defining scope before (plain_tree tree) behind) (λ q. parameters_at defining (with_one scope before q) (before ++ q ∷ []) (n + 1) list behind) p c (next_parameter defining scope before n list tree behind inside is) g)
 
 pub parameters_refused : (defining : Bool) (scope : Scope) (before : List Parameter) (n : ℕ) (list : List Tree) (tree : Tree) (behind : PlainToken) (error : ElabError) (whole : Checked (List Parameter)) (old between : List ℕ → Bool) → 2 * n < length list → tree ≡ get_or list (2 * n) tree → Continues whole (parameters_at defining scope before n list behind) (λ found. found) old between → RefusedAs (one_parameter defining scope before (plain_tree tree) behind) error → RefusedAs whole error
 parameters_refused defining scope before n list tree behind error whole old between inside is c r =
-    continues_refused whole (parameters_at defining scope before n list behind) (λ found. found) old between error c (refused_of (parameters_at defining scope before n list behind) (one_parameter defining scope before (plain_tree tree) behind >>= (λ p. parameters_at defining scope (before ++ p ∷ []) (n + 1) list behind)) error (next_parameter defining scope before n list tree behind inside is) (refused_first (one_parameter defining scope before (plain_tree tree) behind) (λ p. parameters_at defining scope (before ++ p ∷ []) (n + 1) list behind) error r))
+    continues_refused whole (parameters_at defining scope before n list behind) (λ found. found) old between error c (refused_of (parameters_at defining scope before n list behind) (one_parameter defining scope before (plain_tree tree) behind >>= (λ p. parameters_at defining (with_one scope before p) (before ++ p ∷ []) (n + 1) list behind)) error (next_parameter defining scope before n list tree behind inside is) (refused_first (one_parameter defining scope before (plain_tree tree) behind) (λ p. parameters_at defining (with_one scope before p) (before ++ p ∷ []) (n + 1) list behind) error r))
 
 no_parameter_left : (defining : Bool) (scope : Scope) (before : List Parameter) (n : ℕ) (list : List Tree) (behind : PlainToken) → length list ≤ 2 * n → parameters_at defining scope before n list behind ≡ give before
 no_parameter_left defining scope before n list behind over = rw (drop_of_length-le list {i = 2 * n} over) refl

@@ -1,21 +1,23 @@
 //! Initialisers (6.7.9).
-ghost use Rattle.std.specs.Prelude.{◌≡◌, ◌==◌, ◌∷◌, ◌++◌, ◌≤◌, [], nat_lt, length, take, map, pos, true, IfOk, Some, None, option_map, MatchResult, if◌then◌else◌};
+ghost use Rattle.std.specs.Prelude.{◌≡◌, ◌==◌, ◌&&◌, ◌∷◌, ◌++◌, ◌≤◌, [], nat_lt, length, take, map, pos, true, IfOk, Some, None, option_map, MatchResult, if◌then◌else◌};
+ghost use Rattle.text_edits.specs.Span.{plain_span};
 ghost use Rattle.c_text.specs.Token.{plain_token};
 ghost use Rattle.c_types.specs.Types.{plain_type, structure};
 ghost use Rattle.c_types.specs.Integers.{converted};
 ghost use Rattle.c_tree.specs.Trees.{node, plain_tree, plain_trees};
 ghost use Rattle.core_meaning.specs.Plain.{plain_expression, path_from};
 ghost use Rattle.core_meaning.specs.Values.{part};
+ghost use Rattle.core_meaning.specs.Expressions.{valued};
 ghost use Rattle.core_meaning.specs.Constancy as spec;
 ghost use Rattle.plain_scope.specs.PlainScope.{plain_scope};
-ghost use Rattle.plain_scope.specs.Judgements.{Answers, Judges};
+ghost use Rattle.plain_scope.specs.Judgements.{Answers, Judges, RefusedAs};
 ghost use Rattle.plain_declarations.specs.PlainDeclared.{plain_initial};
-ghost use Rattle.plain_declarations.specs.Entries.{globals_if, entry_initial, text_at, value_at, allowed_value, refused_value, array_from_text};
+ghost use Rattle.plain_declarations.specs.Entries.{globals_if, entry_initial, text_at, value_at, allowed_value, refused_value, array_from_text, kind_at, excess};
 
 use crate::constants::is_allowed;
 use crate::types::is_character_type;
 use crate::words::entry_count;
-use c_text::Token;
+use c_text::{FileToken, Token};
 use c_tree::{Kind, Tree};
 use c_types::{CType, convert};
 use cond_formula::NoMemory;
@@ -295,7 +297,7 @@ fn value_initial<'t>(
 {
     let x = valued(alloc, scope, used, tree)?;
     let core = fitted(alloc, ty, x, TypeKind::BadOperand, first)?;
-    let parts = allowed_part(alloc, scope, constant, path, core, first)?;
+    let parts = allowed_part(alloc, scope, constant, path, Box::into_inner(core), first)?;
     Ok(parts)
 }
 
@@ -394,9 +396,76 @@ fn joined<'t>(found: Vec<Initial<'t>>, more: Vec<Initial<'t>>) -> Result<Vec<Ini
     Ok(all)
 }
 
+fn stands_at(at: &FileToken, first: &Token) -> bool
+    ensures { result ≡ (at.now.file == first.now.origin.file && spec.same_span (plain_span at.now.span) (plain_span first.now.origin.span)) }
+{
+    at.file == first.origin.file
+        && (at.span.start == first.origin.span.start && at.span.end == first.origin.span.end)
+}
+
+fn is_before_bad_constant(kind: TypeKind) -> bool
+    ensures { result ≡ spec.is_before_bad_constant kind }
+{
+    match kind {
+        TypeKind::BadConstant | TypeKind::Misplaced => false,
+        TypeKind::Undeclared
+        | TypeKind::Redeclared
+        | TypeKind::BadOperand
+        | TypeKind::NotAssignable
+        | TypeKind::Incomplete
+        | TypeKind::ArgumentCount
+        | TypeKind::NoMember => true,
+    }
+}
+
+fn kind_at(kind: TypeKind, at: &FileToken, first: &Token) -> TypeKind
+    ensures { result ≡ kind_at kind at.now (plain_token first.now) }
+{
+    if stands_at(at, first) && is_before_bad_constant(kind) {
+        kind
+    } else {
+        TypeKind::BadConstant
+    }
+}
+
+/// How an initialiser too many is refused: as an expression, where it is refused at its first token by a lesser number.
+#[tactic(auto, using(crate::specs::Entries::excess_refused, crate::specs::Entries::excess_given))]
+fn kind_of_excess(
+    alloc: Global,
+    scope: &Scope,
+    used: &mut Used,
+    tree: &Tree,
+    first: &Token,
+) -> Result<TypeKind, ElabError>
+    ensures { MatchResult result (λ kind. kind ≡ spec.kind_of_excess (plain_token first.now) (valued (plain_scope scope.now) (plain_tree tree.now))) (λ error. error ≡ ElabError.Memory) }
+{
+    match valued(alloc, scope, used, tree) {
+        Ok(_) => Ok(TypeKind::BadConstant),
+        Err(ElabError::BadType(kind, at)) => Ok(kind_at(kind, &at, first)),
+        Err(ElabError::Link(..)) => Err(ElabError::Memory),
+        Err(ElabError::Memory) => Err(ElabError::Memory),
+    }
+}
+
+#[tactic(auto, using(plain_scope::specs::JudgementLaws::refuses_is))]
+fn excess(
+    alloc: Global,
+    scope: &Scope,
+    used: &mut Used,
+    tree: &Tree,
+    first: &Token,
+) -> ElabError
+    ensures { RefusedAs (excess (plain_scope scope.now) (plain_tree tree.now) (plain_token first.now)) result }
+{
+    match kind_of_excess(alloc, scope, used, tree, first) {
+        Ok(kind) => refused(kind, first),
+        Err(error) => error,
+    }
+}
+
 /// One initialiser among those in braces.
 #[cycle(initialise)]
-#[tactic(auto, using(crate::specs::Sequences::steps, crate::specs::Entries::found_passed, crate::specs::Entries::found_refused, crate::specs::Entries::nothing_refused))]
+#[tactic(auto, using(crate::specs::Sequences::steps, crate::specs::Entries::part_gives, crate::specs::Entries::part_refused, crate::specs::Entries::nothing_refused))]
 fn entry<'t>(
     alloc: Global,
     scope: &Scope,
@@ -414,7 +483,8 @@ fn entry<'t>(
         return Err(ElabError::Memory);
     };
     let Some(element) = part_for(alloc, scope, ty, number)? else {
-        return Err(refused(TypeKind::BadConstant, first_token(tree, behind)));
+        let first = first_token(tree, behind);
+        return Err(excess(alloc, scope, used, tree, first));
     };
     let inner = path_for(alloc, ty, path, number)?;
     let parts = initialised(

@@ -1,11 +1,12 @@
 //! Parameters (6.7.6.3).
-ghost use Rattle.std.specs.Prelude.{◌≡◌, ◌∷◌, ◌++◌, [], map, option_map, IfOk};
+ghost use Rattle.std.specs.Prelude.{◌≡◌, ◌∷◌, ◌++◌, [], map, option_map, IfOk, OnOk, MatchResult};
 ghost use Rattle.std.specs.List.{list_any};
 ghost use Rattle.c_text.specs.Token.{plain_token};
 ghost use Rattle.c_types.specs.Types.{plain_type};
 ghost use Rattle.c_tree.specs.Trees.{node, plain_tree, plain_trees};
 ghost use Rattle.c_tree.specs.Grammar.{are_words, is_lone_void};
 ghost use Rattle.core_meaning.specs.Declarations as spec;
+ghost use Rattle.plain_scope.specs.Blocks.{without_block};
 ghost use Rattle.plain_scope.specs.PlainScope.{plain_scope};
 ghost use Rattle.plain_scope.specs.Judgements.{Answers, Judges};
 ghost use Rattle.plain_declarations.specs.PlainParameters.{plain_name, plain_parameter};
@@ -18,6 +19,7 @@ use c_text::Token;
 use c_tree::{Kind, Terminal, Tree};
 use c_types::CType;
 use core_meaning::TypeKind;
+use plain_expressions::is_small;
 use plain_scope::{ElabError, Scope, Used, first_token, is_void, is_word, unless};
 use std::alloc::Global;
 
@@ -106,6 +108,25 @@ fn may_be_parameter(scope: &Scope, defining: bool, ty: &CType) -> bool
     !is_void(ty) && (!defining || scope.is_complete(ty))
 }
 
+/// A parameter's type fits and is small enough.
+#[tactic(auto, using(crate::specs::Sequences::both_passed, crate::specs::Sequences::failed_refused, crate::specs::Sequences::passed_refused, crate::specs::Sequences::test_refused))]
+fn judge_parameter(
+    scope: &Scope,
+    defining: bool,
+    ty: &CType,
+    at: &Token,
+) -> Result<(), ElabError>
+    ensures { Answers (spec.judged_parameter defining (plain_scope scope.now) (plain_type ty.now) (plain_token at.now)) (λ u. tt) result }
+{
+    unless(
+        may_be_parameter(scope, defining, ty),
+        TypeKind::Incomplete,
+        at,
+    )?;
+    unless(is_small(scope, ty), TypeKind::BadConstant, at)?;
+    Ok(())
+}
+
 // ---- their names
 
 fn is_named(p: &Parameter, text: &[u8]) -> bool
@@ -149,7 +170,7 @@ fn token_of<'t>(name: Option<&'t Token>, first: &'t Token) -> &'t Token
 
 // ---- parameters
 
-#[tactic(auto, using(crate::specs::Sequences::passed_is, crate::specs::Sequences::failed_refused))]
+#[tactic(auto, using(crate::specs::Sequences::next_of, plain_scope::specs::JudgementLaws::refused_first))]
 fn nameless<'t>(
     scope: &Scope,
     defining: bool,
@@ -158,16 +179,12 @@ fn nameless<'t>(
 ) -> Result<Parameter<'t>, ElabError>
     ensures { Answers (nameless defining (plain_scope scope.now) (plain_type ty) (plain_token first.now)) plain_parameter result }
 {
-    unless(
-        may_be_parameter(scope, defining, &ty),
-        TypeKind::Incomplete,
-        first,
-    )?;
+    judge_parameter(scope, defining, &ty, first)?;
     Ok(Parameter { name: None, ty })
 }
 
 /// The type of a parameter that is declared.
-#[tactic(auto, using(crate::specs::Sequences::gives_as, crate::specs::Sequences::refused_behind, crate::specs::Sequences::passed_is, crate::specs::Sequences::failed_refused, plain_scope::specs::JudgementLaws::refused_first))]
+#[tactic(auto, using(crate::specs::Sequences::gives_as, crate::specs::Sequences::refused_behind, crate::specs::Sequences::next_of, plain_scope::specs::JudgementLaws::refused_first))]
 fn declared_type(
     alloc: Global,
     scope: &Scope,
@@ -181,11 +198,7 @@ fn declared_type(
     ensures { Judges (named_type defining (plain_scope scope.now) (plain_type base.now) kind (plain_trees parts.now) (plain_token at.now)) plain_type used.old used.new result }
 {
     let ty = parameter_type(alloc, scope, used, base, kind, parts, at)?;
-    unless(
-        may_be_parameter(scope, defining, &ty),
-        TypeKind::Incomplete,
-        at,
-    )?;
+    judge_parameter(scope, defining, &ty, at)?;
     Ok(ty)
 }
 
@@ -312,23 +325,48 @@ fn one_parameter<'t>(
     Ok(p)
 }
 
-/// The parameters of a list, one after the other.
+/// A parameter is visible behind its declarator, by its slot.
+#[tactic(auto, using(crate::specs::Locals::outside_local))]
+pub fn enter_parameter(
+    alloc: Global,
+    scope: &mut Scope,
+    slot: usize,
+    p: &Parameter,
+) -> Result<(), ElabError>
+    ensures placed { MatchResult result (λ u. plain_scope scope.new ≡ spec.with_parameter (plain_scope scope.old) slot (plain_parameter p.now).name (plain_parameter p.now).ty) (λ error. error ≡ ElabError.Memory) }
+    ensures outside { OnOk result (without_block (plain_scope scope.new) ≡ without_block (plain_scope scope.old)) }
+{
+    let Ok(slot) = u32::try_from(slot) else {
+        return Err(ElabError::Memory);
+    };
+    match p.name {
+        Some(name) => {
+            scope.declare_local(alloc, name.text.as_slice(), slot, &p.ty)?;
+            Ok(())
+        }
+        None => Ok(()),
+    }
+}
+
+/// The parameters of a list, one after the other; each is visible behind it.
 #[tactic(auto, using(plain_scope::specs::JudgementLaws::refused_first))]
 fn parameters_from<'t>(
     alloc: Global,
-    scope: &Scope,
+    scope: &mut Scope,
     used: &mut Used,
     defining: bool,
     list: &'t [Tree],
     behind: &Token,
 ) -> Result<Vec<Parameter<'t>>, ElabError>
-    ensures { Judges (spec.parameters_from defining (plain_scope scope.now) [] (plain_trees list.now) (plain_token behind.now)) (λ all. map plain_parameter all.items) used.old used.new result }
+    ensures judged { Judges (spec.parameters_from defining (plain_scope scope.old) [] (plain_trees list.now) (plain_token behind.now)) (λ all. map plain_parameter all.items) used.old used.new result }
+    ensures outside { OnOk result (without_block (plain_scope scope.new) ≡ without_block (plain_scope scope.old)) }
 {
     let mut all = Vec::new(alloc);
     for number in 0..entry_count(list) {
         let before = all.as_slice();
         let tree = &list[2 * number];
         let p = one_parameter(alloc, scope, used, defining, before, tree, behind)?;
+        enter_parameter(alloc, scope, number, &p)?;
         all.push(p)?;
     }
     Ok(all)
@@ -392,18 +430,21 @@ fn is_lone_void(list: &[Tree]) -> bool
 #[tactic(auto, using(plain_scope::specs::JudgementLaws::gives_nothing_used))]
 fn listed<'t>(
     alloc: Global,
-    scope: &Scope,
+    scope: &mut Scope,
     used: &mut Used,
     defining: bool,
     list: &'t [Tree],
     behind: &Token,
 ) -> Result<Vec<Parameter<'t>>, ElabError>
-    ensures { Judges (spec.parameters_in defining (plain_scope scope.now) (node Kind.Parameters (plain_trees list.now)) (plain_token behind.now)) (λ all. map plain_parameter all.items) used.old used.new result }
+    ensures judged { Judges (spec.parameters_in defining (plain_scope scope.old) (node Kind.Parameters (plain_trees list.now)) (plain_token behind.now)) (λ all. map plain_parameter all.items) used.old used.new result }
+    ensures same { OnOk result (plain_scope scope.new ≡ plain_scope scope.old) }
 {
     if is_lone_void(list) {
         Ok(Vec::new(alloc))
     } else {
+        scope.begin_block(alloc)?;
         let all = parameters_from(alloc, scope, used, defining, list, behind)?;
+        scope.end_block();
         Ok(all)
     }
 }
@@ -411,13 +452,14 @@ fn listed<'t>(
 #[tactic(auto, using(c_tree::specs::TreeLaws::tree_kinds, plain_scope::specs::JudgementLaws::gives_nothing_used))]
 fn parameters_in<'t>(
     alloc: Global,
-    scope: &Scope,
+    scope: &mut Scope,
     used: &mut Used,
     defining: bool,
     list: &'t Tree,
     behind: &Token,
 ) -> Result<Vec<Parameter<'t>>, ElabError>
-    ensures { Judges (spec.parameters_in defining (plain_scope scope.now) (plain_tree list.now) (plain_token behind.now)) (λ all. map plain_parameter all.items) used.old used.new result }
+    ensures judged { Judges (spec.parameters_in defining (plain_scope scope.old) (plain_tree list.now) (plain_token behind.now)) (λ all. map plain_parameter all.items) used.old used.new result }
+    ensures same { OnOk result (plain_scope scope.new ≡ plain_scope scope.old) }
 {
     match list {
         Tree::Leaf(_) => Ok(Vec::new(alloc)),
@@ -434,13 +476,14 @@ fn parameters_in<'t>(
 /// The parameters of a function's declarator, of a definition or another; behind them no token of theirs is left.
 pub fn declared_parameters<'t>(
     alloc: Global,
-    scope: &Scope,
+    scope: &mut Scope,
     used: &mut Used,
     defining: bool,
     parts: &'t [Tree],
     behind: &Token,
 ) -> Result<Vec<Parameter<'t>>, ElabError>
-    ensures { Judges (spec.parameters_of defining (plain_scope scope.now) (spec.behind_word Terminal.OpenParenthesis (plain_trees parts.now)) (plain_token behind.now)) (λ all. map plain_parameter all.items) used.old used.new result }
+    ensures judged { Judges (spec.parameters_of defining (plain_scope scope.old) (spec.behind_word Terminal.OpenParenthesis (plain_trees parts.now)) (plain_token behind.now)) (λ all. map plain_parameter all.items) used.old used.new result }
+    ensures same { OnOk result (plain_scope scope.new ≡ plain_scope scope.old) }
 {
     match behind_word(parts, Terminal::OpenParenthesis) {
         Some(list) => {

@@ -12,7 +12,7 @@ use c_text::Token;
 use c_tree::{Kind, Terminal, Tree, terminal};
 use plain_scope::is_word;
 
-/// The first name among words.
+/// The first name among words; what stands in `[ ]` is none of them.
 #[tactic(auto, using(c_tree::specs::TreeLaws::tree_kinds))]
 pub fn name_in(parts: &[Tree]) -> Option<&Token>
     ensures { option_map (λ t. plain_token t.now) result ≡ spec.name_in (plain_trees parts.now) }
@@ -22,6 +22,8 @@ pub fn name_in(parts: &[Tree]) -> Option<&Token>
         Tree::Leaf(token) => {
             if Terminal::Name.is(terminal(token)) {
                 Some(token)
+            } else if Terminal::OpenBracket.is(terminal(token)) {
+                None
             } else {
                 name_in(rest)
             }

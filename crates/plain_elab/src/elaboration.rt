@@ -15,7 +15,7 @@ ghost use Rattle.plain_elab.specs.Elaborated.{NotElaborated};
 use crate::collecting::texts_of;
 use crate::judging::{judged, unnumbered};
 use c_tree::Tree;
-use core_meaning::CoreProgram;
+use core_meaning::{CoreProgram, judgings_list_alike};
 use plain_link::{Left, link};
 use plain_numbers::{Texts, listed, numbered};
 use plain_program::program;
@@ -58,9 +58,11 @@ fn judged_whole(alloc: Global, units: &[Tree], texts: &Texts) -> Result<Whole, E
     requires numbered { text_specs.AreNumbered texts.now }
     requires texts { plain_texts texts.now ≡ spec.literals_of (map plain_tree units.now) }
     ensures { MatchResult result
-        (λ whole. spec.judged_program (map plain_tree units.now) ≡ give (plain_units whole.objects whole.units.items whole.structs.items))
+        (λ whole. (spec.judged_program (map plain_tree units.now) ≡ give (plain_units whole.objects whole.units.items whole.structs.items))
+        × (whole.objects ≡ length (spec.listed (map (plain_unit 0) whole.units.items) false)))
         (RefusedAs (spec.judged_program (map plain_tree units.now))) }
 {
+    judgings_list_alike();
     let (first, _) = judged_first(alloc, units)?;
     let (numbers, objects) = numbers_of(alloc, first.as_slice())?;
     let (units, structs) = judged(alloc, units, numbers.as_slice(), &texts.numbers)?;
@@ -71,7 +73,7 @@ fn judged_whole(alloc: Global, units: &[Tree], texts: &Texts) -> Result<Whole, E
     })
 }
 
-/// The core program of units that link. As many objects have numbers as when the units were judged.
+/// The core program of units that link. As many objects have numbers as when the units were judged first.
 fn linked_program(
     alloc: Global,
     units: Vec<Left>,
@@ -79,6 +81,7 @@ fn linked_program(
     objects_then: usize,
     literals: Vec<Vec<u8>>,
 ) -> Result<CoreProgram, ElabError>
+    requires { objects_then ≡ length (spec.listed (map (plain_unit 0) units.items) false) }
     ensures { MatchResult result
         (λ program. (trees : List PlainTree) → map (λ bytes. bytes.items) literals.items ≡ spec.literals_of trees →
         plain_program program ≡ spec.program_of trees (plain_units objects_then units.items structs.now))
@@ -86,9 +89,6 @@ fn linked_program(
 {
     let objects = listed(alloc, units.as_slice(), false)?;
     let functions = listed(alloc, units.as_slice(), true)?;
-    if objects.list.len() != objects_then {
-        return Err(ElabError::Memory);
-    }
     let program = program(alloc, units, structs, &objects, &functions, literals)?;
     Ok(program)
 }

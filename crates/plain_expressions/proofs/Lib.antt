@@ -4,4 +4,3 @@ pub mod NodeLaws
 pub mod Answering
 pub mod ArgumentLaws
 pub mod ConstantLaws
-pub mod SizeLaws

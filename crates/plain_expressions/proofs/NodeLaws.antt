@@ -13,7 +13,7 @@ use Rattle.core_meaning.specs.Program.{PlainArguments, no_argument}
 use Rattle.core_meaning.specs.Checking.{Checked, file_entity, refused, ◌>>=◌, give, or_broken, uses, unless_so}
 use Rattle.core_meaning.specs.Entities.{Scope}
 use Rattle.core_meaning.specs.Typing.{Operand, Typed, loaded}
-use Rattle.core_meaning.specs.Expressions.{Callee, callee, judged, valued, judged_condition, judged_arguments, cast_to, chosen, arithmetic_words, assigned_place, assignment, result_of_call, count_entries}
+use Rattle.core_meaning.specs.Expressions.{Callee, callee, judged, valued, judged_condition, judged_arguments, cast_to, chosen, arithmetic_words, written_place, assignment, may_be_called, result_of_call, count_entries}
 use Rattle.plain_expressions.specs.Steps.{on_operand, cast_value, TwoValues, both, joined_values, on_two, is_between, Written, written_object, assigned_to, assigned_in, called_with, called_by, not_called, call_of, is_list}
 use Rattle.plain_scope.specs.Parts.{parts_in}
 use Rattle.plain_scope.specs.Judgements.{Gives}
@@ -125,14 +125,14 @@ cast_words scope bracket (node kind words) close inner =
 pub cast_law : (scope : Scope) (bracket : PlainToken) (parts : PlainTrees) (first words close inner : PlainTree) → parts ≡ more first (more words (more close (more inner none))) → first ≡ leaf bracket → judged scope (node k.Cast parts) ≡ cast_value scope bracket words inner
 cast_law scope bracket parts first words close inner p q = ap (λ (ps : PlainTrees). judged scope (node k.Cast ps)) (p ∙ ap (λ (s : PlainTree). more s (more words (more close (more inner none)))) q) ∙ cast_words scope bracket words close inner
 
-written_law : {B : Type 0} (scope : Scope) (sign : PlainToken) (first : PlainTree) (d : Checked B) (g : B → Checked Typed) → (judged scope first >>= (λ left. assigned_place left sign >>= (λ place. d >>= (λ o. g o >>= (λ right. assignment scope sign left place right))))) ≡ (written_object scope first sign >>= (λ left. (d >>= g) >>= assigned_to scope sign left))
+written_law : {B : Type 0} (scope : Scope) (sign : PlainToken) (first : PlainTree) (d : Checked B) (g : B → Checked Typed) → (judged scope first >>= (λ left. written_place scope sign left >>= (λ place. d >>= (λ o. g o >>= (λ right. assignment scope sign left place right))))) ≡ (written_object scope first sign >>= (λ left. (d >>= g) >>= assigned_to scope sign left))
 written_law scope sign first d g =
     let object : Operand → _ → Written = λ left place. record { ty = left.ty; place = place } in
     let behind : Written → Checked Operand = λ left. (d >>= g) >>= assigned_to scope sign left in
-    sym (then_then (judged scope first) (λ left. assigned_place left sign >>= (λ place. give (object left place))) behind
-    ∙ then_same (judged scope first) (λ left. (assigned_place left sign >>= (λ place. give (object left place))) >>= behind) (λ left. assigned_place left sign >>= (λ place. d >>= (λ o. g o >>= (λ right. assignment scope sign left place right))))
-    (λ left. then_then (assigned_place left sign) (λ place. give (object left place)) behind
-    ∙ then_same (assigned_place left sign) (λ place. give (object left place) >>= behind) (λ place. d >>= (λ o. g o >>= (λ right. assignment scope sign left place right)))
+    sym (then_then (judged scope first) (λ left. written_place scope sign left >>= (λ place. give (object left place))) behind
+    ∙ then_same (judged scope first) (λ left. (written_place scope sign left >>= (λ place. give (object left place))) >>= behind) (λ left. written_place scope sign left >>= (λ place. d >>= (λ o. g o >>= (λ right. assignment scope sign left place right))))
+    (λ left. then_then (written_place scope sign left) (λ place. give (object left place)) behind
+    ∙ then_same (written_place scope sign left) (λ place. give (object left place) >>= behind) (λ place. d >>= (λ o. g o >>= (λ right. assignment scope sign left place right)))
     (λ place. give_then (object left place) behind ∙ then_then d g (assigned_to scope sign (object left place)))))
 
 pub assigned_law : (scope : Scope) (sign : PlainToken) (parts : PlainTrees) (first middle second : PlainTree) → parts ≡ more first (more middle (more second none)) → middle ≡ leaf sign → judged scope (node k.Assignment parts) ≡ assigned_in scope sign parts
@@ -155,20 +155,17 @@ pub no_arguments : (scope : Scope) (types : List PlainType) (bracket : PlainToke
 no_arguments scope [] bracket = refl
 no_arguments scope (ty ∷ types) bracket = refl
 
-zero_first : (n : ℕ) → (n == 0) ≡ (0 == n)
-zero_first n = grind (arith, nat_tests)
-
 above_zero : (n : ℕ) → 0 < n → (n == 0) ≡ false
 above_zero n h = grind (arith, nat_tests)
 
-none_law : (scope : Scope) (types : List PlainType) (name bracket : PlainToken) (result : PlainArguments → Checked Operand) → (uses (file_entity name.text) >>= (λ bound. unless_so (length types == 0) ArgumentCount bracket >>= (λ enough. result no_argument))) ≡ (uses (file_entity name.text) >>= (λ bound. unless_so (0 == length types) ArgumentCount bracket >>= (λ enough. judged_arguments scope types none bracket >>= result)))
-none_law scope types name bracket result =
-    let behind : Checked Operand = judged_arguments scope types none bracket >>= result in
-    let given : behind ≡ result no_argument = ap (λ (c : Checked PlainArguments). c >>= result) (no_arguments scope types bracket) ∙ give_then no_argument result in
-    then_same (uses (file_entity name.text)) (λ bound. unless_so (length types == 0) ArgumentCount bracket >>= (λ enough. result no_argument)) (λ bound. unless_so (0 == length types) ArgumentCount bracket >>= (λ enough. behind))
-    (λ bound.
-    ap (λ (b : Bool). unless_so b ArgumentCount bracket >>= (λ enough. result no_argument)) (zero_first (length types))
-    ∙ then_same (unless_so (0 == length types) ArgumentCount bracket) (λ enough. result no_argument) (λ enough. behind) (λ enough. sym given))
+none_law : (scope : Scope) (f : Callee) (bracket : PlainToken) → (uses (file_entity f.name.text) >>= (λ bound. may_be_called scope f.signature 0 bracket >>= (λ callable. give (result_of_call scope f bracket no_argument)))) ≡ called_with scope f none bracket
+none_law scope f bracket =
+    let finish : PlainArguments → Checked Operand = λ arguments. give (result_of_call scope f bracket arguments) in
+    let callable : Checked (Unit {0}) = may_be_called scope f.signature 0 bracket in
+    let behind : Checked Operand = judged_arguments scope f.signature.parameters none bracket >>= finish in
+    let given : behind ≡ finish no_argument = ap (λ (c : Checked PlainArguments). c >>= finish) (no_arguments scope f.signature.parameters bracket) ∙ give_then no_argument finish in
+    then_same (uses (file_entity f.name.text)) (λ bound. callable >>= (λ c. finish no_argument)) (λ bound. callable >>= (λ c. behind))
+    (λ bound. then_same callable (λ c. finish no_argument) (λ c. behind) (λ c. sym given))
 
 abbrev refused_operand : PlainToken → Checked Operand
 refused_operand bracket = refused BadOperand bracket
@@ -177,17 +174,17 @@ refused_call : (scope : Scope) (bracket : PlainToken) (first : PlainTree) → (j
 refused_call scope bracket first = sym (then_then (judged scope first) (loaded scope) (λ x. refused_operand bracket))
 
 call_arguments : (scope : Scope) (bracket : PlainToken) (first : PlainTree) (parts : PlainTrees) (found : Option Callee) → (elim found as (λ x. Checked Operand) [
-  | Some f ↦ (uses (file_entity f.name.text) >>= (λ bound. unless_so (count_entries parts == length f.signature.parameters) ArgumentCount bracket >>= (λ enough. judged_arguments scope f.signature.parameters parts bracket >>= (λ arguments. result_of_call scope f bracket arguments))))
+  | Some f ↦ (uses (file_entity f.name.text) >>= (λ bound. may_be_called scope f.signature (count_entries parts) bracket >>= (λ callable. judged_arguments scope f.signature.parameters parts bracket >>= (λ arguments. give (result_of_call scope f bracket arguments)))))
   | None ↦ (judged scope first >>= (λ operand. loaded scope operand >>= (λ x. refused BadOperand bracket)))
 ]) ≡ call_of scope bracket first (node k.Arguments parts) found
 call_arguments scope bracket first parts (Some f) = refl
 call_arguments scope bracket first parts None = refused_call scope bracket first
 
 call_none : (scope : Scope) (bracket : PlainToken) (first : PlainTree) (found : Option Callee) → (elim found as (λ x. Checked Operand) [
-  | Some f ↦ (uses (file_entity f.name.text) >>= (λ bound. unless_so (length f.signature.parameters == 0) ArgumentCount bracket >>= (λ enough. result_of_call scope f bracket no_argument)))
+  | Some f ↦ (uses (file_entity f.name.text) >>= (λ bound. may_be_called scope f.signature 0 bracket >>= (λ callable. give (result_of_call scope f bracket no_argument))))
   | None ↦ (judged scope first >>= (λ operand. loaded scope operand >>= (λ x. refused BadOperand bracket)))
 ]) ≡ call_of scope bracket first (node k.Absent none) found
-call_none scope bracket first (Some f) = none_law scope f.signature.parameters f.name bracket (result_of_call scope f bracket)
+call_none scope bracket first (Some f) = none_law scope f bracket
 call_none scope bracket first None = refused_call scope bracket first
 
 call_list : (scope : Scope) (bracket : PlainToken) (first list close : PlainTree) → is_list list ≡ true → judged scope (node k.Call (more first (more (leaf bracket) (more list (more close none))))) ≡ call_of scope bracket first list (callee scope first)
@@ -306,12 +303,15 @@ pub absent_list : (parts : List Tree) → is_list (node k.Absent (plain_trees pa
 absent_list [] = refl
 absent_list (x ∷ rest) = sym (above_zero (length (x ∷ rest)) (omega arith))
 
-pub called_gives : (scope : Scope) (f : Callee) (parts : PlainTrees) (bracket : PlainToken) (given : PlainArguments) (y : Operand) (before between after : List ℕ → Bool) → Gives (uses (file_entity f.name.text)) (tt {0}) before between → (count_entries parts == length f.signature.parameters) ≡ true → Gives (judged_arguments scope f.signature.parameters parts bracket) given between after → result_of_call scope f bracket given ≡ give y → Gives (called_with scope f parts bracket) y before after
-called_gives scope f parts bracket given y before between after noted enough judged result =
-    let last = gives_last (judged_arguments scope f.signature.parameters parts bracket) (result_of_call scope f bracket) given y between after judged result in
-    let counted = gives_as (unless_so (count_entries parts == length f.signature.parameters) ArgumentCount bracket >>= (λ enough. judged_arguments scope f.signature.parameters parts bracket >>= result_of_call scope f bracket)) (judged_arguments scope f.signature.parameters parts bracket >>= result_of_call scope f bracket) y between after
-    (ap (λ (b : Bool). unless_so b ArgumentCount bracket >>= (λ enough. judged_arguments scope f.signature.parameters parts bracket >>= result_of_call scope f bracket)) enough ∙ give_then (tt {0}) (λ enough. judged_arguments scope f.signature.parameters parts bracket >>= result_of_call scope f bracket)) last in
-    gives_then (uses (file_entity f.name.text)) (λ bound. unless_so (count_entries parts == length f.signature.parameters) ArgumentCount bracket >>= (λ enough. judged_arguments scope f.signature.parameters parts bracket >>= result_of_call scope f bracket)) (tt {0}) y before between after noted counted
+pub called_gives : (scope : Scope) (f : Callee) (parts : PlainTrees) (bracket : PlainToken) (given : PlainArguments) (y : Operand) (before between after : List ℕ → Bool) → Gives (uses (file_entity f.name.text)) (tt {0}) before between → may_be_called scope f.signature (count_entries parts) bracket ≡ give (tt {0}) → Gives (judged_arguments scope f.signature.parameters parts bracket) given between after → y ≡ result_of_call scope f bracket given → Gives (called_with scope f parts bracket) y before after
+called_gives scope f parts bracket given y before between after noted may judged result =
+    let finish : PlainArguments → Checked Operand = λ arguments. give (result_of_call scope f bracket arguments) in
+    let callable : Checked (Unit {0}) = may_be_called scope f.signature (count_entries parts) bracket in
+    let behind : Checked Operand = judged_arguments scope f.signature.parameters parts bracket >>= finish in
+    let last = gives_last (judged_arguments scope f.signature.parameters parts bracket) finish given y between after judged (ap (λ (x : Operand). give x) (sym result)) in
+    let counted = gives_as (callable >>= (λ c. behind)) behind y between after
+    (ap (λ (d : Checked (Unit {0})). d >>= (λ c. behind)) may ∙ give_then (tt {0}) (λ c. behind)) last in
+    gives_then (uses (file_entity f.name.text)) (λ bound. callable >>= (λ c. behind)) (tt {0}) y before between after noted counted
 
 pub cast_shape : (scope : Scope) (bracket : PlainToken) (words inner : PlainTree) (parts : PlainTrees) → parts_in words ≡ Some parts → cast_value scope bracket words inner ≡ (valued scope inner >>= (λ x. cast_to bracket x (arithmetic_words parts)))
 cast_shape scope bracket words inner parts h =

@@ -2,4 +2,3 @@ pub mod Steps
 pub mod PlainSteps
 pub mod Continuing
 pub mod Constants
-pub mod Sizes

@@ -7,7 +7,7 @@ use Rattle.plain_scope.specs.PlainScope.{plain_signature}
 use Rattle.plain_operands.specs.PlainOperands.{plain_typed}
 use Rattle.c_types.specs.Types.{plain_type}
 use Rattle.core_meaning.specs.Plain.{plain_place}
-use Rattle.plain_operands.specs.declared.operators.Left.{Left}
+use Rattle.plain_operands.specs.declared.assignments.Left.{Left}
 use Rattle.plain_expressions.specs.Steps as steps
 
 abbrev pub plain_two : TwoValues → steps.TwoValues
@@ -17,4 +17,4 @@ abbrev pub plain_callee : Callee → spec.Callee
 plain_callee f = record { name = plain_token f.name.now; signature = plain_signature f.signature.now }
 
 abbrev pub plain_left : Left → steps.Written
-plain_left left = record { ty = plain_type left.ty; place = plain_place left.place }
+plain_left left = record { ty = plain_type left.ty.value; place = plain_place left.place.value }

@@ -1,17 +1,17 @@
 -- Steps in judging expressions.
-use Rattle.std.specs.Prelude.{◌+◌, ◌==◌, Bool, true, false, length, Option, Some, None}
+use Rattle.std.specs.Prelude.{◌+◌, Bool, true, false, length, Option, Some, None}
 use Rattle.c_text.specs.Token.{PlainToken}
 use Rattle.c_tree.specs.declared.kinds.Kind.{Kind}
 use Rattle.c_tree.specs.declared.kinds.Kind.TheVariants as k
 use Rattle.c_types.specs.Types.{PlainType, char, array_of}
 use Rattle.c_tree.specs.Trees.{PlainTree, PlainTrees, leaf, node, none, more}
 use Rattle.plain_scope.specs.Parts.{parts_in}
-use Rattle.core_meaning.specs.declared.refusals.TypeKind.TheVariants.{ArgumentCount, BadOperand}
+use Rattle.core_meaning.specs.declared.refusals.TypeKind.TheVariants.{BadOperand}
 use Rattle.core_meaning.specs.Program.{PlainPlace, PlainExpression, literal, update, update_after}
-use Rattle.core_meaning.specs.Checking.{Checked, broken, refused, file_entity, ◌>>=◌, found_or, give, or_broken, unless_so, uses}
+use Rattle.core_meaning.specs.Checking.{Checked, broken, refused, file_entity, ◌>>=◌, found_or, give, or_broken, uses}
 use Rattle.core_meaning.specs.Entities.{Scope, number_of}
 use Rattle.core_meaning.specs.Typing.{Operand, Typed, of_object, fits_into}
-use Rattle.core_meaning.specs.Expressions.{Callee, number_operand, text_bytes, first_text, first_token, judged, valued, count_entries, judged_arguments, result_of_call, assigned_place, assignment, stepped, prefixed, indexed, combined_by, cast_to, arithmetic_words}
+use Rattle.core_meaning.specs.Expressions.{Callee, number_operand, text_bytes, first_text, first_token, judged, valued, count_entries, judged_arguments, may_be_called, result_of_call, written_place, assignment, stepped, prefixed, indexed, combined_by, cast_to, arithmetic_words}
 
 abbrev pub text_operand : Scope → PlainTrees → Checked Operand
 text_operand scope parts = do
@@ -99,7 +99,7 @@ pub record Written : Type 0 where
 abbrev pub written_object : Scope → PlainTree → PlainToken → Checked Written
 written_object scope tree sign = do
   operand ← judged scope tree
-  place ← assigned_place operand sign
+  place ← written_place scope sign operand
   give (record { ty = operand.ty; place = place })
 
 abbrev pub assigned_to : Scope → PlainToken → Written → Typed → Checked Operand
@@ -123,9 +123,9 @@ passed_argument scope ty tree bracket = do
 abbrev pub called_with : Scope → Callee → PlainTrees → PlainToken → Checked Operand
 called_with scope f parts bracket = do
   bound ← uses (file_entity f.name.text)
-  enough ← unless_so (count_entries parts == length f.signature.parameters) ArgumentCount bracket
+  callable ← may_be_called scope f.signature (count_entries parts) bracket
   arguments ← judged_arguments scope f.signature.parameters parts bracket
-  result_of_call scope f bracket arguments
+  give (result_of_call scope f bracket arguments)
 
 -- a call with a list of arguments, or one that is left out
 abbrev pub called_by : Scope → Callee → PlainToken → PlainTree → Checked Operand

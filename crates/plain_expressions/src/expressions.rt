@@ -1,15 +1,17 @@
 //! Expressions (6.5).
-ghost use Rattle.std.specs.Prelude.{◌≡◌, ◌+◌, true, length, map, Some, MatchResult};
+ghost use Rattle.std.specs.Prelude.{◌≡◌, ◌+◌, true, length, map, Some, IfOk, MatchResult};
 ghost use Rattle.c_text.specs.Token.{plain_token};
 ghost use Rattle.c_types.specs.Types.{plain_type};
 ghost use Rattle.c_tree.specs.Trees.{node, plain_tree, plain_trees, more, leaf, none};
 ghost use Rattle.core_meaning.specs.Plain.{plain_expression, plain_arguments};
 ghost use Rattle.core_meaning.specs.Checking.{uses, file_entity};
+ghost use Rattle.core_meaning.specs.Entities.{number_of};
+ghost use Rattle.core_meaning.specs.Program as program;
 ghost use Rattle.core_meaning.specs.Expressions as spec;
-ghost use Rattle.plain_scope.specs.PlainScope.{plain_scope};
+ghost use Rattle.plain_scope.specs.PlainScope.{plain_scope, plain_signature};
 ghost use Rattle.plain_scope.specs.Parts.{parts_in};
 ghost use Rattle.plain_scope.specs.Judgements.{Answers, Judges};
-ghost use Rattle.plain_operands.specs.PlainOperands.{plain_operand, plain_typed};
+ghost use Rattle.plain_operands.specs.PlainOperands.{plain_operand, plain_typed, boxed_expression};
 ghost use Rattle.plain_expressions.specs.Steps.{operated, on_operand, written_object, passed_argument, cast_value, two_in, on_two, joined_values, assigned_in, called_with, called_by, not_called, is_list, is_between};
 ghost use Rattle.plain_expressions.specs.PlainSteps.{plain_two, plain_callee, plain_left};
 
@@ -18,14 +20,15 @@ use crate::names::{single_operand, text_operand};
 use c_text::Token;
 use c_tree::{Kind, Tree};
 use c_types::CType;
+use cond_formula::NoMemory;
 use core_meaning::{Expression, TypeKind};
 use plain_operands::{
-    Left, Operand, Typed, assigned_place, assignment, cast_to, chosen, combined, condition_value,
-    fitted, indexed, loaded, logical, of_value, prefixed, selected, stepped,
+    Left, Operand, Typed, assignment, cast_to, chosen, combined, condition_value, fitted, indexed,
+    loaded, logical, of_value, prefixed, selected, stepped, written_place,
 };
 use plain_scope::{
-    ElabError, Scope, Used, arithmetic_words, copied, first_token, is_void, leaf, parts_of,
-    refused, unless,
+    ElabError, Scope, Signature, Used, arithmetic_words, copied, first_token, is_void, leaf,
+    parts_of, refused, unless,
 };
 use std::alloc::Global;
 
@@ -54,8 +57,8 @@ pub fn condition(
     used: &mut Used,
     tree: &Tree,
     behind: &Token,
-) -> Result<Expression, ElabError>
-    ensures { Judges (spec.judged_condition (plain_scope scope.now) (plain_tree tree.now) (plain_token behind.now)) plain_expression used.old used.new result }
+) -> Result<Box<Expression>, ElabError>
+    ensures { Judges (spec.judged_condition (plain_scope scope.now) (plain_tree tree.now) (plain_token behind.now)) boxed_expression used.old used.new result }
 {
     let operand = judged(alloc, scope, used, tree)?;
     let value = condition_value(alloc, scope, operand, first_token(tree, behind))?;
@@ -74,7 +77,7 @@ fn written(
     ensures { Judges (written_object (plain_scope scope.now) (plain_tree tree.now) (plain_token sign.now)) plain_left used.old used.new result }
 {
     let operand = judged(alloc, scope, used, tree)?;
-    let left = assigned_place(operand, sign)?;
+    let left = written_place(scope, sign, operand)?;
     Ok(left)
 }
 
@@ -87,8 +90,8 @@ fn passed(
     tree: &Tree,
     ty: &CType,
     bracket: &Token,
-) -> Result<Expression, ElabError>
-    ensures { Judges (passed_argument (plain_scope scope.now) (plain_type ty.now) (plain_tree tree.now) (plain_token bracket.now)) plain_expression used.old used.new result }
+) -> Result<Box<Expression>, ElabError>
+    ensures { Judges (passed_argument (plain_scope scope.now) (plain_type ty.now) (plain_tree tree.now) (plain_token bracket.now)) boxed_expression used.old used.new result }
 {
     let x = valued(alloc, scope, used, tree)?;
     let core = fitted(
@@ -308,35 +311,61 @@ fn arguments(
             return Err(ElabError::Memory);
         };
         let core = passed(alloc, scope, used, tree, ty, bracket)?;
-        given.push(core)?;
+        given.push(Box::into_inner(core))?;
     }
     Ok(given)
 }
 
-/// What a call gives, of the arguments' values.
+/// What a call gives has a complete type or none, and there are as many arguments as parameters.
+fn may_be_called(
+    scope: &Scope,
+    signature: &Signature,
+    count: usize,
+    bracket: &Token,
+) -> Result<(), ElabError>
+    ensures { Answers (spec.may_be_called (plain_scope scope.now) (plain_signature signature.now) count (plain_token bracket.now)) (λ _. tt) result }
+{
+    let result = &signature.result;
+    let complete = is_void(result) || scope.is_complete(result);
+    unless(complete, TypeKind::Incomplete, bracket)?;
+    unless(
+        count == signature.parameters.len(),
+        TypeKind::ArgumentCount,
+        bracket,
+    )
+}
+
 #[tactic(auto, using(core_meaning::specs::PlainLaws::expression_kinds))]
+fn call_core(
+    alloc: Global,
+    scope: &Scope,
+    name: &Token,
+    given: Vec<Expression>,
+) -> Result<Box<Expression>, NoMemory>
+    ensures { IfOk result (λ e. plain_expression e.value ≡ program.call (number_of (plain_scope scope.now).numbers.functions name.now.text.items) (plain_arguments given.items)) }
+{
+    let number = scope
+        .numbers
+        .functions
+        .get(name.text.as_slice())
+        .copied()
+        .unwrap_or(0);
+    Ok(Box::new(alloc, Expression::Call(number, given))?)
+}
+
+/// What a call gives, of the arguments' values.
 fn result_of_call<'t>(
     alloc: Global,
     scope: &Scope,
     f: &Callee,
     bracket: &'t Token,
     given: Vec<Expression>,
-) -> Result<Operand<'t>, ElabError>
-    ensures { Answers (spec.result_of_call (plain_scope scope.now) (plain_callee f.now) (plain_token bracket.now) (plain_arguments given.items)) plain_operand result }
+) -> Result<Operand<'t>, NoMemory>
+    ensures { IfOk result (λ x. plain_operand x ≡ spec.result_of_call (plain_scope scope.now) (plain_callee f.now) (plain_token bracket.now) (plain_arguments given.items)) }
 {
-    let result = copied(alloc, &f.signature.result)?;
-    unless(
-        is_void(&result) || scope.is_complete(&result),
-        TypeKind::Incomplete,
-        bracket,
-    )?;
-    let number = scope
-        .numbers
-        .functions
-        .get(f.name.text.as_slice())
-        .copied()
-        .unwrap_or(0);
-    Ok(of_value(bracket, result, Expression::Call(number, given)))
+    let core = call_core(alloc, scope, f.name, given)?;
+    let result = Box::new(alloc, copied(alloc, &f.signature.result)?)?;
+    Ok(of_value(bracket, result, core))
 }
 
 /// Notes the called function's name.
@@ -359,12 +388,8 @@ fn called<'t>(
     ensures { Judges (called_with (plain_scope scope.now) (plain_callee f.now) (plain_trees parts.now) (plain_token bracket.now)) plain_operand used.old used.new result }
 {
     noted(alloc, used, f.name)?;
+    may_be_called(scope, f.signature, entry_count(parts), bracket)?;
     let types = f.signature.parameters.as_slice();
-    unless(
-        entry_count(parts) == types.len(),
-        TypeKind::ArgumentCount,
-        bracket,
-    )?;
     let given = arguments(alloc, scope, used, parts, types, bracket)?;
     let x = result_of_call(alloc, scope, f, bracket, given)?;
     Ok(x)

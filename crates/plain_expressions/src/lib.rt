@@ -11,4 +11,4 @@ mod sizes;
 pub use constancy::{MOST_ELEMENTS, constant_value, count, is_constant, value_if_constant};
 pub use constants::{character, text_bytes, type_of_number};
 pub use expressions::{condition, entry_count, judged, valued};
-pub use sizes::{MOST_SCALARS, is_small};
+pub use sizes::{MOST_SCALARS, is_small, scalars_with};

@@ -25,14 +25,15 @@ use plain_scope::{ElabError, Local, Scope, Sort, Used, copied, leaf, refused};
 use std::alloc::Global;
 
 #[tactic(auto, using(core_meaning::specs::PlainLaws::expression_kinds))]
-fn number_operand(token: &Token) -> Result<Operand<'_>, ElabError>
+fn number_operand(alloc: Global, token: &Token) -> Result<Operand<'_>, ElabError>
     ensures { Answers (number_answer (plain_token token.now)) plain_operand result }
 {
     let Some(value) = number_value(token.text.as_slice()) else {
         return Err(ElabError::Memory);
     };
-    let ty = type_of_number(token.text.as_slice(), value);
-    let mut operand = of_value(token, ty, Expression::Number(i128::from(value)));
+    let ty = Box::new(alloc, type_of_number(token.text.as_slice(), value))?;
+    let core = Box::new(alloc, Expression::Number(i128::from(value)))?;
+    let mut operand = of_value(token, ty, core);
     operand.is_null = value == 0;
     Ok(operand)
 }
@@ -42,7 +43,9 @@ fn character_operand(alloc: Global, token: &Token) -> Result<Operand<'_>, ElabEr
     ensures { Answers (spec.character_operand (plain_token token.now)) plain_operand result }
 {
     let value = character(alloc, token.text.as_slice())?;
-    Ok(of_value(token, CType::Int, Expression::Number(value)))
+    let core = Box::new(alloc, Expression::Number(value))?;
+    let ty = Box::new(alloc, CType::Int)?;
+    Ok(of_value(token, ty, core))
 }
 
 #[tactic(auto, using(core_meaning::specs::PlainLaws::expression_kinds))]
@@ -53,8 +56,9 @@ fn local_operand<'t>(
 ) -> Result<Operand<'t>, NoMemory>
     ensures { IfOk result (λ x. plain_operand x ≡ typing.of_object (plain_token token.now) (plain_type found.now.ty) (program.slot found.now.slot) true) }
 {
-    let ty = copied(alloc, &found.ty)?;
-    Ok(of_object(token, ty, Place::Slot(found.slot), true))
+    let ty = Box::new(alloc, copied(alloc, &found.ty)?)?;
+    let place = Box::new(alloc, Place::Slot(found.slot))?;
+    Ok(of_object(token, ty, place, true))
 }
 
 #[tactic(auto, using(core_meaning::specs::PlainLaws::expression_kinds))]
@@ -72,8 +76,9 @@ fn global_operand<'t>(
         .get(token.text.as_slice())
         .copied()
         .unwrap_or(0);
-    let ty = copied(alloc, ty)?;
-    Ok(of_object(token, ty, Place::Global(number), true))
+    let ty = Box::new(alloc, copied(alloc, ty)?)?;
+    let place = Box::new(alloc, Place::Global(number))?;
+    Ok(of_object(token, ty, place, true))
 }
 
 fn file_operand<'t>(
@@ -125,7 +130,7 @@ pub fn single_operand<'t>(
     match terminal(token) {
         Terminal::Name => name_operand(alloc, scope, used, token),
         Terminal::Number => {
-            let x = number_operand(token)?;
+            let x = number_operand(alloc, token)?;
             Ok(x)
         }
         Terminal::Character => {
@@ -149,7 +154,9 @@ fn literal_operand<'t>(
 {
     let number = scope.literals.get(bytes).copied().unwrap_or(0);
     let ty = CType::Array(Box::new(alloc, CType::Char)?, count);
-    Ok(of_object(token, ty, Place::Literal(number), true))
+    let ty = Box::new(alloc, ty)?;
+    let place = Box::new(alloc, Place::Literal(number))?;
+    Ok(of_object(token, ty, place, true))
 }
 
 /// A text that is too long for a count of 32 bits is refused as want of memory.

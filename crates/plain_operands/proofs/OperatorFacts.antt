@@ -9,7 +9,7 @@ use Rattle.core_meaning.specs.declared.expressions.Change.{Change}
 use Rattle.c_types.specs.Types.{PlainType}
 use Rattle.core_meaning.specs.Entities.{Scope}
 use Rattle.core_meaning.specs.Typing.{Operand, Typed, loaded, of_object}
-use Rattle.core_meaning.specs.Expressions.{prefixed, dereferenced, negated, signed, assigned_place, updated, stepped, one}
+use Rattle.core_meaning.specs.Expressions.{prefixed, dereferenced, negated, signed, written_place, updated, stepped, one}
 use Rattle.plain_operands.specs.Operators.{on_loaded}
 
 -- what is done with a value is chosen before the value is read, or behind that
@@ -28,7 +28,7 @@ with_none (refused kind token) = refl
 with_none broken = refl
 
 -- a step is an assignment of what stands at its place
-pub stepped_updates : (scope : Scope) (make : Change → PlainPlace → PlainExpression → PlainExpression) (sign : PlainToken) (operand : Operand) (place : PlainPlace) (ty : PlainType) (by : Typed) → assigned_place operand sign ≡ give place → ty ≡ operand.ty → by ≡ one → stepped scope make sign operand ≡ updated scope make sign (of_object sign ty place true) place by
+pub stepped_updates : (scope : Scope) (make : Change → PlainPlace → PlainExpression → PlainExpression) (sign : PlainToken) (operand : Operand) (place : PlainPlace) (ty : PlainType) (by : Typed) → written_place scope sign operand ≡ give place → ty ≡ operand.ty → by ≡ one → stepped scope make sign operand ≡ updated scope make sign (of_object sign ty place true) place by
 stepped_updates scope make sign operand place ty by is typed by_one =
     ap (λ (d : Checked PlainPlace). d >>= (λ p. updated scope make sign operand p one)) is
     ∙ with_none (updated scope make sign operand place one)

@@ -10,13 +10,17 @@ use Rattle.core_meaning.specs.Program.{null_constant, PlainExpression, PlainPlac
 use Rattle.core_meaning.specs.Plain.{plain_place}
 use Rattle.core_meaning.specs.Checking.{refused, Checked, ◌>>=◌, or_broken}
 use Rattle.core_meaning.specs.Entities.{Scope}
-use Rattle.core_meaning.specs.Typing.{loaded, Operand, Typed, of_value, of_object, common, in_type, is_pointer, is_struct, same_type}
-use Rattle.core_meaning.specs.Expressions.{member_of_target, operator_named, combined, operation_type, operand_core, dereferenced, negated, signed, chosen_core}
-use Rattle.plain_operands.specs.declared.operators.Left.{Left}
+use Rattle.core_meaning.specs.Typing.{loaded, Operand, Typed, of_value, of_object, common, is_pointer, is_struct, same_type}
+use Rattle.core_meaning.specs.Expressions.{member_of_target, operator_named, combined, operation_type, operand_core, dereferenced, negated, signed, chosen_core, converted_to}
+use Rattle.plain_operands.specs.declared.assignments.Left.{Left}
 
 -- an object that is written to
 abbrev pub left_operand : PlainToken → Left → Operand
-left_operand token left = of_object token (plain_type left.ty) (plain_place left.place) true
+left_operand token left = of_object token (plain_type left.ty.value) (plain_place left.place.value) true
+
+-- the place of it
+abbrev pub left_place : Left → PlainPlace
+left_place left = plain_place left.place.value
 
 -- `&&` or `||`
 abbrev pub joined_by : Bool → PlainExpression → PlainExpression → PlainExpression
@@ -47,7 +51,7 @@ on_loaded scope sign operand = loaded scope operand >>= on_value sign
 
 abbrev pub chosen_number : PlainToken → PlainExpression → Typed → Typed → Checked Operand
 chosen_number sign condition a b =
-    chosen_core sign condition (common a.ty b.ty) (in_type (common a.ty b.ty) a) (in_type (common a.ty b.ty) b)
+    chosen_core sign condition (common a.ty b.ty) (converted_to (common a.ty b.ty) a) (converted_to (common a.ty b.ty) b)
 
 abbrev pub chosen_or_null : PlainToken → PlainExpression → Typed → Typed → Checked Operand
 chosen_or_null sign condition a b =

@@ -1,16 +1,23 @@
 //! Operands of expressions: what they designate, their values, and what operators make of them (ISO/IEC 9899:2011, 6.3.2, 6.5).
 #![tactic(auto)]
 
+mod assignments;
+mod casts;
+mod choices;
+mod elements;
 mod members;
 mod operands;
 mod operators;
+mod prefixes;
 
+pub use assignments::{Left, assignment, stepped, written_place};
+pub use casts::{cast_to, unused};
+pub use choices::{chosen, condition_value};
+pub use elements::indexed;
 pub use members::selected;
 pub use operands::{
     Designation, Operand, Typed, fits_into, fitted, in_type, loaded, of_object, of_value,
     typed_value,
 };
-pub use operators::{
-    Left, assigned_place, assignment, cast_to, chosen, combined, condition_value, indexed, logical,
-    prefixed, stepped,
-};
+pub use operators::{combined, logical};
+pub use prefixes::prefixed;

@@ -11,7 +11,7 @@ ghost use Rattle.plain_operands.specs.PlainOperands.{plain_operand, plain_design
 ghost use Rattle.plain_scope.specs.Judgements.{AnswersBound};
 ghost use Rattle.plain_operands.specs.Operators.{member_of_loaded};
 
-use crate::operands::{Designation, Operand, loaded, of_object};
+use crate::operands::{Designation, Operand, loaded, of_object, same};
 use c_text::Token;
 use c_types::CType;
 use cond_formula::NoMemory;
@@ -22,7 +22,7 @@ use std::alloc::Global;
 /// A struct's place, and whether its members may be assigned to and pointed at.
 #[derive(Drop)]
 struct Base {
-    place: Place,
+    place: Box<Place>,
     free: bool,
 }
 
@@ -34,10 +34,10 @@ fn member_at<'t>(
     ty: &CType,
     number: u32,
 ) -> Result<Operand<'t>, NoMemory>
-    ensures { IfOk result (λ x. plain_operand x ≡ typing.of_object (plain_token name.now) (plain_type ty.now) (program.member (plain_place base.place) number) base.free) }
+    ensures { IfOk result (λ x. plain_operand x ≡ typing.of_object (plain_token name.now) (plain_type ty.now) (program.member (plain_place base.place.value) number) base.free) }
 {
-    let ty = copied(alloc, ty)?;
-    let place = Place::Member(Box::new(alloc, base.place)?, number);
+    let ty = same(alloc, ty)?;
+    let place = Box::new(alloc, Place::Member(base.place, number))?;
     Ok(of_object(name, ty, place, base.free))
 }
 
@@ -49,7 +49,7 @@ fn member_in<'t>(
     struct_number: u32,
     found: &Struct,
 ) -> Result<Operand<'t>, ElabError>
-    ensures { AnswersBound (spec.member_in (plain_token sign.now) (plain_token name.now) (plain_place base.place) base.free struct_number (Some (plain_struct found.now))) plain_operand result }
+    ensures { AnswersBound (spec.member_in (plain_token sign.now) (plain_token name.now) (plain_place base.place.value) base.free struct_number (Some (plain_struct found.now))) plain_operand result }
 {
     unless(found.complete, TypeKind::Incomplete, sign)?;
     let Some(number) = found.numbers.get(name.text.as_slice()) else {
@@ -71,7 +71,7 @@ fn member_of<'t>(
     ty: &CType,
     base: Base,
 ) -> Result<Operand<'t>, ElabError>
-    ensures { AnswersBound (spec.member_of (plain_scope scope.now) (plain_token sign.now) (plain_token name.now) (plain_type ty.now) (plain_place base.place) base.free) plain_operand result }
+    ensures { AnswersBound (spec.member_of (plain_scope scope.now) (plain_token sign.now) (plain_token name.now) (plain_type ty.now) (plain_place base.place.value) base.free) plain_operand result }
 {
     match ty {
         CType::Struct(number) => match scope.struct_of(*number) {
@@ -93,24 +93,24 @@ fn member_of<'t>(
 /// A struct that is no object is kept in one of its own, to which nothing is assigned (6.2.4).
 #[tactic(auto, using(core_meaning::specs::PlainLaws::expression_kinds))]
 fn base_of(alloc: Global, ty: &CType, designates: Designation) -> Result<Base, NoMemory>
-    ensures place { IfOk result (λ base. plain_place base.place ≡ spec.struct_place (plain_type ty.now) (plain_designation designates)) }
+    ensures place { IfOk result (λ base. plain_place base.place.value ≡ spec.struct_place (plain_type ty.now) (plain_designation designates)) }
     ensures free { IfOk result (λ base. base.free ≡ spec.is_free (plain_designation designates)) }
 {
     match designates {
         Designation::Object(place, free) => Ok(Base { place, free }),
         Designation::Value(core) => {
-            let place = Place::Temporary(copied(alloc, ty)?, Box::new(alloc, core)?);
+            let place = Box::new(alloc, Place::Temporary(copied(alloc, ty)?, core))?;
             Ok(Base { place, free: false })
         }
     }
 }
 
 #[tactic(auto, using(core_meaning::specs::PlainLaws::expression_kinds))]
-fn target_of(alloc: Global, pointer: Expression) -> Result<Base, NoMemory>
-    ensures place { IfOk result (λ base. plain_place base.place ≡ program.target (plain_expression pointer)) }
+fn target_of(alloc: Global, pointer: Box<Expression>) -> Result<Base, NoMemory>
+    ensures place { IfOk result (λ base. plain_place base.place.value ≡ program.target (plain_expression pointer.value)) }
     ensures free { IfOk result (λ base. base.free ≡ true) }
 {
-    let place = Place::Target(Box::new(alloc, pointer)?);
+    let place = Box::new(alloc, Place::Target(pointer))?;
     Ok(Base { place, free: true })
 }
 
@@ -120,12 +120,12 @@ fn member_of_target<'t>(
     scope: &Scope,
     sign: &Token,
     name: &'t Token,
-    ty: CType,
-    core: Expression,
+    ty: Box<CType>,
+    core: Box<Expression>,
 ) -> Result<Operand<'t>, ElabError>
-    ensures { AnswersBound (spec.member_of_target (plain_scope scope.now) (plain_token sign.now) (plain_token name.now) (typing.typed (plain_type ty) (plain_expression core)) (plain_type ty)) plain_operand result }
+    ensures { AnswersBound (spec.member_of_target (plain_scope scope.now) (plain_token sign.now) (plain_token name.now) (typing.typed (plain_type ty.value) (plain_expression core.value)) (plain_type ty.value)) plain_operand result }
 {
-    match ty {
+    match Box::into_inner(ty) {
         CType::Pointer(target) => {
             let base = target_of(alloc, core)?;
             let x = member_of(alloc, scope, sign, name, &target, base)?;
@@ -150,7 +150,7 @@ fn member_of_operand<'t>(
     name: &'t Token,
     operand: Operand,
 ) -> Result<Operand<'t>, ElabError>
-    ensures { AnswersBound (spec.member_of (plain_scope scope.now) (plain_token sign.now) (plain_token name.now) (plain_type operand.entry.ty) (spec.struct_place (plain_type operand.entry.ty) (plain_designation operand.entry.designates)) (spec.is_free (plain_designation operand.entry.designates))) plain_operand result }
+    ensures { AnswersBound (spec.member_of (plain_scope scope.now) (plain_token sign.now) (plain_token name.now) (plain_type operand.entry.ty.value) (spec.struct_place (plain_type operand.entry.ty.value) (plain_designation operand.entry.designates)) (spec.is_free (plain_designation operand.entry.designates))) plain_operand result }
 {
     let Operand { ty, designates, .. } = operand;
     let base = base_of(alloc, &ty, designates)?;

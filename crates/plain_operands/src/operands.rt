@@ -1,12 +1,13 @@
 //! What expressions designate, and their values (6.3.2.1).
 ghost use Rattle.std.specs.Prelude.{◌≡◌, true, false, pos, IfOk, Some, option_map};
 ghost use Rattle.c_text.specs.Token.{plain_token};
-ghost use Rattle.c_types.specs.Types.{plain_type};
+ghost use Rattle.c_types.specs.Types.{plain_type, int};
 ghost use Rattle.core_meaning.specs.Plain.{plain_expression, plain_place};
 ghost use Rattle.core_meaning.specs.Checking.{found_or};
 ghost use Rattle.core_meaning.specs.Typing as spec;
 ghost use Rattle.plain_scope.specs.PlainScope.{plain_scope};
-ghost use Rattle.plain_operands.specs.PlainOperands.{plain_operand, plain_typed};
+ghost use Rattle.core_meaning.specs.Program as program;
+ghost use Rattle.plain_operands.specs.PlainOperands.{plain_operand, plain_typed, boxed_expression};
 ghost use Rattle.plain_scope.specs.Judgements.{Answers};
 ghost use Rattle.plain_operands.specs.Values.{load_object, read_object};
 
@@ -15,20 +16,21 @@ use c_types::CType;
 use cond_formula::NoMemory;
 use core_meaning::{Expression, Place, TypeKind};
 use plain_scope::{
-    ElabError, Scope, integer_type, is_integer, is_pointer, is_struct, refused, same_type, unless,
+    ElabError, Scope, copied, integer_type, is_integer, is_pointer, is_struct, refused, same_type,
+    unless,
 };
 use std::alloc::Global;
 
 #[derive(Drop)]
 pub enum Designation {
-    Value(Expression),
+    Value(Box<Expression>),
     /// An object or a part of one, and whether it may be assigned to and pointed at.
-    Object(Place, bool),
+    Object(Box<Place>, bool),
 }
 
 #[derive(Drop)]
 pub struct Operand<'t> {
-    pub ty: CType,
+    pub ty: Box<CType>,
     pub designates: Designation,
     /// It is the null constant: a number of value 0, perhaps in parentheses.
     pub is_null: bool,
@@ -39,13 +41,13 @@ pub struct Operand<'t> {
 /// An expression by its value.
 #[derive(Drop)]
 pub struct Typed {
-    pub ty: CType,
-    pub core: Expression,
+    pub ty: Box<CType>,
+    pub core: Box<Expression>,
     pub is_null: bool,
 }
 
-pub fn of_value(token: &Token, ty: CType, core: Expression) -> Operand<'_>
-    ensures { plain_operand result ≡ spec.of_value (plain_token token.now) (plain_type ty) (plain_expression core) }
+pub fn of_value(token: &Token, ty: Box<CType>, core: Box<Expression>) -> Operand<'_>
+    ensures { plain_operand result ≡ spec.of_value (plain_token token.now) (plain_type ty.value) (plain_expression core.value) }
 {
     Operand {
         ty,
@@ -55,8 +57,8 @@ pub fn of_value(token: &Token, ty: CType, core: Expression) -> Operand<'_>
     }
 }
 
-pub fn of_object(token: &Token, ty: CType, place: Place, free: bool) -> Operand<'_>
-    ensures { plain_operand result ≡ spec.of_object (plain_token token.now) (plain_type ty) (plain_place place) free }
+pub fn of_object(token: &Token, ty: Box<CType>, place: Box<Place>, free: bool) -> Operand<'_>
+    ensures { plain_operand result ≡ spec.of_object (plain_token token.now) (plain_type ty.value) (plain_place place.value) free }
 {
     Operand {
         ty,
@@ -66,8 +68,8 @@ pub fn of_object(token: &Token, ty: CType, place: Place, free: bool) -> Operand<
     }
 }
 
-pub fn typed_value(ty: CType, core: Expression) -> Typed
-    ensures { plain_typed result ≡ spec.typed (plain_type ty) (plain_expression core) }
+pub fn typed_value(ty: Box<CType>, core: Box<Expression>) -> Typed
+    ensures { plain_typed result ≡ spec.typed (plain_type ty.value) (plain_expression core.value) }
 {
     Typed {
         ty,
@@ -76,54 +78,67 @@ pub fn typed_value(ty: CType, core: Expression) -> Typed
     }
 }
 
-/// What a pointer to `void` points to has no value.
-#[tactic(auto, using(core_meaning::specs::PlainLaws::expression_kinds))]
-fn nothing_of(alloc: Global, place: Place) -> Result<Expression, NoMemory>
-    ensures { IfOk result (λ e. plain_expression e ≡ spec.nothing_of (plain_place place)) }
+/// A copy of a type in a box.
+pub fn same(alloc: Global, ty: &CType) -> Result<Box<CType>, NoMemory>
+    ensures { IfOk result (λ c. plain_type c.value ≡ plain_type ty.now) }
 {
-    match place {
-        Place::Target(pointer) => Ok(Expression::Discard(pointer)),
-        Place::Slot(_)
-        | Place::Global(_)
-        | Place::Literal(_)
-        | Place::Member(..)
-        | Place::Temporary(..) => {
-            let read = Expression::Read(Box::new(alloc, place)?);
-            Ok(Expression::Discard(Box::new(alloc, read)?))
-        }
-    }
+    Ok(Box::new(alloc, copied(alloc, ty)?)?)
+}
+
+#[tactic(auto, using(c_types::specs::TypeLaws::type_kinds))]
+pub fn int(alloc: Global) -> Result<Box<CType>, NoMemory>
+    ensures { IfOk result (λ c. plain_type c.value ≡ int) }
+{
+    Ok(Box::new(alloc, CType::Int)?)
 }
 
 #[tactic(auto, using(core_meaning::specs::PlainLaws::expression_kinds))]
+fn read_of(alloc: Global, place: Box<Place>) -> Result<Box<Expression>, NoMemory>
+    ensures { IfOk result (λ e. plain_expression e.value ≡ program.read (plain_place place.value)) }
+{
+    Ok(Box::new(alloc, Expression::Read(place))?)
+}
+
+#[tactic(auto, using(core_meaning::specs::PlainLaws::expression_kinds))]
+fn first_of(alloc: Global, place: Box<Place>) -> Result<Box<Expression>, NoMemory>
+    ensures { IfOk result (λ e. plain_expression e.value ≡ program.first_element (plain_place place.value)) }
+{
+    Ok(Box::new(alloc, Expression::FirstElement(place))?)
+}
+
 fn read_from(
     alloc: Global,
     scope: &Scope,
-    ty: CType,
-    place: Place,
+    ty: Box<CType>,
+    place: Box<Place>,
     at: &Token,
 ) -> Result<Typed, ElabError>
-    ensures { Answers (read_object (plain_scope scope.now).structs (plain_type ty) (plain_place place) (plain_token at.now)) plain_typed result }
+    ensures { Answers (read_object (plain_scope scope.now).structs (plain_type ty.value) (plain_place place.value) (plain_token at.now)) plain_typed result }
 {
     unless(scope.is_complete(&ty), TypeKind::Incomplete, at)?;
-    Ok(typed_value(ty, Expression::Read(Box::new(alloc, place)?)))
+    Ok(typed_value(ty, read_of(alloc, place)?))
 }
 
-#[tactic(auto, using(core_meaning::specs::PlainLaws::expression_kinds, c_types::specs::TypeLaws::type_kinds))]
+#[tactic(auto, using(c_types::specs::TypeLaws::type_kinds))]
 fn loaded_object(
     alloc: Global,
     scope: &Scope,
-    ty: CType,
-    place: Place,
+    ty: Box<CType>,
+    place: Box<Place>,
     at: &Token,
 ) -> Result<Typed, ElabError>
-    ensures { Answers (load_object (plain_scope scope.now).structs (plain_type ty) (plain_place place) (plain_token at.now)) plain_typed result }
+    ensures { Answers (load_object (plain_scope scope.now).structs (plain_type ty.value) (plain_place place.value) (plain_token at.now)) plain_typed result }
 {
+    let ty = Box::into_inner(ty);
     match ty {
-        CType::Array(element, _) => Ok(typed_value(
-            CType::Pointer(element),
-            Expression::FirstElement(Box::new(alloc, place)?),
-        )),
-        CType::Void => Ok(typed_value(CType::Void, nothing_of(alloc, place)?)),
+        CType::Array(element, _) => {
+            let pointer = Box::new(alloc, CType::Pointer(element))?;
+            Ok(typed_value(pointer, first_of(alloc, place)?))
+        }
+        CType::Void => {
+            let nothing = Box::new(alloc, CType::Void)?;
+            Ok(typed_value(nothing, read_of(alloc, place)?))
+        }
         CType::Char
         | CType::UChar
         | CType::Int
@@ -131,7 +146,7 @@ fn loaded_object(
         | CType::Long
         | CType::ULong
         | CType::Pointer(_)
-        | CType::Struct(_) => read_from(alloc, scope, ty, place, at),
+        | CType::Struct(_) => read_from(alloc, scope, Box::new(alloc, ty)?, place, at),
     }
 }
 
@@ -151,27 +166,37 @@ pub fn loaded(alloc: Global, scope: &Scope, operand: Operand) -> Result<Typed, E
     }
 }
 
-/// A number in another type; nothing is written out where the types are the same.
 #[tactic(auto, using(core_meaning::specs::PlainLaws::expression_kinds))]
-pub fn in_type(alloc: Global, ty: &CType, x: Typed) -> Result<Expression, NoMemory>
-    ensures { IfOk result (λ e. plain_expression e ≡ spec.in_type (plain_type ty.now) (plain_typed x)) }
+pub fn conversion(
+    alloc: Global,
+    ty: &CType,
+    core: Box<Expression>,
+) -> Result<Box<Expression>, NoMemory>
+    ensures { IfOk result (λ e. plain_expression e.value ≡ program.convert (spec.integer_type (plain_type ty.now)) (plain_expression core.value)) }
+{
+    Ok(Box::new(alloc, Expression::Convert(integer_type(ty), core))?)
+}
+
+/// A number in another type; nothing is written out where the types are the same.
+pub fn in_type(alloc: Global, ty: &CType, x: Typed) -> Result<Box<Expression>, NoMemory>
+    ensures { IfOk result (λ e. plain_expression e.value ≡ spec.in_type (plain_type ty.now) (plain_typed x)) }
 {
     if same_type(ty, &x.ty) {
         Ok(x.core)
     } else {
-        Ok(Expression::Convert(integer_type(ty), Box::new(alloc, x.core)?))
+        conversion(alloc, ty, x.core)
     }
 }
 
 /// A value as one of another type, where it may be assigned, passed or returned as one (6.5.16.1).
 #[tactic(auto, using(core_meaning::specs::PlainLaws::expression_kinds))]
-pub fn fits_into(alloc: Global, ty: &CType, x: Typed) -> Result<Option<Expression>, NoMemory>
-    ensures { IfOk result (λ core. option_map plain_expression core ≡ spec.fits_into (plain_type ty.now) (plain_typed x)) }
+pub fn fits_into(alloc: Global, ty: &CType, x: Typed) -> Result<Option<Box<Expression>>, NoMemory>
+    ensures { IfOk result (λ core. option_map boxed_expression core ≡ spec.fits_into (plain_type ty.now) (plain_typed x)) }
 {
     if is_integer(ty) && is_integer(&x.ty) {
         Ok(Some(in_type(alloc, ty, x)?))
     } else if is_pointer(ty) && x.is_null {
-        Ok(Some(Expression::Null))
+        Ok(Some(Box::new(alloc, Expression::Null)?))
     } else if (is_pointer(ty) || is_struct(ty)) && same_type(ty, &x.ty) {
         Ok(Some(x.core))
     } else {
@@ -186,8 +211,8 @@ pub fn fitted(
     x: Typed,
     kind: TypeKind,
     at: &Token,
-) -> Result<Expression, ElabError>
-    ensures { Answers (found_or (spec.fits_into (plain_type ty.now) (plain_typed x)) kind (plain_token at.now)) plain_expression result }
+) -> Result<Box<Expression>, ElabError>
+    ensures { Answers (found_or (spec.fits_into (plain_type ty.now) (plain_typed x)) kind (plain_token at.now)) boxed_expression result }
 {
     match fits_into(alloc, ty, x)? {
         Some(core) => Ok(core),

@@ -26,6 +26,7 @@ plain_struct s = record {
   members = map plain_member s.members.items;
   numbers = entry_of s.numbers;
   complete = s.complete;
+  scalars = s.scalars;
 }
 
 abbrev pub plain_local : Local → spec.Local

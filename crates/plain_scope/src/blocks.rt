@@ -45,6 +45,7 @@ fn new_struct(alloc: Global, name: &[u8]) -> Result<Struct, NoMemory>
         members: Vec::new(alloc),
         numbers: HashMap::new(alloc),
         complete: false,
+        scalars: 0,
     })
 }
 

@@ -21,6 +21,8 @@ pub struct Struct {
     /// The members' numbers.
     pub numbers: HashMap<Vec<u8>, u32>,
     pub complete: bool,
+    /// How many scalars an object of the struct has; counts beyond the limit for objects are all the same.
+    pub scalars: u64,
 }
 
 impl Struct {

@@ -1,24 +1,23 @@
 -- What parts that may be left out, and a `return`, are judged as.
 use Rattle.std.proofs.Common.{◌≡◌, ℕ, Bool, true, false, List, refl, sym, ap, ◌∙◌}
-use Rattle.std.specs.Prelude.{pos, None, if◌then◌else◌}
+use Rattle.std.specs.Prelude.{pos, not}
 use Rattle.c_text.specs.Token.{PlainToken}
 use Rattle.c_types.specs.Types.{PlainType}
 use Rattle.c_tree.specs.declared.kinds.Kind.TheVariants as k
 use Rattle.c_tree.specs.Trees.{PlainTree, leaf, node}
 use Rattle.core_meaning.specs.declared.refusals.TypeKind.TheVariants.{Misplaced}
 use Rattle.core_meaning.specs.Program.{PlainExpression, constant, PlainStatement, no_item, block, return_value}
-use Rattle.core_meaning.specs.Checking.{Checked, refused, ◌>>=◌, give, found_or}
+use Rattle.core_meaning.specs.Checking.{Checked, refused, ◌>>=◌, give, unless_so}
 use Rattle.core_meaning.specs.Entities.{Scope}
-use Rattle.core_meaning.specs.Typing.{fits_into}
 use Rattle.core_meaning.specs.Expressions.{valued, judged_condition, is_void}
 use Rattle.core_meaning.specs.Statements.{Around, discarded, condition_or_true, expression_statement, returned}
 use Rattle.plain_scope.specs.declared.errors.ElabError.{ElabError}
-use Rattle.plain_scope.specs.Judgements.{Gives, RefusedAs}
-use Rattle.plain_scope.specs.JudgementLaws.{gives_nothing_used}
+use Rattle.plain_scope.specs.Judgements.{Gives, Refuses, RefusedAs}
+use Rattle.plain_scope.specs.JudgementLaws.{gives_nothing_used, refuses_is}
 use Rattle.plain_declarations.specs.Words.{is_gone}
-use Rattle.plain_declarations.specs.Sequences.{gives_of, refused_of}
+use Rattle.plain_declarations.specs.Sequences.{bind_nothing, gives_of, refused_of}
 use Rattle.plain_scope.specs.Bindings.{then_same}
-use Rattle.plain_statements.specs.Steps.{nothing_returned, returned_as, value_of, evaluated, returned_value, value_refused}
+use Rattle.plain_statements.specs.Steps.{nothing_returned, returned_as, unused_value, evaluated, returned_value}
 
 -- ---- parts that may be left out
 
@@ -27,7 +26,7 @@ discarded_gone scope (leaf token) otherwise is = cc
 discarded_gone scope (node k.Absent parts) otherwise is = refl
 discarded_gone scope (node other parts) otherwise is = cc
 
-pub discarded_there : (scope : Scope) (tree : PlainTree) (otherwise : PlainExpression) → is_gone tree ≡ false → discarded scope tree otherwise ≡ value_of scope tree
+pub discarded_there : (scope : Scope) (tree : PlainTree) (otherwise : PlainExpression) → is_gone tree ≡ false → discarded scope tree otherwise ≡ unused_value scope tree
 discarded_there scope (leaf token) otherwise is = refl
 discarded_there scope (node k.Absent parts) otherwise is = cc
 discarded_there scope (node other parts) otherwise is = refl
@@ -61,9 +60,8 @@ returned_gone scope returns word (node other parts) is = cc
 
 abbrev returned_there : Scope → PlainType → PlainToken → PlainTree → Checked PlainStatement
 returned_there scope returns word tree = do
-  x ← valued scope tree
-  core ← found_or (if is_void returns then None else fits_into returns x) Misplaced word
-  give (return_value core)
+  placed ← unless_so (not (is_void returns)) Misplaced word
+  returned_value scope returns word tree
 
 there : (scope : Scope) (returns : PlainType) (word : PlainToken) (tree : PlainTree) → is_gone tree ≡ false → returned_as scope returns word tree ≡ returned_there scope returns word tree
 there scope returns word (leaf token) is = refl
@@ -71,10 +69,10 @@ there scope returns word (node k.Absent parts) is = cc
 there scope returns word (node other parts) is = refl
 
 pub returned_fits : (scope : Scope) (returns : PlainType) (word : PlainToken) (tree : PlainTree) → is_gone tree ≡ false → is_void returns ≡ false → returned_as scope returns word tree ≡ returned_value scope returns word tree
-returned_fits scope returns word tree is fits = there scope returns word tree is ∙ then_same (valued scope tree) (λ x. found_or (if is_void returns then None else fits_into returns x) Misplaced word >>= (λ core. give (return_value core))) (λ x. found_or (fits_into returns x) Misplaced word >>= (λ core. give (return_value core))) (λ x. rw fits refl)
+returned_fits scope returns word tree is fits = there scope returns word tree is ∙ rw fits (bind_nothing (returned_value scope returns word tree))
 
-pub returned_void : (scope : Scope) (returns : PlainType) (word : PlainToken) (tree : PlainTree) → is_gone tree ≡ false → is_void returns ≡ true → returned_as scope returns word tree ≡ value_refused scope word tree
-returned_void scope returns word tree is fits = there scope returns word tree is ∙ then_same (valued scope tree) (λ x. found_or (if is_void returns then None else fits_into returns x) Misplaced word >>= (λ core. give (return_value core))) (λ x. refused Misplaced word) (λ x. rw fits refl)
+pub returned_void : (scope : Scope) (returns : PlainType) (word : PlainToken) (tree : PlainTree) → is_gone tree ≡ false → is_void returns ≡ true → returned_as scope returns word tree ≡ refused Misplaced word
+returned_void scope returns word tree is fits = there scope returns word tree is ∙ rw fits refl
 
 pub returned_law : (around : Around) (word : PlainToken) (tree : PlainTree) → returned around word tree ≡ returned_as around.scope around.result word tree
 returned_law around word (leaf token) = refl
@@ -83,11 +81,11 @@ returned_law around word (node other parts) = refl
 
 -- ---- the same, by what is judged
 
-pub discarded_gives : (scope : Scope) (tree : PlainTree) (otherwise x : PlainExpression) (before after : List ℕ → Bool) → is_gone tree ≡ false → Gives (value_of scope tree) x before after → Gives (discarded scope tree otherwise) x before after
-discarded_gives scope tree otherwise x before after is g = gives_of (discarded scope tree otherwise) (value_of scope tree) x before after (discarded_there scope tree otherwise is) g
+pub discarded_gives : (scope : Scope) (tree : PlainTree) (otherwise x : PlainExpression) (before after : List ℕ → Bool) → is_gone tree ≡ false → Gives (unused_value scope tree) x before after → Gives (discarded scope tree otherwise) x before after
+discarded_gives scope tree otherwise x before after is g = gives_of (discarded scope tree otherwise) (unused_value scope tree) x before after (discarded_there scope tree otherwise is) g
 
-pub discarded_refused : (scope : Scope) (tree : PlainTree) (otherwise : PlainExpression) (error : ElabError) → is_gone tree ≡ false → RefusedAs (value_of scope tree) error → RefusedAs (discarded scope tree otherwise) error
-discarded_refused scope tree otherwise error is r = refused_of (discarded scope tree otherwise) (value_of scope tree) error (discarded_there scope tree otherwise is) r
+pub discarded_refused : (scope : Scope) (tree : PlainTree) (otherwise : PlainExpression) (error : ElabError) → is_gone tree ≡ false → RefusedAs (unused_value scope tree) error → RefusedAs (discarded scope tree otherwise) error
+discarded_refused scope tree otherwise error is r = refused_of (discarded scope tree otherwise) (unused_value scope tree) error (discarded_there scope tree otherwise is) r
 
 pub discarded_nothing : (scope : Scope) (tree : PlainTree) (otherwise x : PlainExpression) (before : List ℕ → Bool) → is_gone tree ≡ true → x ≡ otherwise → Gives (discarded scope tree otherwise) x before before
 discarded_nothing scope tree otherwise x before is same = gives_nothing_used (discarded scope tree otherwise) x before (discarded_gone scope tree otherwise is ∙ ap give (sym same))
@@ -122,11 +120,8 @@ nothing_gives scope returns word tree x before is gives = gives_nothing_used (re
 pub nothing_refused : (scope : Scope) (returns : PlainType) (word : PlainToken) (tree : PlainTree) (error : ElabError) → is_gone tree ≡ true → RefusedAs (nothing_returned returns word) error → RefusedAs (returned_as scope returns word tree) error
 nothing_refused scope returns word tree error is r = refused_of (returned_as scope returns word tree) (nothing_returned returns word) error (returned_gone scope returns word tree is) r
 
-pub void_gives : (scope : Scope) (returns : PlainType) (word : PlainToken) (tree : PlainTree) (x : PlainStatement) (before after : List ℕ → Bool) → is_gone tree ≡ false → is_void returns ≡ true → Gives (value_refused scope word tree) x before after → Gives (returned_as scope returns word tree) x before after
-void_gives scope returns word tree x before after is void g = gives_of (returned_as scope returns word tree) (value_refused scope word tree) x before after (returned_void scope returns word tree is void) g
-
-pub void_refused : (scope : Scope) (returns : PlainType) (word : PlainToken) (tree : PlainTree) (error : ElabError) → is_gone tree ≡ false → is_void returns ≡ true → RefusedAs (value_refused scope word tree) error → RefusedAs (returned_as scope returns word tree) error
-void_refused scope returns word tree error is void r = refused_of (returned_as scope returns word tree) (value_refused scope word tree) error (returned_void scope returns word tree is void) r
+pub void_refused : (scope : Scope) (returns : PlainType) (word : PlainToken) (tree : PlainTree) (error : ElabError) → is_gone tree ≡ false → is_void returns ≡ true → Refuses Misplaced word error → RefusedAs (returned_as scope returns word tree) error
+void_refused scope returns word tree error is void r = refuses_is (returned_as scope returns word tree) Misplaced word error (returned_void scope returns word tree is void) r
 
 pub value_gives : (scope : Scope) (returns : PlainType) (word : PlainToken) (tree : PlainTree) (x : PlainStatement) (before after : List ℕ → Bool) → is_gone tree ≡ false → is_void returns ≡ false → Gives (returned_value scope returns word tree) x before after → Gives (returned_as scope returns word tree) x before after
 value_gives scope returns word tree x before after is void g = gives_of (returned_as scope returns word tree) (returned_value scope returns word tree) x before after (returned_fits scope returns word tree is void) g
@@ -134,4 +129,4 @@ value_gives scope returns word tree x before after is void g = gives_of (returne
 pub value_unfit : (scope : Scope) (returns : PlainType) (word : PlainToken) (tree : PlainTree) (error : ElabError) → is_gone tree ≡ false → is_void returns ≡ false → RefusedAs (returned_value scope returns word tree) error → RefusedAs (returned_as scope returns word tree) error
 value_unfit scope returns word tree error is void r = refused_of (returned_as scope returns word tree) (returned_value scope returns word tree) error (returned_fits scope returns word tree is void) r
 
-pub ruleset return_laws = (nothing_gives, nothing_refused, void_gives, void_refused, value_gives, value_unfit)
+pub ruleset return_laws = (nothing_gives, nothing_refused, void_refused, value_gives, value_unfit)

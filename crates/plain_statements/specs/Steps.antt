@@ -1,5 +1,5 @@
 -- Steps in judging statements.
-use Rattle.std.specs.Prelude.{ℕ, Bool, true, false, List, Option, Some, None, if◌then◌else◌, codes}
+use Rattle.std.specs.Prelude.{ℕ, Bool, true, false, not, List, Option, Some, None, if◌then◌else◌, codes}
 use Rattle.std.specs.Str.{bytes_eq}
 use Rattle.c_text.specs.Token.{PlainToken}
 use Rattle.c_types.specs.Types.{PlainType}
@@ -11,7 +11,7 @@ use Rattle.core_meaning.specs.Program.{PlainExpression, PlainStatement, block, e
 use Rattle.core_meaning.specs.Checking.{Checked, broken, ◌>>=◌, give, refused, unless_so, found_or}
 use Rattle.core_meaning.specs.Entities.{Scope}
 use Rattle.core_meaning.specs.Typing.{fits_into}
-use Rattle.core_meaning.specs.Expressions.{valued, judged_condition, is_void}
+use Rattle.core_meaning.specs.Expressions.{valued, judged_condition, is_void, unused}
 use Rattle.core_meaning.specs.Declarations.{judged_locals}
 use Rattle.plain_scope.specs.Blocks.{with_block, without_block}
 use Rattle.core_meaning.specs.Statements.{Around, Judged, JudgedItems, judged_as, items_as, in_block, within_loop, before_items, one_item, nothing_to_do, discarded, condition_or_true, expression_statement, loop_of, judged_statement, judged_else, judged_items}
@@ -21,16 +21,16 @@ around_of scope returns in_loop = record { scope = scope; result = returns; in_l
 
 -- ---- statements that take no slots
 
--- the value of an expression
-abbrev pub value_of : Scope → PlainTree → Checked PlainExpression
-value_of scope tree = do
+-- an expression whose value isn't used
+abbrev pub unused_value : Scope → PlainTree → Checked PlainExpression
+unused_value scope tree = do
   x ← valued scope tree
-  give x.core
+  give (unused x.core)
 
 abbrev pub evaluated : Scope → PlainTree → Checked PlainStatement
 evaluated scope tree = do
   x ← valued scope tree
-  give (evaluate x.core)
+  give (evaluate (unused x.core))
 
 -- the value of a `return` in a function with a result
 abbrev pub returned_value : Scope → PlainType → PlainToken → PlainTree → Checked PlainStatement
@@ -38,12 +38,6 @@ returned_value scope returns word tree = do
   x ← valued scope tree
   core ← found_or (fits_into returns x) Misplaced word
   give (return_value core)
-
--- the value of a `return` in a function without a result
-abbrev pub value_refused : Scope → PlainToken → PlainTree → Checked PlainStatement
-value_refused scope word tree = do
-  x ← valued scope tree
-  refused Misplaced word
 
 abbrev pub expression_in : Scope → PlainTrees → Checked PlainStatement
 expression_in scope (more tree (more end none)) = expression_statement scope tree
@@ -70,9 +64,8 @@ nothing_returned returns word = do
 abbrev pub returned_as : Scope → PlainType → PlainToken → PlainTree → Checked PlainStatement
 returned_as scope returns word (node k.Absent parts) = nothing_returned returns word
 returned_as scope returns word tree = do
-  x ← valued scope tree
-  core ← found_or (if is_void returns then None else fits_into returns x) Misplaced word
-  give (return_value core)
+  placed ← unless_so (not (is_void returns)) Misplaced word
+  returned_value scope returns word tree
 
 abbrev pub return_in : Scope → PlainType → PlainTrees → Checked PlainStatement
 return_in scope returns (more (leaf word) (more tree (more end none))) = returned_as scope returns word tree

@@ -5,34 +5,36 @@ ghost use Rattle.c_types.specs.Types.{plain_type};
 ghost use Rattle.c_tree.specs.Trees.{plain_tree, plain_trees};
 ghost use Rattle.core_meaning.specs.Plain.{plain_expression, plain_statement};
 ghost use Rattle.core_meaning.specs.Program.{constant, block, no_item};
+ghost use Rattle.core_meaning.specs.Expressions as expressions;
 ghost use Rattle.core_meaning.specs.Statements as spec;
 ghost use Rattle.plain_scope.specs.PlainScope.{plain_scope};
 ghost use Rattle.plain_scope.specs.Judgements.{Answers, Judges};
-ghost use Rattle.plain_statements.specs.Steps.{around_of, simple_of, value_of, evaluated, returned_value, returned_as, value_refused, nothing_returned, expression_in, jump_by, jump_if, jump_in, return_in};
+ghost use Rattle.plain_statements.specs.Steps.{around_of, simple_of, unused_value, evaluated, returned_value, returned_as, nothing_returned, expression_in, jump_by, jump_if, jump_in, return_in};
 
 use c_text::Token;
 use c_tree::{Kind, Tree};
 use c_types::CType;
 use core_meaning::{Expression, Statement, TypeKind};
 use plain_declarations::{is_gone, three_parts, two_parts};
-use plain_expressions::{condition, valued};
-use plain_operands::fitted;
+use plain_expressions::valued;
+use plain_operands::{fitted, unused};
 use plain_scope::{ElabError, Scope, Used, is_void, leaf, refused, unless};
 use std::alloc::Global;
 
 // ---- expressions
 
 #[tactic(auto, using(plain_declarations::specs::Sequences::steps))]
-fn value_of(
+fn unused_value(
     alloc: Global,
     scope: &Scope,
     used: &mut Used,
     tree: &Tree,
 ) -> Result<Expression, ElabError>
-    ensures { Judges (value_of (plain_scope scope.now) (plain_tree tree.now)) plain_expression used.old used.new result }
+    ensures { Judges (unused_value (plain_scope scope.now) (plain_tree tree.now)) plain_expression used.old used.new result }
 {
     let x = valued(alloc, scope, used, tree)?;
-    Ok(x.core)
+    let e = unused(alloc, x.core)?;
+    Ok(Box::into_inner(e))
 }
 
 #[tactic(auto, using(core_meaning::specs::PlainLaws::expression_kinds))]
@@ -62,9 +64,23 @@ pub fn discarded(
     if is_gone(tree) {
         Ok(nothing_to_do())
     } else {
-        let e = value_of(alloc, scope, used, tree)?;
+        let e = unused_value(alloc, scope, used, tree)?;
         Ok(e)
     }
+}
+
+/// A condition, which is a scalar.
+pub fn condition(
+    alloc: Global,
+    scope: &Scope,
+    used: &mut Used,
+    tree: &Tree,
+    behind: &Token,
+) -> Result<Expression, ElabError>
+    ensures { Judges (expressions.judged_condition (plain_scope scope.now) (plain_tree tree.now) (plain_token behind.now)) plain_expression used.old used.new result }
+{
+    let e = plain_expressions::condition(alloc, scope, used, tree, behind)?;
+    Ok(Box::into_inner(e))
 }
 
 /// A condition, which holds where it is left out (6.8.5.3).
@@ -105,7 +121,8 @@ fn evaluated(
     ensures { Judges (evaluated (plain_scope scope.now) (plain_tree tree.now)) plain_statement used.old used.new result }
 {
     let x = valued(alloc, scope, used, tree)?;
-    Ok(Statement::Expression(x.core))
+    let e = unused(alloc, x.core)?;
+    Ok(Statement::Expression(Box::into_inner(e)))
 }
 
 /// A statement of an expression; without one the null statement (6.8.3).
@@ -191,22 +208,7 @@ fn returned_value(
 {
     let x = valued(alloc, scope, used, tree)?;
     let core = fitted(alloc, returns, x, TypeKind::Misplaced, word)?;
-    Ok(Statement::ReturnValue(core))
-}
-
-/// A function without a result returns no value.
-#[tactic(auto, using(plain_declarations::specs::Sequences::steps, plain_scope::specs::JudgementLaws::refuses_is))]
-fn value_refused(
-    alloc: Global,
-    scope: &Scope,
-    used: &mut Used,
-    tree: &Tree,
-    word: &Token,
-) -> Result<Statement, ElabError>
-    ensures { Judges (value_refused (plain_scope scope.now) (plain_token word.now) (plain_tree tree.now)) plain_statement used.old used.new result }
-{
-    valued(alloc, scope, used, tree)?;
-    Err(refused(TypeKind::Misplaced, word))
+    Ok(Statement::ReturnValue(Box::into_inner(core)))
 }
 
 /// A `return` (6.8.6.4).
@@ -225,8 +227,7 @@ fn returned(
         let s = nothing_returned(word, returns)?;
         Ok(s)
     } else if is_void(returns) {
-        let s = value_refused(alloc, scope, used, tree, word)?;
-        Ok(s)
+        Err(refused(TypeKind::Misplaced, word))
     } else {
         let s = returned_value(alloc, scope, used, tree, word, returns)?;
         Ok(s)

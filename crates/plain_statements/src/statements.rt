@@ -11,13 +11,12 @@ ghost use Rattle.plain_statements.specs.PlainJudged.{plain_begun, plain_item_of,
 ghost use Rattle.plain_statements.specs.Steps.{around_of, block_of, begun_if, while_of, do_of, for_of, for_by, single_item, item_of};
 
 use crate::cores::{Begun, as_block, behind_items, joined, looped, selected, single};
-use crate::simple::{condition_or_true, discarded, nothing, nothing_to_do, simple};
+use crate::simple::{condition, condition_or_true, discarded, nothing, nothing_to_do, simple};
 use crate::starts::{begun_for, declaration_in, end_for, locals_item};
 use c_text::Token;
 use c_tree::{Kind, Tree};
 use c_types::CType;
 use core_meaning::{Item, Statement};
-use plain_expressions::condition;
 use plain_scope::{ElabError, Scope, Used, leaf};
 use std::alloc::Global;
 

@@ -7,7 +7,7 @@ use Rattle.std.specs.declared.alloc.Global.{Global}
 use Rattle.c_tree.specs.Trees.{PlainTree, PlainTrees, leaf, node}
 use Rattle.core_meaning.specs.Checking.{Checked, fine, give}
 use Rattle.core_meaning.specs.Entities as spec
-use Rattle.core_meaning.specs.UnitNames.{UnitState, unit_start, judged_file_items, judged_unit}
+use Rattle.core_meaning.specs.UnitNames.{UnitState, unit_start, judged_to_end, judged_unit}
 use Rattle.core_meaning.specs.Linking.{Units, closed, uses_in}
 use Rattle.plain_scope.specs.PlainScope.{entry_of, plain_struct}
 use Rattle.plain_scope.specs.Parts.{parts_in}
@@ -37,11 +37,11 @@ closed_with state used = record {
   structs = state.scope.structs;
 }
 
-pub unit_items : (globals : ℕ) (structs : List spec.Struct) (numbers : spec.Numbers) (tree : PlainTree) (parts : PlainTrees) (start : UnitState) → parts_in tree ≡ Some parts → start ≡ unit_start structs numbers → judged_unit globals structs numbers tree ≡ judged_file_items globals start parts
+pub unit_items : (globals : ℕ) (structs : List spec.Struct) (numbers : spec.Numbers) (tree : PlainTree) (parts : PlainTrees) (start : UnitState) → parts_in tree ≡ Some parts → start ≡ unit_start structs numbers → judged_unit globals structs numbers tree ≡ judged_to_end globals start parts
 unit_items globals structs numbers (leaf token) parts start a b = cc
 unit_items globals structs numbers (node kind given) parts start a b =
     let e : given ≡ parts = cc in
-    ap (judged_file_items globals (unit_start structs numbers)) e ∙ ap (λ s. judged_file_items globals s parts) (sym b)
+    ap (judged_to_end globals (unit_start structs numbers)) e ∙ ap (λ s. judged_to_end globals s parts) (sym b)
 
 pub closed_gives : (c : Checked UnitState) (state : UnitState) (before after : List ℕ → Bool) (x : Units) → ((name : List ℕ) → before name ≡ false) → Gives c state before after → x ≡ closed_with state after → closed c ≡ give x
 closed_gives c state before after x nothing g is =

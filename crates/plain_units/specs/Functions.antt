@@ -9,14 +9,14 @@ use Rattle.c_tree.specs.declared.kinds.Kind.TheVariants as k
 use Rattle.c_tree.specs.declared.terminals.Terminal.TheVariants as t
 use Rattle.c_tree.specs.Trees.{PlainTree, PlainTrees, leaf, node, none, more}
 use Rattle.core_meaning.specs.declared.refusals.TypeKind.{TypeKind}
-use Rattle.core_meaning.specs.declared.refusals.TypeKind.TheVariants.{Incomplete}
+use Rattle.core_meaning.specs.declared.refusals.TypeKind.TheVariants.{Incomplete, Redeclared}
 use Rattle.core_meaning.specs.Checking.{Entity, local_entity, local_of_function, file_entity, struct_entity, member_entity, own_entity, Binding, Checked, fine, refused, broken, ◌>>=◌, give, unless_so, declares, numbered, numbered_binding, in_function, or_broken}
 use Rattle.core_meaning.specs.Linking.{is_use_of, uses_in}
 use Rattle.core_meaning.specs.Entities.{Scope, Signature, function}
 use Rattle.core_meaning.specs.Program.{no_item}
-use Rattle.core_meaning.specs.Declarations.{Parameter, behind_word, starred, parameters_of}
+use Rattle.core_meaning.specs.Declarations.{Parameter, behind_word, starred, parameters_of, with_block}
 use Rattle.core_meaning.specs.Statements.{JudgedItems, judged_items, items_as}
-use Rattle.core_meaning.specs.UnitNames.{UnitState, Storage, with_name, with_scope, with_defined, function_body, parameter_types, signature_of, refused_initialiser, declared_function, with_parameters, is_result, kind_or_incomplete, result_kind, judged_body, with_block, defined_function}
+use Rattle.core_meaning.specs.UnitNames.{UnitState, Storage, with_name, with_scope, with_defined, function_body, parameter_types, signature_of, refused_initialiser, may_be_function, new_function, declared_function, with_parameters, is_result, kind_or_incomplete, kind_by_parameters, result_kind, judged_body, defined_function}
 use Rattle.plain_scope.specs.Parts.{parts_in}
 use Rattle.plain_scope.specs.Judgements.{Gives, RefusedAs}
 use Rattle.plain_scope.specs.declared.errors.ElabError.{ElabError}
@@ -43,14 +43,14 @@ function_behind scope storage result name initialiser parameters = placed_functi
 abbrev pub function_declared : Scope → Storage → PlainType → PlainTrees → PlainToken → Option PlainTree → Checked Scope
 function_declared scope storage ty parts name initialiser = do
   bound ← declares (file_entity name.text)
-  parameters ← parameters_of false scope (behind_word t.OpenParenthesis parts) name
+  parameters ← new_function false scope storage (starred parts ty) parts name
   function_behind scope storage (starred parts ty) name initialiser parameters
 
 pub function_in_scope : (unit : UnitState) (storage : Storage) (ty : PlainType) (parts : PlainTrees) (name : PlainToken) (initialiser : Option PlainTree) → declared_function unit storage ty parts name initialiser ≡ in_scope unit (function_declared unit.scope storage ty parts name initialiser)
 function_in_scope unit storage ty parts name initialiser =
     let last : Scope → Checked UnitState = λ scope. give (with_scope unit scope) in
     let bound : Checked (Unit {0}) = declares (file_entity name.text) in
-    let found : Checked (List Parameter) = parameters_of false unit.scope (behind_word t.OpenParenthesis parts) name in
+    let found : Checked (List Parameter) = new_function false unit.scope storage (starred parts ty) parts name in
     let named : List Parameter → Checked Scope = λ parameters. with_name unit.scope name (function (signature_of (starred parts ty) parameters)) storage in
     let behind : List Parameter → Checked Scope = λ parameters. function_behind unit.scope storage (starred parts ty) name initialiser parameters in
     let ending : List Parameter → Checked UnitState = λ parameters. named parameters >>= (λ scope. refused_initialiser initialiser name >>= (λ u. give (with_scope unit scope))) in
@@ -111,7 +111,7 @@ named_function scope storage result name body parameters = do
 -- a function whose result may be that of a definition
 abbrev pub function_with_result : Scope → Storage → PlainType → PlainTrees → PlainToken → PlainTree → Checked FoundFunction
 function_with_result scope storage result parts name body = do
-  parameters ← parameters_of true scope (behind_word t.OpenParenthesis parts) name
+  parameters ← new_function true scope storage result parts name
   named_function scope storage result name body parameters
 
 abbrev pub kind_of_result : Scope → Storage → PlainType → PlainTrees → PlainToken → TypeKind
@@ -139,7 +139,7 @@ function_by_steps unit storage ty parts name body =
     let last : FoundFunction → Checked UnitState = defining unit name in
     let bound : Checked (Unit {0}) = declares (file_entity name.text) in
     let test : Checked (Unit {0}) = unless_so (is_result unit.scope result) (kind_of_result unit.scope storage result parts name) name in
-    let found : Checked (List Parameter) = parameters_of true unit.scope (behind_word t.OpenParenthesis parts) name in
+    let found : Checked (List Parameter) = new_function true unit.scope storage result parts name in
     let named : List Parameter → Checked Scope = λ parameters. with_name unit.scope name (function (signature_of result parameters)) storage in
     let ending : List Parameter → Checked UnitState = λ parameters. named parameters >>= (λ scope. function_items scope result parameters body >>= (λ items. last (found_as scope items))) in
     sym (bind_assoc bound (λ u. complete_function unit.scope storage result parts name body) last
@@ -199,25 +199,26 @@ initialiser_refused scope named storage f name initialiser error a r =
     refused_next (with_name scope name (function f) storage) (λ s. refused_initialiser initialiser name >>= (λ u. give s)) named error a
     (refused_first (refused_initialiser initialiser name) (λ u. give named) error r)
 
-declared_as_found : (scope : Scope) (storage : Storage) (ty result : PlainType) (parts : PlainTrees) (name : PlainToken) (initialiser : Option PlainTree) → result ≡ starred parts ty → function_declared scope storage ty parts name initialiser ≡ (declares (file_entity name.text) >>= (λ u. parameters_of false scope (behind_word t.OpenParenthesis parts) name >>= function_behind scope storage result name initialiser))
-declared_as_found scope storage ty result parts name initialiser is = ap (λ r. declares (file_entity name.text) >>= (λ u. parameters_of false scope (behind_word t.OpenParenthesis parts) name >>= function_behind scope storage r name initialiser)) (sym is)
+declared_as_found : (scope : Scope) (storage : Storage) (ty result : PlainType) (parts : PlainTrees) (name : PlainToken) (initialiser : Option PlainTree) → result ≡ starred parts ty → function_declared scope storage ty parts name initialiser ≡ (declares (file_entity name.text) >>= (λ u. new_function false scope storage result parts name >>= function_behind scope storage result name initialiser))
+declared_as_found scope storage ty result parts name initialiser is = ap (λ r. declares (file_entity name.text) >>= (λ u. new_function false scope storage r parts name >>= function_behind scope storage r name initialiser)) (sym is)
 
-pub declared_gives : (scope : Scope) (storage : Storage) (ty result : PlainType) (parts : PlainTrees) (name : PlainToken) (initialiser : Option PlainTree) (parameters : List Parameter) (x : Scope) (before after : List ℕ → Bool) → result ≡ starred parts ty → Gives (parameters_of false scope (behind_word t.OpenParenthesis parts) name) parameters before after → placed_function scope storage (signature_of result parameters) name initialiser ≡ give x → Gives (function_declared scope storage ty parts name initialiser) x before after
+pub declared_gives : (scope : Scope) (storage : Storage) (ty result : PlainType) (parts : PlainTrees) (name : PlainToken) (initialiser : Option PlainTree) (parameters : List Parameter) (x : Scope) (before after : List ℕ → Bool) → result ≡ starred parts ty → Gives (new_function false scope storage result parts name) parameters before after → placed_function scope storage (signature_of result parameters) name initialiser ≡ give x → Gives (function_declared scope storage ty parts name initialiser) x before after
 declared_gives scope storage ty result parts name initialiser parameters x before after is g placed =
-    let found : Checked (List Parameter) = parameters_of false scope (behind_word t.OpenParenthesis parts) name in
+    let found : Checked (List Parameter) = new_function false scope storage result parts name in
     gives_of (function_declared scope storage ty parts name initialiser) (declares (file_entity name.text) >>= (λ u. found >>= function_behind scope storage result name initialiser)) x before after (declared_as_found scope storage ty result parts name initialiser is)
     (member_bound (file_entity name.text) (λ u. found >>= function_behind scope storage result name initialiser) x before after
     (gives_as found (function_behind scope storage result name initialiser) parameters x before after g placed))
 
-pub parameters_refused : (scope : Scope) (storage : Storage) (ty : PlainType) (parts : PlainTrees) (name : PlainToken) (initialiser : Option PlainTree) (error : ElabError) → RefusedAs (parameters_of false scope (behind_word t.OpenParenthesis parts) name) error → RefusedAs (function_declared scope storage ty parts name initialiser) error
-parameters_refused scope storage ty parts name initialiser error r =
-    let found : Checked (List Parameter) = parameters_of false scope (behind_word t.OpenParenthesis parts) name in
-    member_refused (file_entity name.text) (λ u. found >>= function_behind scope storage (starred parts ty) name initialiser) error
-    (refused_first found (function_behind scope storage (starred parts ty) name initialiser) error r)
+pub parameters_refused : (scope : Scope) (storage : Storage) (ty result : PlainType) (parts : PlainTrees) (name : PlainToken) (initialiser : Option PlainTree) (error : ElabError) → result ≡ starred parts ty → RefusedAs (new_function false scope storage result parts name) error → RefusedAs (function_declared scope storage ty parts name initialiser) error
+parameters_refused scope storage ty result parts name initialiser error is r =
+    let found : Checked (List Parameter) = new_function false scope storage result parts name in
+    refused_of (function_declared scope storage ty parts name initialiser) (declares (file_entity name.text) >>= (λ u. found >>= function_behind scope storage result name initialiser)) error (declared_as_found scope storage ty result parts name initialiser is)
+    (member_refused (file_entity name.text) (λ u. found >>= function_behind scope storage result name initialiser) error
+    (refused_first found (function_behind scope storage result name initialiser) error r))
 
-pub placing_refused : (scope : Scope) (storage : Storage) (ty result : PlainType) (parts : PlainTrees) (name : PlainToken) (initialiser : Option PlainTree) (parameters : List Parameter) (before after : List ℕ → Bool) (error : ElabError) → result ≡ starred parts ty → Gives (parameters_of false scope (behind_word t.OpenParenthesis parts) name) parameters before after → RefusedAs (placed_function scope storage (signature_of result parameters) name initialiser) error → RefusedAs (function_declared scope storage ty parts name initialiser) error
+pub placing_refused : (scope : Scope) (storage : Storage) (ty result : PlainType) (parts : PlainTrees) (name : PlainToken) (initialiser : Option PlainTree) (parameters : List Parameter) (before after : List ℕ → Bool) (error : ElabError) → result ≡ starred parts ty → Gives (new_function false scope storage result parts name) parameters before after → RefusedAs (placed_function scope storage (signature_of result parameters) name initialiser) error → RefusedAs (function_declared scope storage ty parts name initialiser) error
 placing_refused scope storage ty result parts name initialiser parameters before after error is g r =
-    let found : Checked (List Parameter) = parameters_of false scope (behind_word t.OpenParenthesis parts) name in
+    let found : Checked (List Parameter) = new_function false scope storage result parts name in
     refused_of (function_declared scope storage ty parts name initialiser) (declares (file_entity name.text) >>= (λ u. found >>= function_behind scope storage result name initialiser)) error (declared_as_found scope storage ty result parts name initialiser is)
     (member_refused (file_entity name.text) (λ u. found >>= function_behind scope storage result name initialiser) error
     (refused_behind found (function_behind scope storage result name initialiser) parameters before after error g r))
@@ -263,11 +264,20 @@ kind_taken c kind token is = sym (ap kind_or_incomplete is)
 pub kind_left : (c : Checked Scope) (scope : Scope) → c ≡ give scope → Incomplete ≡ kind_or_incomplete c
 kind_left c scope is = sym (ap kind_or_incomplete is)
 
-pub kind_behind : (scope : Scope) (storage : Storage) (result : PlainType) (parts : PlainTrees) (name : PlainToken) (parameters : List Parameter) (before after : List ℕ → Bool) (kind : TypeKind) → Gives (parameters_of true scope (behind_word t.OpenParenthesis parts) name) parameters before after → kind ≡ kind_or_incomplete (with_name scope name (function (signature_of result parameters)) storage) → kind ≡ kind_of_result scope storage result parts name
-kind_behind scope storage result parts name parameters before after kind g is = is ∙ sym (ap (result_kind scope storage result name) g.judged)
+may_be : (scope : Scope) (storage : Storage) (result : PlainType) (name : PlainToken) (parameters : Checked (List Parameter)) → may_be_function storage result (scope.file_names name.text) ≡ true → result_kind scope storage result name parameters ≡ kind_by_parameters scope storage result name parameters
+may_be scope storage result name parameters is = rw is refl
 
-pub kind_without : (scope : Scope) (storage : Storage) (result : PlainType) (parts : PlainTrees) (name : PlainToken) (kind : TypeKind) (token : PlainToken) → parameters_of true scope (behind_word t.OpenParenthesis parts) name ≡ refused kind token → Incomplete ≡ kind_of_result scope storage result parts name
-kind_without scope storage result parts name kind token is = sym (ap (result_kind scope storage result name) is)
+pub kind_behind : (scope : Scope) (storage : Storage) (result : PlainType) (parts : PlainTrees) (name : PlainToken) (parameters : List Parameter) (before after : List ℕ → Bool) (kind : TypeKind) → may_be_function storage result (scope.file_names name.text) ≡ true → Gives (parameters_of true scope (behind_word t.OpenParenthesis parts) name) parameters before after → kind ≡ kind_or_incomplete (with_name scope name (function (signature_of result parameters)) storage) → kind ≡ kind_of_result scope storage result parts name
+kind_behind scope storage result parts name parameters before after kind new g is =
+    is ∙ sym (ap (kind_by_parameters scope storage result name) g.judged) ∙ sym (may_be scope storage result name (parameters_of true scope (behind_word t.OpenParenthesis parts) name) new)
+
+pub kind_without : (scope : Scope) (storage : Storage) (result : PlainType) (parts : PlainTrees) (name : PlainToken) (kind : TypeKind) (token : PlainToken) → may_be_function storage result (scope.file_names name.text) ≡ true → parameters_of true scope (behind_word t.OpenParenthesis parts) name ≡ refused kind token → Incomplete ≡ kind_of_result scope storage result parts name
+kind_without scope storage result parts name kind token new is =
+    sym (ap (kind_by_parameters scope storage result name) is) ∙ sym (may_be scope storage result name (parameters_of true scope (behind_word t.OpenParenthesis parts) name) new)
+
+-- the name is another's
+pub kind_of_another : (scope : Scope) (storage : Storage) (result : PlainType) (parts : PlainTrees) (name : PlainToken) → may_be_function storage result (scope.file_names name.text) ≡ false → Redeclared ≡ kind_of_result scope storage result parts name
+kind_of_another scope storage result parts name is = rw is refl
 
 -- ---- functions in their unit
 

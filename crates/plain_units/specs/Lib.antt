@@ -14,3 +14,4 @@ pub mod Parameters
 pub mod Declarators
 pub mod Items
 pub mod Closing
+pub mod Sizes

@@ -19,7 +19,7 @@ use Rattle.plain_scope.specs.declared.errors.ElabError.{ElabError}
 abbrev pub complete_member : Scope → Members → PlainType → PlainToken → Checked Members
 complete_member scope known whole name = do
   complete ← unless_so (is_complete scope.structs whole) Incomplete name
-  give (with_member known name.text whole)
+  give (with_member scope.structs known name.text whole)
 
 abbrev pub typed_member : Scope → Members → PlainType → Kind → PlainTrees → PlainToken → Checked Members
 typed_member scope known ty kind parts name = do

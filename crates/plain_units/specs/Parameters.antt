@@ -2,7 +2,8 @@
 use Rattle.std.proofs.Common.{◌≡◌, ℕ, suc, ◌+◌, ◌<◌, ◌≤◌, List, [], ◌∷◌, length, map, get_or, drop, refl, sym, ap, arith, ◌∙◌, drop-cons}
 use Rattle.std.proofs.Math.ListN.{drop_of_length-le}
 use Rattle.core_meaning.specs.Entities.{Scope}
-use Rattle.core_meaning.specs.UnitNames.{with_parameter, with_parameters}
+use Rattle.core_meaning.specs.Declarations.{with_parameter}
+use Rattle.core_meaning.specs.UnitNames.{with_parameters}
 use Rattle.plain_declarations.specs.declared.parameters.Parameter.{Parameter}
 use Rattle.plain_declarations.specs.PlainParameters.{plain_parameter}
 

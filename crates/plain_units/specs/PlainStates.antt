@@ -33,4 +33,4 @@ plain_state globals unit = record { scope = plain_scope unit.scope; defined = ma
 
 -- the members so far of a struct
 abbrev pub plain_members : Members → spec.Members
-plain_members known = record { members = map plain_member known.members.items; numbers = entry_of known.numbers }
+plain_members known = record { members = map plain_member known.members.items; numbers = entry_of known.numbers; scalars = known.scalars }

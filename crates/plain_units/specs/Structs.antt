@@ -21,7 +21,7 @@ use Rattle.plain_units.specs.Leading.{Leads, leads_with, leads_to, leads_refused
 -- ---- members
 
 abbrev pub no_members : Members
-no_members = record { members = []; numbers = no_entry }
+no_members = record { members = []; numbers = no_entry; scalars = 0 }
 
 abbrev pub all_as : Scope → Members → AllMembers
 all_as scope known = record { scope = scope; known = known }

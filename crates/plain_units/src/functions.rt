@@ -13,14 +13,14 @@ ghost use Rattle.plain_statements.specs.PlainJudged.{plain_judged_items};
 ghost use Rattle.plain_units.specs.PlainStates.{plain_storage};
 ghost use Rattle.plain_units.specs.Functions.{placed_function, function_declared, function_items, items_in, found_as, named_function, function_with_result, kind_of_result, complete_function, function_found, refusal_at};
 
-use crate::names::{Storage, declare_name};
+use crate::names::{Storage, declare_name, may_be_function};
 use c_text::Token;
 use c_tree::{Kind, Tree};
 use c_types::CType;
 use cond_formula::NoMemory;
 use core_meaning::{Definition, Item, TypeKind};
-use plain_declarations::{Parameter, declared_parameters, node_parts, starred, three_parts};
-use plain_scope::{ElabError, Scope, Signature, Sort, Used, copied, first_token, is_void, refused};
+use plain_declarations::{Parameter, declared_parameters, enter_parameter, node_parts, starred, three_parts};
+use plain_scope::{ElabError, Scope, Signature, Sort, Used, copied, first_token, is_void, refused, unless};
 use plain_statements::statement_items;
 use std::alloc::Global;
 
@@ -89,6 +89,30 @@ fn place_function(
     Ok(())
 }
 
+/// The parameters of a function whose name no other declaration keeps from it.
+#[tactic(auto, using(plain_declarations::specs::Sequences::passed_gives, plain_declarations::specs::Sequences::passed_refused, plain_declarations::specs::Sequences::failed_refused))]
+fn new_function<'t>(
+    alloc: Global,
+    scope: &mut Scope,
+    used: &mut Used,
+    defining: bool,
+    storage: Storage,
+    returns: &CType,
+    parts: &'t [Tree],
+    name: &Token,
+) -> Result<Vec<Parameter<'t>>, ElabError>
+    ensures judged { Judges (spec.new_function defining (plain_scope scope.old) (plain_storage storage) (plain_type returns.now) (plain_trees parts.now) (plain_token name.now)) (λ all. map plain_parameter all.items) used.old used.new result }
+    ensures same { OnOk result (plain_scope scope.new ≡ plain_scope scope.old) }
+{
+    unless(
+        may_be_function(scope, storage, returns, name.text.as_slice()),
+        TypeKind::Redeclared,
+        name,
+    )?;
+    let all = declared_parameters(alloc, scope, used, defining, parts, name)?;
+    Ok(all)
+}
+
 /// The declaration of a function that doesn't define it.
 #[tactic(auto, using(crate::specs::Functions::declared_gives, crate::specs::Functions::parameters_refused, crate::specs::Functions::placing_refused))]
 pub fn declare_function(
@@ -104,7 +128,7 @@ pub fn declare_function(
     ensures { Judges (function_declared (plain_scope scope.old) (plain_storage storage) (plain_type base.now) (plain_trees parts.now) (plain_token name.now) (option_map (λ t. plain_tree t.now) initialiser.entry)) (λ u. plain_scope scope.new) used.old used.new result }
 {
     let returns = starred(alloc, parts, base)?;
-    let parameters = declared_parameters(alloc, scope, used, false, parts, name)?;
+    let parameters = new_function(alloc, scope, used, false, storage, &returns, parts, name)?;
     place_function(
         alloc,
         scope,
@@ -118,28 +142,6 @@ pub fn declare_function(
 }
 
 // ---- parameters of definitions
-
-#[tactic(auto, using(plain_declarations::specs::Locals::outside_local))]
-fn enter_parameter(
-    alloc: Global,
-    scope: &mut Scope,
-    slot: usize,
-    p: &Parameter,
-) -> Result<(), ElabError>
-    ensures placed { MatchResult result (λ u. plain_scope scope.new ≡ spec.with_parameter (plain_scope scope.old) slot (plain_parameter p.now).name (plain_parameter p.now).ty) (λ error. error ≡ ElabError.Memory) }
-    ensures outside { OnOk result (without_block (plain_scope scope.new) ≡ without_block (plain_scope scope.old)) }
-{
-    let Ok(slot) = u32::try_from(slot) else {
-        return Err(ElabError::Memory);
-    };
-    match p.name {
-        Some(name) => {
-            scope.declare_local(alloc, name.text.as_slice(), slot, &p.ty)?;
-            Ok(())
-        }
-        None => Ok(()),
-    }
-}
 
 /// The parameters of a definition are its first slots.
 fn enter_parameters(
@@ -254,7 +256,7 @@ fn function_with_result(
 ) -> Result<Definition, ElabError>
     ensures { Judges (function_with_result (plain_scope scope.old) (plain_storage storage) (plain_type returns.now) (plain_trees parts.now) (plain_token name.now) (plain_tree body.now)) (λ d. found_as (plain_scope scope.new) (plain_judged_items d.slots.items d.body.items)) used.old used.new result }
 {
-    let parameters = declared_parameters(alloc, scope, used, true, parts, name)?;
+    let parameters = new_function(alloc, scope, used, true, storage, returns, parts, name)?;
     let d = named_function(
         alloc,
         scope,
@@ -291,7 +293,7 @@ fn kind_by_name(
 }
 
 /// The same with the parameters, which don't matter where they are refused.
-#[tactic(auto, using(crate::specs::Functions::kind_behind, crate::specs::Functions::kind_without))]
+#[tactic(auto, using(crate::specs::Functions::kind_behind, crate::specs::Functions::kind_without, crate::specs::Functions::kind_of_another))]
 fn kind_of_result(
     alloc: Global,
     scope: &mut Scope,
@@ -303,6 +305,9 @@ fn kind_of_result(
 ) -> Result<TypeKind, ElabError>
     ensures { MatchResult result (λ kind. kind ≡ kind_of_result (plain_scope scope.old) (plain_storage storage) (plain_type returns.now) (plain_trees parts.now) (plain_token name.now)) (λ error. error ≡ ElabError.Memory) }
 {
+    if !may_be_function(scope, storage, returns, name.text.as_slice()) {
+        return Ok(TypeKind::Redeclared);
+    }
     match declared_parameters(alloc, scope, used, true, parts, name) {
         Ok(parameters) => {
             let kind = kind_by_name(alloc, scope, storage, returns, name, parameters.as_slice())?;

@@ -10,6 +10,7 @@ mod items;
 mod members;
 mod names;
 mod objects;
+mod sizes;
 mod structs;
 mod units;
 

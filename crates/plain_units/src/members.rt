@@ -17,6 +17,7 @@ use c_types::{CType, Member};
 use cond_formula::NoMemory;
 use core_meaning::TypeKind;
 use plain_declarations::{name_in, object_type};
+use plain_expressions::scalars_with;
 use plain_scope::{ElabError, Scope, Used, unless};
 use std::alloc::Global;
 use std::collections::HashMap;
@@ -26,6 +27,8 @@ use std::collections::HashMap;
 pub struct Members {
     pub members: Vec<Member>,
     pub numbers: HashMap<Vec<u8>, u32>,
+    /// How many scalars they have.
+    pub scalars: u64,
 }
 
 fn enter_number(
@@ -43,14 +46,16 @@ fn enter_number(
 #[tactic(auto, using(plain_declarations::specs::Bound::struct_numbers))]
 fn add_member(
     alloc: Global,
+    scope: &Scope,
     known: &mut Members,
     name: &[u8],
     number: u32,
     ty: CType,
 ) -> Result<(), NoMemory>
     requires { number ≡ length known.old.members.items }
-    ensures { OnOk result (plain_members known.new ≡ spec.with_member (plain_members known.old) name.now (plain_type ty)) }
+    ensures { OnOk result (plain_members known.new ≡ spec.with_member (plain_scope scope.now).structs (plain_members known.old) name.now (plain_type ty)) }
 {
+    known.scalars = scalars_with(scope, known.scalars, &ty);
     enter_number(alloc, &mut known.numbers, name, number)?;
     let name = Vec::from_slice(alloc, name)?;
     known.members.push(Member { name, ty })?;
@@ -73,7 +78,7 @@ fn complete_member(
     let Ok(number) = u32::try_from(known.members.len()) else {
         return Err(ElabError::Memory);
     };
-    add_member(alloc, known, name.text.as_slice(), number, ty)?;
+    add_member(alloc, scope, known, name.text.as_slice(), number, ty)?;
     Ok(())
 }
 

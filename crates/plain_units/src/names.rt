@@ -1,5 +1,5 @@
 //! Names of file scope (6.2.2, 6.7).
-ghost use Rattle.std.specs.Prelude.{◌≡◌, ◌&&◌, ◌∷◌, ◌++◌, [], None, map, option_map, OnOk};
+ghost use Rattle.std.specs.Prelude.{◌≡◌, ◌&&◌, ◌∷◌, ◌++◌, [], None, Some, map, option_map, OnOk};
 ghost use Rattle.c_text.specs.Token.{plain_token};
 ghost use Rattle.c_types.specs.Types.{plain_type};
 ghost use Rattle.c_tree.specs.Trees.{plain_trees};
@@ -148,6 +148,32 @@ fn agrees(visible: &FileName, sort: Sort, internal: bool) -> bool
     ensures { result ≡ (spec.same_sort (plain_sort visible.now.sort) (plain_sort sort) && spec.same_bool visible.now.internal internal) }
 {
     same_sort(&visible.sort, &sort) && visible.internal == internal
+}
+
+fn gives_result(returns: &CType, sort: &Sort) -> bool
+    ensures { result ≡ spec.gives_result (plain_type returns.now) (plain_sort sort.now) }
+{
+    match sort {
+        Sort::Function(f) => same_type(&f.result, returns),
+        Sort::Variable(_) => false,
+    }
+}
+
+fn agrees_on_result(storage: Storage, returns: &CType, visible: &FileName) -> bool
+    ensures { result ≡ spec.may_be_function (plain_storage storage) (plain_type returns.now) (Some (plain_file_name visible.now)) }
+{
+    gives_result(returns, &visible.sort)
+        && visible.internal == linkage(storage, true, Some(visible))
+}
+
+/// Whether another declaration of the name leaves room for a function with this result, whatever its parameters are.
+pub fn may_be_function(scope: &Scope, storage: Storage, returns: &CType, name: &[u8]) -> bool
+    ensures { result ≡ spec.may_be_function (plain_storage storage) (plain_type returns.now) ((plain_scope scope.now).file_names name.now) }
+{
+    match scope.file_names.get(name) {
+        Some(visible) => agrees_on_result(storage, returns, visible),
+        None => true,
+    }
 }
 
 /// A further declaration of a name must have the same type and linkage.

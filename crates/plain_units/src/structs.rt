@@ -63,6 +63,7 @@ fn no_members(alloc: Global) -> Members
     Members {
         members: Vec::new(alloc),
         numbers: HashMap::new(alloc),
+        scalars: 0,
     }
 }
 
@@ -88,9 +89,14 @@ fn all_members(
 fn complete(s: &mut Struct, known: Members)
     ensures { plain_struct s.new ≡ spec.completed (plain_members known) (plain_struct s.old) }
 {
-    let Members { members, numbers } = known;
+    let Members {
+        members,
+        numbers,
+        scalars,
+    } = known;
     s.members = members;
     s.numbers = numbers;
+    s.scalars = scalars;
     s.complete = true;
 }
 

@@ -1,6 +1,6 @@
 //! Units, and what they leave for linking (6.9).
 ghost use Rattle.std.specs.Prelude.{◌≡◌, ℕ, map, IfOk, MatchResult};
-ghost use Rattle.c_tree.specs.Trees.{plain_tree};
+ghost use Rattle.c_tree.specs.Trees.{plain_tree, plain_trees};
 ghost use Rattle.core_meaning.specs.Linking.{closed};
 ghost use Rattle.core_meaning.specs.UnitNames as spec;
 ghost use Rattle.plain_scope.specs.PlainScope.{plain_struct, uses_of};
@@ -10,6 +10,7 @@ ghost use Rattle.plain_units.specs.Closing.{plain_numbers, one_judged, closed_wi
 
 use crate::definitions::Unit;
 use crate::items::judge_items;
+use crate::sizes::judge_sizes;
 use c_tree::Tree;
 use cond_formula::NoMemory;
 use plain_declarations::node_parts;
@@ -41,6 +42,20 @@ fn unit_start<'a>(
     }
 }
 
+/// The items of a unit, and then the sizes of its objects.
+fn judge_to_end(
+    alloc: Global,
+    unit: &mut Unit,
+    used: &mut Used,
+    parts: &[Tree],
+) -> Result<(), ElabError>
+    ensures { (globals : ℕ) → Judges (spec.judged_to_end globals (plain_state globals unit.old) (plain_trees parts.now)) (λ u. plain_state globals unit.new) used.old used.new result }
+{
+    judge_items(alloc, unit, used, parts)?;
+    judge_sizes(&unit.scope, parts)?;
+    Ok(())
+}
+
 fn judge_all<'a>(
     alloc: Global,
     structs: Vec<Struct>,
@@ -53,7 +68,7 @@ fn judge_all<'a>(
 {
     let parts = node_parts(tree)?;
     let mut unit = unit_start(alloc, structs, numbers, texts);
-    judge_items(alloc, &mut unit, used, parts)?;
+    judge_to_end(alloc, &mut unit, used, parts)?;
     Ok(unit)
 }
 

@@ -3,7 +3,7 @@ use Rattle.std.specs.Str.{bytes_eq}
 use Rattle.c_tree.specs.Trees.{plain_tree}
 use Rattle.core_meaning.specs.Checking.{give}
 use Rattle.core_meaning.specs.Entities.{Numbers}
-use Rattle.core_meaning.specs.Linking.{judged_program, judged_units, literals_of, listed, numbers_in, place_where}
+use Rattle.core_meaning.specs.Linking.{judged_program, judged_units, literals_of, no_numbers, listed, numbers_in, place_where}
 use Rattle.plain_scope.specs.PlainScope.{entry_of}
 use Rattle.plain_scope.specs.Judgements.{RefusedAs}
 use Rattle.plain_scope.specs.declared.entities.Numbers.{Numbers as RustNumbers}
@@ -35,7 +35,7 @@ returns-in_err-units c =
     c.in_ok-numbers.ensures.count ∙ ap (λ (left : List Left). length (listed (map (plain_unit 0) left) false)) c.as_slice.ensures.value in
     let refusal = rw c.in_err-units.was at (c.judged.ensures c.in_ok-numbers.objects) in
     passed_on c.from_residual-in_err-units.result c.in_err-units.field-0.0
-    (λ (whole : Whole). judged_program trees ≡ give (plain_units whole.objects whole.units.items whole.structs.items)) (RefusedAs (judged_program trees))
+    (λ (whole : Whole). (judged_program trees ≡ give (plain_units whole.objects whole.units.items whole.structs.items)) × (whole.objects ≡ length (listed (map (plain_unit 0) whole.units.items) false))) (RefusedAs (judged_program trees))
     c.from_residual-in_err-units.ensures.1
     (whole_refused trees first N c.in_ok-numbers.objects c.in_err-units.field-0.0 judged_once numbers count refusal)
 
@@ -56,4 +56,10 @@ returns c =
     let count : c.in_ok-numbers.objects ≡ length (listed us false) =
     c.in_ok-numbers.ensures.count ∙ ap (λ (left : List Left). length (listed (map (plain_unit 0) left) false)) c.as_slice.ensures.value in
     let judged = rw c.in_ok-units.was at (c.judged.ensures c.in_ok-numbers.objects) in
-    whole_given trees first (plain_judged c.in_ok-numbers.objects (c.in_ok-units.units, c.in_ok-units.structs)) N c.in_ok-numbers.objects judged_once numbers count judged
+    let again = rw c.in_ok-units.was at (c.judged.ensures 0) in
+    let alike : listed us false ≡ listed (map (plain_unit 0) c.in_ok-units.units.items) false =
+    c.judgings_list_alike.ensures no_numbers N 0 0 trees first (plain_judged 0 (c.in_ok-units.units, c.in_ok-units.structs)) [] [] judged_once again false in
+    (
+      whole_given trees first (plain_judged c.in_ok-numbers.objects (c.in_ok-units.units, c.in_ok-units.structs)) N c.in_ok-numbers.objects judged_once numbers count judged,
+      count ∙ ap length alike,
+    )

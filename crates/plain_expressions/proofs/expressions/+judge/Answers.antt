@@ -1,5 +1,5 @@
 -- Expressions, each kind of node from what its parts are judged as.
-use Rattle.std.proofs.Common.{◌≡◌, ℕ, ◌+◌, ◌*◌, ◌==◌, List, true, Vec, Global, get_or, map, drop, length, refl, sym, ap, subst, ◌∙◌, arith}
+use Rattle.std.proofs.Common.{rules, ◌≡◌, ℕ, ◌+◌, ◌*◌, ◌==◌, List, true, Vec, Global, get_or, map, drop, length, refl, sym, ap, subst, ◌∙◌, arith}
 use Rattle.std.proofs.lemmas.List.{length-map}
 use Rattle.c_types.specs.declared.types.CType.{CType}
 use Rattle.c_types.specs.Types.{plain_type}
@@ -15,13 +15,13 @@ use Rattle.c_tree.specs.Trees.{PlainTree, node, leaf, more, none, plain_tree, pl
 use Rattle.core_meaning.specs.Plain.{plain_expression, plain_arguments}
 use Rattle.core_meaning.specs.Checking.{Checked, ◌>>=◌, give}
 use Rattle.core_meaning.specs.Typing.{Typed, Operand}
-use Rattle.core_meaning.specs.Expressions.{judged, valued, judged_condition, judged_arguments, count_entries, chosen, cast_to, arithmetic_words}
-use Rattle.plain_scope.specs.PlainScope.{plain_scope, uses_of}
+use Rattle.core_meaning.specs.Expressions.{judged, valued, judged_condition, judged_arguments, may_be_called, chosen, cast_to, arithmetic_words}
+use Rattle.plain_scope.specs.PlainScope.{plain_scope, plain_signature, uses_of}
 use Rattle.plain_scope.specs.Judgements.{Gives}
 use Rattle.plain_scope.specs.JudgementLaws.{gives_then, refused_first}
 use Rattle.plain_operands.specs.PlainOperands.{plain_operand, plain_typed}
 use Rattle.plain_expressions.specs.PlainSteps.{plain_two, plain_callee, plain_left}
-use Rattle.plain_expressions.specs.Steps.{both, two_values, two_in, on_two, written_object, assigned_to, assigned_in, cast_value, on_operand, called_by, called_with, not_called, call_of, is_list}
+use Rattle.plain_expressions.specs.Steps.{passed_argument, both, two_values, two_in, on_two, written_object, assigned_to, assigned_in, cast_value, on_operand, called_by, called_with, not_called, call_of, is_list}
 use Rattle.plain_expressions.proofs.Answering.{judges_as, passed_on, gives_as, refused_as, refused_behind, gives_last}
 use Rattle.plain_expressions.proofs.Shapes.{two_parts, three_parts, three_first, three_around, three_inside, four_but_third, four_but_last, five_but_fourth}
 use Rattle.plain_expressions.proofs.NodeLaws.{between_law, index_law, behind_law, before_law, prefix_law, inner_law, selection_law, cast_law, assigned_law, conditional_law, call_law, list_law, called_gives, cast_shape}
@@ -229,7 +229,7 @@ conditional-returns-in_err-a t c =
     let chain = judged_condition scope first question >>= from_tested in
     let is : whole ≡ chain = conditional_law scope question (plain_trees parts) first (plain_tree c.question-item.result) second (plain_tree (get_or parts 3 c.first-item.result)) third (five_but_fourth parts c.first-item.result c.question-item.result c.second-item.result c.third-item.result c.in-len5.len_at_least c.in-len5.len_below c.first-item.is c.question-item.is c.second-item.is c.third-item.is) c.in_ok-question.ensures in
     let error = c.in_err-a.field-0.0 in
-    let tested = plain_expression c.in_ok-tested.tested in
+    let tested = plain_expression c.in_ok-tested.tested.value in
     passed_on whole plain_operand c.args.used.now c.valued.new.used c.from_residual-in_err-a.result error c.from_residual-in_err-a.ensures.1
     (refused_as whole chain error is (refused_behind (judged_condition scope first question) from_tested tested (uses_of c.args.used.now) (uses_of c.condition.new.used) error c.in_ok-tested.ensures (refused_first (valued scope second) (from_a tested) error c.in_err-a.ensures)))
 
@@ -247,7 +247,7 @@ conditional-returns-in_err-b t c =
     let chain = judged_condition scope first question >>= from_tested in
     let is : whole ≡ chain = conditional_law scope question (plain_trees parts) first (plain_tree c.question-item.result) second (plain_tree (get_or parts 3 c.first-item.result)) third (five_but_fourth parts c.first-item.result c.question-item.result c.second-item.result c.third-item.result c.in-len5.len_at_least c.in-len5.len_below c.first-item.is c.question-item.is c.second-item.is c.third-item.is) c.in_ok-question.ensures in
     let error = c.in_err-b.field-0.0 in
-    let tested = plain_expression c.in_ok-tested.tested in
+    let tested = plain_expression c.in_ok-tested.tested.value in
     let a = plain_typed c.in_ok-a.a in
     passed_on whole plain_operand c.args.used.now c.valued-2.new.used c.from_residual-in_err-b.result error c.from_residual-in_err-b.ensures.1
     (refused_as whole chain error is (refused_behind (judged_condition scope first question) from_tested tested (uses_of c.args.used.now) (uses_of c.condition.new.used) error c.in_ok-tested.ensures (refused_behind (valued scope second) (from_a tested) a (uses_of c.condition.new.used) (uses_of c.valued.new.used) error c.in_ok-a.ensures (refused_first (valued scope third) (λ b. chosen question tested a b) error c.in_err-b.ensures))))
@@ -266,7 +266,7 @@ conditional-returns-in_err-x t c =
     let chain = judged_condition scope first question >>= from_tested in
     let is : whole ≡ chain = conditional_law scope question (plain_trees parts) first (plain_tree c.question-item.result) second (plain_tree (get_or parts 3 c.first-item.result)) third (five_but_fourth parts c.first-item.result c.question-item.result c.second-item.result c.third-item.result c.in-len5.len_at_least c.in-len5.len_below c.first-item.is c.question-item.is c.second-item.is c.third-item.is) c.in_ok-question.ensures in
     let error = c.in_err-x.field-0.0 in
-    let tested = plain_expression c.in_ok-tested.tested in
+    let tested = plain_expression c.in_ok-tested.tested.value in
     let a = plain_typed c.in_ok-a.a in
     let b = plain_typed c.in_ok-b.b in
     passed_on whole plain_operand c.args.used.now c.valued-2.new.used c.from_residual-in_err-x.result error c.from_residual-in_err-x.ensures.1
@@ -285,7 +285,7 @@ conditional-returns t c =
     let from_tested : PlainExpression → Checked Operand = λ e. valued scope second >>= from_a e in
     let chain = judged_condition scope first question >>= from_tested in
     let is : whole ≡ chain = conditional_law scope question (plain_trees parts) first (plain_tree c.question-item.result) second (plain_tree (get_or parts 3 c.first-item.result)) third (five_but_fourth parts c.first-item.result c.question-item.result c.second-item.result c.third-item.result c.in-len5.len_at_least c.in-len5.len_below c.first-item.is c.question-item.is c.second-item.is c.third-item.is) c.in_ok-question.ensures in
-    let tested = plain_expression c.in_ok-tested.tested in
+    let tested = plain_expression c.in_ok-tested.tested.value in
     let a = plain_typed c.in_ok-a.a in
     let b = plain_typed c.in_ok-b.b in
     let x = plain_operand c.in_ok-x.x in
@@ -326,8 +326,8 @@ called-returns t c =
     let parts = plain_trees c.args.parts.now in
     let types = c.args.f.now.signature.now.parameters.items in
     let bracket = plain_token c.args.bracket.now in
-    let enough : (count_entries parts == length (map plain_type types)) ≡ true = ap (λ (n : ℕ). n == length (map plain_type types)) (sym c.entry_count.ensures) ∙ ap (λ (n : ℕ). c.entry_count.result == n) (length-map types plain_type ∙ ap (λ (ts : List CType). length ts) (sym c.as_slice-types.ensures.value)) ∙ c.in_ok-unless.ensures in
-    called_gives scope (plain_callee c.args.f.now) parts bracket (plain_arguments c.in_ok-given.given.items) (plain_operand c.in_ok-x.x) (uses_of c.args.used.now) (uses_of c.noted.new.used) (uses_of c.arguments.new.used) c.in_ok-noted.ensures enough
+    let callable = ap (λ (n : ℕ). may_be_called scope (plain_signature c.args.f.now.signature.now) n bracket) (sym c.entry_count.ensures) ∙ c.in_ok-may_be_called.ensures in
+    called_gives scope (plain_callee c.args.f.now) parts bracket (plain_arguments c.in_ok-given.given.items) (plain_operand c.in_ok-x.x) (uses_of c.args.used.now) (uses_of c.noted.new.used) (uses_of c.arguments.new.used) c.in_ok-noted.ensures callable
     (subst (λ (ts : List CType). Gives (judged_arguments scope (map plain_type ts) parts bracket) (plain_arguments c.in_ok-given.given.items) (uses_of c.noted.new.used) (uses_of c.arguments.new.used)) c.as_slice-types.ensures.value c.in_ok-given.ensures)
     c.in_ok-x.ensures
 
@@ -414,5 +414,8 @@ arguments-loop-i-preserved t c =
     let bracket = plain_token c.args.bracket.now in
     let whole = from scope bracket c.args.types.now c.args.parts.now in
     let i = c.loop-i.i in
+    let core = c.into_inner.result in
+    let is : c.in_ok-core.core.value ≡ core = search rules in
+    let given = subst (λ (e : Expression). Gives (passed_argument scope (plain_type c.index-types-i.result) (plain_tree c.in-Some.tree.now) bracket) (plain_expression e) (uses_of c.loop-i.used) (uses_of c.passed.new.used)) is c.in_ok-core.ensures in
     subst (λ (es : List Expression). Continues whole (from scope bracket (drop (i + 1) c.args.types.now) (drop (2 * (i + 1)) c.args.parts.now)) (plain_arguments es) (uses_of c.args.used.now) (uses_of c.passed.new.used)) (sym c.in_ok-push.ensures.items)
-    (step_at scope whole c.args.types.now c.args.parts.now i c.index-types-i.result c.in-Some.tree.now bracket c.loop-i.given.items c.in_ok-core.core (uses_of c.args.used.now) (uses_of c.loop-i.used) (uses_of c.passed.new.used) (omega arith) c.index-types-i.is c.in-Some.ensures.lookup.3.0 c.in-Some.ensures.lookup.1 c.loop-i.invariant c.in_ok-core.ensures)
+    (step_at scope whole c.args.types.now c.args.parts.now i c.index-types-i.result c.in-Some.tree.now bracket c.loop-i.given.items core (uses_of c.args.used.now) (uses_of c.loop-i.used) (uses_of c.passed.new.used) (omega arith) c.index-types-i.is c.in-Some.ensures.lookup.3.0 c.in-Some.ensures.lookup.1 c.loop-i.invariant given)

@@ -23,6 +23,6 @@ returns-in_err-place_function c =
     let name : PlainToken = plain_token c.args.name.now in
     let initialiser : Option PlainTree = option_map (λ t. plain_tree t.now) c.args.initialiser in
     let parameters : List Parameter = map plain_parameter c.in_ok-parameters.parameters.items in
-    let inner : RefusedAs (placed_function scope storage (signature_of result parameters) name initialiser) c.in_err-place_function.field-0.0 = rw (sym c.as_slice.ensures.value) c.in_err-place_function.ensures in
-    let outer : RefusedAs (function_declared scope storage base parts name initialiser) c.in_err-place_function.field-0.0 = placing_refused scope storage base result parts name initialiser parameters (uses_of c.args.used.now) (uses_of c.declared_parameters.new.used) c.in_err-place_function.field-0.0 c.in_ok-returns.ensures c.in_ok-parameters.ensures inner in
+    let inner : RefusedAs (placed_function scope storage (signature_of result parameters) name initialiser) c.in_err-place_function.field-0.0 = rw (sym c.as_slice.ensures.value, sym c.in_ok-parameters.ensures.same) c.in_err-place_function.ensures in
+    let outer : RefusedAs (function_declared scope storage base parts name initialiser) c.in_err-place_function.field-0.0 = placing_refused scope storage base result parts name initialiser parameters (uses_of c.args.used.now) (uses_of c.new_function.new.used) c.in_err-place_function.field-0.0 c.in_ok-returns.ensures c.in_ok-parameters.ensures.judged inner in
     search (rules, outer)

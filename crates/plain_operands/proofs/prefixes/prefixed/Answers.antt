@@ -3,7 +3,7 @@ use Rattle.c_text.specs.Token.{plain_token}
 use Rattle.plain_scope.specs.PlainScope.{plain_scope}
 use Rattle.plain_operands.specs.PlainOperands.{plain_operand}
 use Rattle.plain_operands.proofs.OperatorFacts.{prefixed_loads}
-use Rattle.plain_operands.proofs.operators.prefixed.Goals as goal
+use Rattle.plain_operands.proofs.prefixes.prefixed.Goals as goal
 
 pub returns-else-eq : goal.returns-else-eq
 returns-else-eq c =
