@@ -11,7 +11,7 @@ mod statements;
 
 pub use expressions::{Change, Expression, Operation, Place};
 pub use integers::IntegerType;
-pub use laws::{a_larger_bound_reaches, reaching_is_transitive, runs_grow};
+pub use laws::{a_larger_bound_reaches, pieces_grow, reaching_is_transitive, runs_grow};
 pub use program::{
     BuiltIn, Constant, ConstantPart, CoreProgram, Definition, Function, Global, Layout,
 };
