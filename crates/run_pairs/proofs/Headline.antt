@@ -42,13 +42,13 @@ module _ (p p' : PlainProgram) (functions : ℕ → Option ℕ) (arity : ℕ →
         (second_only (statement_setting false held ts us) (RelatedEndings false false) d false refl [] original (outcome_output original, refl));
   }
 
-  first_at : (n m : ℕ) → n + n ≤ m → LaterAt p p' functions arity first (Stands p p' functions arity first) alike true n m
+  pub first_at : (n m : ℕ) → n + n ≤ m → LaterAt p p' functions arity first (Stands p p' functions arity first) alike true n m
   first_at n m less = first_laters p p' functions arity first (Stands p p' functions arity first) alike true refl (selected_after p p' functions arity first alike true) n m less
 
-  second_at : (n m : ℕ) → m ≤ n → LaterAt p p' functions arity first (Stands p p' functions arity first) alike false n m
+  pub second_at : (n m : ℕ) → m ≤ n → LaterAt p p' functions arity first (Stands p p' functions arity first) alike false n m
   second_at n m less = second_laters p p' functions arity first (Stands p p' functions arity first) alike false refl selected_stops (selected_after p p' functions arity first alike false) n m less
 
-  selected_second : (n m : ℕ) → m ≤ n → SelectedRelated p p' functions arity first (Stands p p' functions arity first) alike false (meaning p n) (meaning p' m)
+  pub selected_second : (n m : ℕ) → m ≤ n → SelectedRelated p p' functions arity first (Stands p p' functions arity first) alike false (meaning p n) (meaning p' m)
   selected_second n zero less = selected_stops n
   selected_second n (suc m) less = selected_after p p' functions arity first alike false n m (second_at n m (omega (arith, less)))
 

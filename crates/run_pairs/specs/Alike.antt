@@ -150,7 +150,7 @@ module _ (p p' : PlainProgram) (functions : ℕ → Option ℕ) (arity : ℕ →
       locals : (uses : Uses) (l r : Bool) (j k : ℕ) (x y : List PlainPart) (a b : PlainItems) →
           WhereGiven ◌≡◌ (slice_get types j) (slice_get types' k) → AreDistinct (with_use uses j k) →
           AlikeParts p p' functions arity first false (with_use uses j k) x y →
-              AlikeItems types types' selects (with_use uses j k) l r a b →
+          AlikeItems types types' selects (with_use uses j k) l r a b →
           AlikeItems types types' selects uses l r (local j x a) (local k y b)
       statement_items : (uses : Uses) (l r : Bool) (s t : PlainStatement) (a b : PlainItems) →
           AlikeStatements types types' selects uses l r s t → AlikeItems types types' selects uses l r a b →
