@@ -12,4 +12,5 @@ pub mod Extractions
 pub mod Headline
 pub mod LawOnPieces
 pub mod WorkedPair
+pub mod WorkedTexts
 pub mod WrongPairs
