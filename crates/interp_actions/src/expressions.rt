@@ -8,7 +8,7 @@ ghost use Rattle.interp_actions.specs.Actions.{expression_action, place_action, 
 ghost use Rattle.core_cells.specs.Forms.{plain_value};
 
 use crate::actions::{Action, Flow, Operand};
-use crate::control::Control;
+use crate::control::{Control, push, push_five, push_four, push_three, push_two};
 use c_types::CType;
 use cond_formula::NoMemory;
 use core_cells::{Pointer, Scalar, Value};
@@ -18,35 +18,45 @@ use std::alloc::Global;
 fn begin_number<'a>(control: &mut Control<'a>, number: i128) -> Result<Flow, NoMemory>
     ensures { IfOk result (λ flow. Steps flow (expression_action (program.constant number)) control.old control.new) }
 {
-    control.put(Operand::Value(Value::Scalar(Scalar::Number(number))))?;
+    push(
+        &mut control.operands,
+        Operand::Value(Value::Scalar(Scalar::Number(number))),
+    )?;
     Ok(Flow::Goes)
 }
 
 fn begin_null<'a>(control: &mut Control<'a>) -> Result<Flow, NoMemory>
     ensures { IfOk result (λ flow. Steps flow (expression_action (program.null_constant)) control.old control.new) }
 {
-    control.put(Operand::Value(Value::Scalar(Scalar::Pointer(Pointer::Null))))?;
+    push(
+        &mut control.operands,
+        Operand::Value(Value::Scalar(Scalar::Pointer(Pointer::Null))),
+    )?;
     Ok(Flow::Goes)
 }
 
 fn begin_read<'a>(control: &mut Control<'a>, place: &'a Place) -> Result<Flow, NoMemory>
     ensures { IfOk result (λ flow. Steps flow (expression_action (program.read (plain_place place.now))) control.old control.new) }
 {
-    control.then_two(Action::Place(place), Action::Read)?;
+    push_two(&mut control.actions, Action::Place(place), Action::Read)?;
     Ok(Flow::Goes)
 }
 
 fn begin_address<'a>(control: &mut Control<'a>, place: &'a Place) -> Result<Flow, NoMemory>
     ensures { IfOk result (λ flow. Steps flow (expression_action (program.address (plain_place place.now))) control.old control.new) }
 {
-    control.then_two(Action::Place(place), Action::Address)?;
+    push_two(&mut control.actions, Action::Place(place), Action::Address)?;
     Ok(Flow::Goes)
 }
 
 fn begin_first_element<'a>(control: &mut Control<'a>, place: &'a Place) -> Result<Flow, NoMemory>
     ensures { IfOk result (λ flow. Steps flow (expression_action (program.first_element (plain_place place.now))) control.old control.new) }
 {
-    control.then_two(Action::Place(place), Action::FirstElement)?;
+    push_two(
+        &mut control.actions,
+        Action::Place(place),
+        Action::FirstElement,
+    )?;
     Ok(Flow::Goes)
 }
 
@@ -57,7 +67,8 @@ fn begin_convert<'a>(
 ) -> Result<Flow, NoMemory>
     ensures { IfOk result (λ flow. Steps flow (expression_action (program.convert ty (plain_expression inner.now))) control.old control.new) }
 {
-    control.then_three(
+    push_three(
+        &mut control.actions,
         Action::Expression(inner),
         Action::Scalar,
         Action::Convert(ty),
@@ -73,7 +84,8 @@ fn begin_binary<'a>(
 ) -> Result<Flow, NoMemory>
     ensures { IfOk result (λ flow. Steps flow (expression_action (program.binary op (plain_expression left.now) (plain_expression right.now))) control.old control.new) }
 {
-    control.then_five(
+    push_five(
+        &mut control.actions,
         Action::Expression(left),
         Action::Scalar,
         Action::Expression(right),
@@ -86,7 +98,12 @@ fn begin_binary<'a>(
 fn begin_not<'a>(control: &mut Control<'a>, inner: &'a Expression) -> Result<Flow, NoMemory>
     ensures { IfOk result (λ flow. Steps flow (expression_action (program.logical_not (plain_expression inner.now))) control.old control.new) }
 {
-    control.then_three(Action::Expression(inner), Action::Test, Action::Not)?;
+    push_three(
+        &mut control.actions,
+        Action::Expression(inner),
+        Action::Test,
+        Action::Not,
+    )?;
     Ok(Flow::Goes)
 }
 
@@ -97,7 +114,12 @@ fn begin_and<'a>(
 ) -> Result<Flow, NoMemory>
     ensures { IfOk result (λ flow. Steps flow (expression_action (program.logical_and (plain_expression left.now) (plain_expression right.now))) control.old control.new) }
 {
-    control.then_three(Action::Expression(left), Action::Test, Action::And(right))?;
+    push_three(
+        &mut control.actions,
+        Action::Expression(left),
+        Action::Test,
+        Action::And(right),
+    )?;
     Ok(Flow::Goes)
 }
 
@@ -108,7 +130,12 @@ fn begin_or<'a>(
 ) -> Result<Flow, NoMemory>
     ensures { IfOk result (λ flow. Steps flow (expression_action (program.logical_or (plain_expression left.now) (plain_expression right.now))) control.old control.new) }
 {
-    control.then_three(Action::Expression(left), Action::Test, Action::Or(right))?;
+    push_three(
+        &mut control.actions,
+        Action::Expression(left),
+        Action::Test,
+        Action::Or(right),
+    )?;
     Ok(Flow::Goes)
 }
 
@@ -120,7 +147,8 @@ fn begin_choose<'a>(
 ) -> Result<Flow, NoMemory>
     ensures { IfOk result (λ flow. Steps flow (expression_action (program.choose (plain_expression condition.now) (plain_expression first.now) (plain_expression second.now))) control.old control.new) }
 {
-    control.then_three(
+    push_three(
+        &mut control.actions,
         Action::Expression(condition),
         Action::Test,
         Action::Choose(first, second),
@@ -135,7 +163,8 @@ fn begin_assign<'a>(
 ) -> Result<Flow, NoMemory>
     ensures { IfOk result (λ flow. Steps flow (expression_action (program.assign (plain_place place.now) (plain_expression right.now))) control.old control.new) }
 {
-    control.then_four(
+    push_four(
+        &mut control.actions,
         Action::Place(place),
         Action::Expression(right),
         Action::Used,
@@ -152,7 +181,8 @@ fn begin_update<'a>(
 ) -> Result<Flow, NoMemory>
     ensures { IfOk result (λ flow. Steps flow (expression_action (program.update change (plain_place place.now) (plain_expression right.now))) control.old control.new) }
 {
-    control.then_four(
+    push_four(
+        &mut control.actions,
         Action::Place(place),
         Action::Expression(right),
         Action::Scalar,
@@ -169,7 +199,8 @@ fn begin_update_after<'a>(
 ) -> Result<Flow, NoMemory>
     ensures { IfOk result (λ flow. Steps flow (expression_action (program.update_after change (plain_place place.now) (plain_expression right.now))) control.old control.new) }
 {
-    control.then_four(
+    push_four(
+        &mut control.actions,
         Action::Place(place),
         Action::Expression(right),
         Action::Scalar,
@@ -181,7 +212,11 @@ fn begin_update_after<'a>(
 fn begin_discard<'a>(control: &mut Control<'a>, inner: &'a Expression) -> Result<Flow, NoMemory>
     ensures { IfOk result (λ flow. Steps flow (expression_action (program.discard (plain_expression inner.now))) control.old control.new) }
 {
-    control.then_two(Action::Expression(inner), Action::Nothing)?;
+    push_two(
+        &mut control.actions,
+        Action::Expression(inner),
+        Action::Nothing,
+    )?;
     Ok(Flow::Goes)
 }
 
@@ -189,7 +224,11 @@ fn begin_discard<'a>(control: &mut Control<'a>, inner: &'a Expression) -> Result
 pub fn begin_target<'a>(control: &mut Control<'a>, inner: &'a Expression) -> Result<Flow, NoMemory>
     ensures { IfOk result (λ flow. Steps flow (place_action (program.target (plain_expression inner.now))) control.old control.new) }
 {
-    control.then_two(Action::Expression(inner), Action::Target)?;
+    push_two(
+        &mut control.actions,
+        Action::Expression(inner),
+        Action::Target,
+    )?;
     Ok(Flow::Goes)
 }
 
@@ -201,7 +240,11 @@ pub fn begin_member<'a>(
 ) -> Result<Flow, NoMemory>
     ensures { IfOk result (λ flow. Steps flow (place_action (program.member (plain_place place.now) number)) control.old control.new) }
 {
-    control.then_two(Action::Place(place), Action::Member(number))?;
+    push_two(
+        &mut control.actions,
+        Action::Place(place),
+        Action::Member(number),
+    )?;
     Ok(Flow::Goes)
 }
 
@@ -213,7 +256,8 @@ pub fn begin_temporary<'a>(
 ) -> Result<Flow, NoMemory>
     ensures { IfOk result (λ flow. Steps flow (place_action (program.temporary (plain_type ty.now) (plain_expression value.now))) control.old control.new) }
 {
-    control.then_three(
+    push_three(
+        &mut control.actions,
         Action::Expression(value),
         Action::Used,
         Action::Temporary(ty),
@@ -230,7 +274,10 @@ pub fn then_argument<'a>(
 ) -> Result<(), NoMemory>
     ensures { OnOk result (Pushes (argument_action function (plain_arguments rest.now) (reverse (map plain_value values.entry.items))) control.old control.new) }
 {
-    control.then(Action::Argument(function, rest, values))?;
+    push(
+        &mut control.actions,
+        Action::Argument(function, rest, values),
+    )?;
     Ok(())
 }
 
@@ -244,12 +291,16 @@ fn begin_call<'a>(
 {
     match arguments {
         [] => {
-            control.then(Action::Call(function))?;
+            push(&mut control.actions, Action::Call(function))?;
             Ok(Flow::Goes)
         }
         [first, rest @ ..] => {
             then_argument(control, function, rest, Vec::new(alloc))?;
-            control.then_two(Action::Expression(first), Action::Used)?;
+            push_two(
+                &mut control.actions,
+                Action::Expression(first),
+                Action::Used,
+            )?;
             Ok(Flow::Goes)
         }
     }

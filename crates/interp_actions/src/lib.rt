@@ -9,7 +9,7 @@ mod expressions;
 mod places;
 
 pub use actions::{Action, Ending, Flow, Frame, Initialiser, Operand, Turns};
-pub use control::{Control, begin_full};
+pub use control::{Control, begin_full, push, push_two};
 pub use evaluation::{
     address, and, branch, choose, convert, falls, not, nothing, or, put_scalar, return_value,
     target, test, to_first_element, truth_value, use_scalar, use_value,

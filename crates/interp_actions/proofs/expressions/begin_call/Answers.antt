@@ -10,8 +10,8 @@ use Rattle.interp_actions.specs.StackLaws.{plain_stacks_finish}
 use Rattle.interp_actions.proofs.ArgumentLemmas.{first_argument}
 use Rattle.interp_actions.proofs.expressions.begin_call.Goals as goal
 
-pub returns-in_ok-then_two-in-len1-up : goal.returns-in_ok-then_two-in-len1-up
-returns-in_ok-then_two-in-len1-up c =
+pub returns-in_ok-push_two-in-len1-up : goal.returns-in_ok-push_two-in-len1-up
+returns-in_ok-push_two-in-len1-up c =
     let es = c.args.arguments.now in
     let f = c.args.function in
     let first = plain_expression c.first-item.result in
@@ -22,12 +22,12 @@ returns-in_ok-then_two-in-len1-up c =
       same = λ p types slots n s.
           let ts = plain_actions types slots (actions_of old) in
           let os = map plain_operand (operands_of old) in
-          plain_stacks_finish p types slots n c.then_two.new.self
+          plain_stacks_finish p types slots n (record c.then_argument.new.control { actions = c.push_two.new.stack })
           (plain.expression_action first ∷ plain.use_action ∷ plain.argument_action f rest [] ∷ ts) os s s
-          (ap (plain_actions types slots) c.in_ok-then_two-in-len1-up.ensures.actions
+          (ap (plain_actions types slots) c.in_ok-push_two-in-len1-up.ensures
           ∙ (ap (λ actions. plain.expression_action first ∷ plain.use_action ∷ actions) (pushed.actions types slots)
           ∙ ap (λ values. plain.expression_action first ∷ plain.use_action ∷ plain.argument_action f rest (reverse (map plain_value values)) ∷ ts) c.new.ensures.items))
-          (ap (map plain_operand) (c.in_ok-then_two-in-len1-up.ensures.operands ∙ pushed.operands))
+          (ap (map plain_operand) pushed.operands)
           refl
           ∙ sym (ap (λ a. finish p (plain.expression_action (call f a) ∷ ts) n (plain_frame types slots) os s) (first_argument es c.first-item.result c.in-len1-up.len_at_least c.first-item.is));
     }

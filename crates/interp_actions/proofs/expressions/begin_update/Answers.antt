@@ -3,4 +3,4 @@ use Rattle.interp_actions.specs.StackLaws.{goes_on}
 use Rattle.interp_actions.proofs.expressions.begin_update.Goals as goal
 
 pub returns : goal.returns
-returns c = goes_on _ _ _ _ _ c.in_ok-then_four.ensures.actions c.then_four.ensures.operands (λ p types slots n s. refl)
+returns c = goes_on _ _ _ _ _ c.in_ok-push_four.ensures refl (λ p types slots n s. refl)
