@@ -14,9 +14,8 @@ use c_types::CType;
 use cond_formula::NoMemory;
 use core_cells::Value;
 use core_meaning::{Definition, Expression, Function, Item};
-use interp_actions::{
-    Action, Ending, Flow, Frame, Operand, push, push_two, put_object, then_argument,
-};
+use interp_actions::{Action, Ending, Flow, Frame, Operand, push, push_two, put_object};
+use interp_expressions::then_argument;
 use std::mem;
 
 impl<'a> Machine<'a> {
