@@ -3,26 +3,13 @@ use Rattle.std.proofs.Common.{◌≡◌, ℕ, zero, suc, ◌≤◌, Bool, true, 
 use Rattle.core_meaning.specs.Memory.{unwritten}
 use Rattle.core_meaning.specs.Values.{at, number, pointer, Value, nothing, scalar, whole}
 use Rattle.core_meaning.specs.Run.{Answer, Ended, Running, Undefined, first_state, answer_at, answer_of, run}
-use Rattle.core_meaning.specs.Growth.{output_of, Extends, GoesOn, RunsGrow, IsDefined, IsReachedBy, ReachingIsTransitive, LargerBoundReaches}
+use Rattle.core_meaning.specs.Growth.{output_of, Extends, GoesOn, RunsGrow, outcome_output, OutcomeGoesOn, PiecesGrow, IsDefined, IsReachedBy, ReachingIsTransitive, LargerBoundReaches}
 use Rattle.c_types.specs.Types.{PlainType}
 use Rattle.core_meaning.specs.Program.{PlainExpression, constant, null_constant, read, address, first_element, convert, binary, logical_not, logical_and, logical_or, choose, assign, update, update_after, call, discard, PlainPlace, slot, global, literal, target, member, temporary, PlainArguments, no_argument, argument, PlainPart, PlainStatement, block, evaluate, selection, loop, break_loop, continue_loop, return_nothing, return_value, PlainItems, no_item, local, statement_item, PlainFunction, defined, built_in, PlainProgram}
 use Rattle.core_meaning.specs.Outcomes.{State, Outcome, Comes, Exits, Stops, Fails, Piece, after, followed_by, ◌>>=◌, given, full}
 use Rattle.core_meaning.specs.Meaning.{Ending, falls, breaks, continues, returns, Frame, make, write_to, end_object, with_slot, Job, body_of, turn, called_function, value_of, place_of, values_of, write_parts, initialise, asks, then_item, ending_of, items_ending, enter, enter_function, after_turn, job_ending, meaning}
 
-abbrev outcome_output : {A : Type 0} → Outcome A → List ℕ
-outcome_output (Comes x s out) = out
-outcome_output (Exits status out) = out
-outcome_output (Stops out) = out
-outcome_output (Fails out) = out
-
--- the second outcome goes on where the bound cut the first off
-abbrev pub Later : {A : Type 0} → Outcome A → Outcome A → Type 0
-Later (Comes x s out) b = b ≡ Comes x s out
-Later (Exits status out) b = b ≡ Exits status out
-Later (Fails out) b = b ≡ Fails out
-Later (Stops out) b = (more : List ℕ) × (outcome_output b ≡ out ++ more)
-
-pub later_same : {A : Type 0} (o : Outcome A) → Later o o
+pub later_same : {A : Type 0} (o : Outcome A) → OutcomeGoesOn o o
 later_same (Comes x s out) = refl
 later_same (Exits status out) = refl
 later_same (Fails out) = refl
@@ -34,7 +21,7 @@ after_output before (Exits status out) = refl
 after_output before (Fails out) = refl
 after_output before (Stops out) = refl
 
-later_after : {A : Type 0} (before : List ℕ) (a b : Outcome A) → Later a b → Later (after before a) (after before b)
+later_after : {A : Type 0} (before : List ℕ) (a b : Outcome A) → OutcomeGoesOn a b → OutcomeGoesOn (after before a) (after before b)
 later_after before (Comes x s out) b h = ap (after before) h
 later_after before (Exits status out) b h = ap (after before) h
 later_after before (Fails out) b h = ap (after before) h
@@ -48,18 +35,18 @@ followed_output (Exits status out) next = ([], sym (append-nil out))
 followed_output (Fails out) next = ([], sym (append-nil out))
 followed_output (Stops out) next = ([], sym (append-nil out))
 
-later_followed : {A B : Type 0} (a b : Outcome A) (f g : A → State → Outcome B) → Later a b → ((x : A) (s : State) → Later (f x s) (g x s)) → Later (followed_by a f) (followed_by b g)
+later_followed : {A B : Type 0} (a b : Outcome A) (f g : A → State → Outcome B) → OutcomeGoesOn a b → ((x : A) (s : State) → OutcomeGoesOn (f x s) (g x s)) → OutcomeGoesOn (followed_by a f) (followed_by b g)
 later_followed (Comes x s out) b f g h k =
-    subst (λ o. Later (after out (f x s)) (followed_by o g)) (sym h) (later_after out (f x s) (g x s) (k x s))
-later_followed (Exits status out) b f g h k = subst (λ o. Later (Exits status out) (followed_by o g)) (sym h) refl
-later_followed (Fails out) b f g h k = subst (λ o. Later (Fails out) (followed_by o g)) (sym h) refl
+    subst (λ o. OutcomeGoesOn (after out (f x s)) (followed_by o g)) (sym h) (later_after out (f x s) (g x s) (k x s))
+later_followed (Exits status out) b f g h k = subst (λ o. OutcomeGoesOn (Exits status out) (followed_by o g)) (sym h) refl
+later_followed (Fails out) b f g h k = subst (λ o. OutcomeGoesOn (Fails out) (followed_by o g)) (sym h) refl
 later_followed (Stops out) b f g h k =
     let more = followed_output b g in
     (h.0 ++ more.0, more.1 ∙ (ap (λ o. o ++ more.0) h.1 ∙ append_assoc out h.0 more.0))
 
 -- the same of pieces, in each state
 pub record Grows {A : Type 0} (f g : State → Outcome A) : Type 0 where
-  pub in_state : (s : State) → Later (f s) (g s)
+  pub in_state : (s : State) → OutcomeGoesOn (f s) (g s)
 
 grows_same : {A : Type 0} (f : State → Outcome A) → Grows f f
 grows_same f = record { in_state = λ s. later_same (f s) }
@@ -200,6 +187,18 @@ meaning_grows p (suc m) (suc n) less job =
     let lower : m ≤ n = omega arith in
     job_grows p (meaning p m) (meaning p n) (meaning_grows p m n lower) job
 
+pub pieces_grow_lem : PiecesGrow
+pieces_grow_lem p m n less =
+    let grows = meaning_grows p m n less in
+    record {
+      values = λ frame e. (value_grows p (meaning p m) (meaning p n) grows frame e).in_state;
+      places = λ frame place. (place_grows p (meaning p m) (meaning p n) grows frame place).in_state;
+      arguments = λ frame es. (values_grow p (meaning p m) (meaning p n) grows frame es).in_state;
+      statements = λ frame s. (ending_grows p (meaning p m) (meaning p n) grows frame s).in_state;
+      items = λ frame items. (items_grow p (meaning p m) (meaning p n) grows frame items).in_state;
+      jobs = λ job. (grows job).in_state;
+    }
+
 -- ---- answers
 
 answer_output : (ending : Ending) (out : List ℕ) → output_of (answer_at ending out) ≡ out
@@ -222,7 +221,7 @@ same_goes_on (Ended out status) = refl
 same_goes_on (Undefined out) = refl
 same_goes_on (Running out) = ([], sym (append-nil out))
 
-goes_on : (a b : Outcome Ending) → Later a b → GoesOn (answer_of a) (answer_of b)
+goes_on : (a b : Outcome Ending) → OutcomeGoesOn a b → GoesOn (answer_of a) (answer_of b)
 goes_on (Comes ending s out) b h =
     subst (λ o. GoesOn (answer_at ending out) (answer_of o)) (sym h) (same_goes_on (answer_at ending out))
 goes_on (Exits status out) b h = ap answer_of h

@@ -1,11 +1,16 @@
 //! Laws of runs, and of judgements. Each function is its contract alone.
-ghost use Rattle.core_meaning.specs.Growth.{RunsGrow, ReachingIsTransitive, LargerBoundReaches};
+ghost use Rattle.core_meaning.specs.Growth.{RunsGrow, PiecesGrow, ReachingIsTransitive, LargerBoundReaches};
 ghost use Rattle.core_meaning.specs.Judgings.{JudgingsListAlike, NoUnitsAreLeftOut};
 
 /// A larger bound keeps the answer of a run that has ended or is undefined, and only lengthens the output of one that the
 /// bound cut off.
 pub fn runs_grow()
     ensures { RunsGrow }
+{}
+
+/// The same of each expression, place, list of arguments, statement, list of items, call and turn of a loop.
+pub fn pieces_grow()
+    ensures { PiecesGrow }
 {}
 
 /// What is reached by an answer is reached by what that answer is reached by.

@@ -12,8 +12,8 @@ mod statements;
 pub use expressions::{Change, Expression, Operation, Place};
 pub use integers::IntegerType;
 pub use laws::{
-    a_larger_bound_reaches, judgings_list_alike, no_units_are_left_out, reaching_is_transitive,
-    runs_grow,
+    a_larger_bound_reaches, judgings_list_alike, no_units_are_left_out, pieces_grow,
+    reaching_is_transitive, runs_grow,
 };
 pub use program::{
     BuiltIn, Constant, ConstantPart, CoreProgram, Definition, Function, Global, Layout,

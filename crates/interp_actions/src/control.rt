@@ -17,90 +17,76 @@ pub struct Control<'a> {
     pub operands: Vec<Operand<'a>>,
 }
 
+/// One more on top of a stack. The only error of these functions is want of memory.
+pub fn push<T: Drop>(stack: &mut Vec<T>, top: T) -> Result<(), NoMemory>
+    ensures { OnOk result (reverse stack.new.items ≡ top ∷ reverse stack.old.items) }
+{
+    stack.push(top)?;
+    Ok(())
+}
+
+/// Two more, the first of which is on top.
+pub fn push_two<T: Drop>(stack: &mut Vec<T>, first: T, second: T) -> Result<(), NoMemory>
+    ensures { OnOk result (reverse stack.new.items ≡ first ∷ second ∷ reverse stack.old.items) }
+{
+    push(stack, second)?;
+    push(stack, first)?;
+    Ok(())
+}
+
+/// Three more, the first of which is on top.
+pub fn push_three<T: Drop>(
+    stack: &mut Vec<T>,
+    first: T,
+    second: T,
+    third: T,
+) -> Result<(), NoMemory>
+    ensures { OnOk result (reverse stack.new.items ≡ first ∷ second ∷ third ∷ reverse stack.old.items) }
+{
+    push_two(stack, second, third)?;
+    push(stack, first)?;
+    Ok(())
+}
+
+/// Four more, the first of which is on top.
+pub fn push_four<T: Drop>(
+    stack: &mut Vec<T>,
+    first: T,
+    second: T,
+    third: T,
+    fourth: T,
+) -> Result<(), NoMemory>
+    ensures { OnOk result (reverse stack.new.items ≡ first ∷ second ∷ third ∷ fourth ∷ reverse stack.old.items) }
+{
+    push_three(stack, second, third, fourth)?;
+    push(stack, first)?;
+    Ok(())
+}
+
+/// Five more, the first of which is on top.
+pub fn push_five<T: Drop>(
+    stack: &mut Vec<T>,
+    first: T,
+    second: T,
+    third: T,
+    fourth: T,
+    fifth: T,
+) -> Result<(), NoMemory>
+    ensures { OnOk result (reverse stack.new.items ≡ first ∷ second ∷ third ∷ fourth ∷ fifth ∷ reverse stack.old.items) }
+{
+    push_four(stack, second, third, fourth, fifth)?;
+    push(stack, first)?;
+    Ok(())
+}
+
 impl<'a> Control<'a> {
-    /// An action more, which is the next one. The only error of these functions is want of memory.
-    pub fn then(&mut self, action: Action<'a>) -> Result<(), NoMemory>
-        ensures actions { OnOk result (actions_of self.new ≡ action.entry ∷ actions_of self.old) }
-        ensures operands { operands_of self.new ≡ operands_of self.old }
-    {
-        self.actions.push(action)?;
-        Ok(())
-    }
-
-    /// Two actions more, the first of which is the next one.
-    pub fn then_two(&mut self, first: Action<'a>, second: Action<'a>) -> Result<(), NoMemory>
-        ensures actions { OnOk result (actions_of self.new ≡ first.entry ∷ second.entry ∷ actions_of self.old) }
-        ensures operands { operands_of self.new ≡ operands_of self.old }
-    {
-        self.then(second)?;
-        self.then(first)?;
-        Ok(())
-    }
-
-    /// Three actions more, the first of which is the next one.
-    pub fn then_three(
-        &mut self,
-        first: Action<'a>,
-        second: Action<'a>,
-        third: Action<'a>,
-    ) -> Result<(), NoMemory>
-        ensures actions { OnOk result (actions_of self.new ≡ first.entry ∷ second.entry ∷ third.entry ∷ actions_of self.old) }
-        ensures operands { operands_of self.new ≡ operands_of self.old }
-    {
-        self.then_two(second, third)?;
-        self.then(first)?;
-        Ok(())
-    }
-
-    /// Four actions more, the first of which is the next one.
-    pub fn then_four(
-        &mut self,
-        first: Action<'a>,
-        second: Action<'a>,
-        third: Action<'a>,
-        fourth: Action<'a>,
-    ) -> Result<(), NoMemory>
-        ensures actions { OnOk result (actions_of self.new ≡ first.entry ∷ second.entry ∷ third.entry ∷ fourth.entry ∷ actions_of self.old) }
-        ensures operands { operands_of self.new ≡ operands_of self.old }
-    {
-        self.then_three(second, third, fourth)?;
-        self.then(first)?;
-        Ok(())
-    }
-
-    /// Five actions more, the first of which is the next one.
-    pub fn then_five(
-        &mut self,
-        first: Action<'a>,
-        second: Action<'a>,
-        third: Action<'a>,
-        fourth: Action<'a>,
-        fifth: Action<'a>,
-    ) -> Result<(), NoMemory>
-        ensures actions { OnOk result (actions_of self.new ≡ first.entry ∷ second.entry ∷ third.entry ∷ fourth.entry ∷ fifth.entry ∷ actions_of self.old) }
-        ensures operands { operands_of self.new ≡ operands_of self.old }
-    {
-        self.then_four(second, third, fourth, fifth)?;
-        self.then(first)?;
-        Ok(())
-    }
-
-    /// An operand more, which is on top.
-    pub fn put(&mut self, operand: Operand<'a>) -> Result<(), NoMemory>
-        ensures actions { actions_of self.new ≡ actions_of self.old }
-        ensures operands { OnOk result (operands_of self.new ≡ operand.entry ∷ operands_of self.old) }
-    {
-        self.operands.push(operand)?;
-        Ok(())
-    }
-
     /// Puts whether a scalar holds as a condition.
     pub fn put_truth_of(&mut self, scalar: Scalar) -> Result<(), NoMemory>
         ensures actions { actions_of self.new ≡ actions_of self.old }
         ensures operands { OnOk result (operands_of self.new ≡ Operand.Truth (truth_of (plain_scalar scalar)) ∷ operands_of self.old) }
     {
         let holds = is_true(&scalar);
-        self.put(Operand::Truth(holds))?;
+        push(&mut self.operands, Operand::Truth(holds))?;
         Ok(())
     }
 
@@ -109,7 +95,7 @@ impl<'a> Control<'a> {
         ensures actions { actions_of self.new ≡ actions_of self.old }
         ensures operands { OnOk result (operands_of self.new ≡ operand.entry ∷ operands_of self.old) }
     {
-        self.put(operand)?;
+        push(&mut self.operands, operand)?;
         Ok(())
     }
 
@@ -178,7 +164,7 @@ impl<'a> Control<'a> {
 fn then_end_full<'a>(control: &mut Control<'a>, outer: Vec<usize>) -> Result<(), NoMemory>
     ensures { OnOk result (Pushes (end_full_action (reverse outer.items)) control.old control.new) }
 {
-    control.then(Action::EndFull(outer))?;
+    push(&mut control.actions, Action::EndFull(outer))?;
     Ok(())
 }
 

@@ -8,7 +8,7 @@ ghost use Rattle.interp_actions.specs.Stacks.{Steps};
 ghost use Rattle.interp_actions.specs.Actions as plain;
 
 use crate::actions::{Action, Ending, Flow, Operand};
-use crate::control::Control;
+use crate::control::{Control, push, push_three};
 use cond_formula::NoMemory;
 use core_cells::{Pointer, Scalar, Value};
 use core_meaning::{Expression, IntegerType, Statement};
@@ -22,11 +22,11 @@ pub fn use_value<'a>(control: &mut Control<'a>) -> Result<Flow, NoMemory>
         None => Ok(Flow::Fails),
         Some(Value::Nothing) => Ok(Flow::Fails),
         Some(Value::Scalar(scalar)) => {
-            control.put(Operand::Value(Value::Scalar(scalar)))?;
+            push(&mut control.operands, Operand::Value(Value::Scalar(scalar)))?;
             Ok(Flow::Goes)
         }
         Some(Value::Whole(cells)) => {
-            control.put(Operand::Value(Value::Whole(cells)))?;
+            push(&mut control.operands, Operand::Value(Value::Whole(cells)))?;
             Ok(Flow::Goes)
         }
     }
@@ -41,7 +41,7 @@ pub fn use_scalar<'a>(control: &mut Control<'a>) -> Result<Flow, NoMemory>
         Some(Value::Nothing) => Ok(Flow::Fails),
         Some(Value::Whole(_)) => Ok(Flow::Fails),
         Some(Value::Scalar(scalar)) => {
-            control.put(Operand::Scalar(scalar))?;
+            push(&mut control.operands, Operand::Scalar(scalar))?;
             Ok(Flow::Goes)
         }
     }
@@ -72,7 +72,7 @@ pub fn target<'a>(control: &mut Control<'a>) -> Result<Flow, NoMemory>
         Some(Value::Whole(_)) => Ok(Flow::Fails),
         Some(Value::Scalar(Scalar::Number(_))) => Ok(Flow::Fails),
         Some(Value::Scalar(Scalar::Pointer(pointer))) => {
-            control.put(Operand::Place(pointer))?;
+            push(&mut control.operands, Operand::Place(pointer))?;
             Ok(Flow::Goes)
         }
     }
@@ -85,7 +85,10 @@ pub fn not<'a>(control: &mut Control<'a>) -> Result<Flow, NoMemory>
     match control.take_truth() {
         None => Ok(Flow::Fails),
         Some(holds) => {
-            control.put(Operand::Value(Value::Scalar(Scalar::Number(i128::from(!holds)))))?;
+            push(
+                &mut control.operands,
+                Operand::Value(Value::Scalar(Scalar::Number(i128::from(!holds)))),
+            )?;
             Ok(Flow::Goes)
         }
     }
@@ -98,7 +101,10 @@ pub fn truth_value<'a>(control: &mut Control<'a>) -> Result<Flow, NoMemory>
     match control.take_truth() {
         None => Ok(Flow::Fails),
         Some(holds) => {
-            control.put(Operand::Value(Value::Scalar(Scalar::Number(i128::from(holds)))))?;
+            push(
+                &mut control.operands,
+                Operand::Value(Value::Scalar(Scalar::Number(i128::from(holds)))),
+            )?;
             Ok(Flow::Goes)
         }
     }
@@ -124,11 +130,17 @@ pub fn and<'a>(control: &mut Control<'a>, right: &'a Expression) -> Result<Flow,
     match control.take_truth() {
         None => Ok(Flow::Fails),
         Some(false) => {
-            control.put(Operand::Value(Value::Scalar(Scalar::Number(0))))?;
+            let zero = Operand::Value(Value::Scalar(Scalar::Number(0)));
+            push(&mut control.operands, zero)?;
             Ok(Flow::Goes)
         }
         Some(true) => {
-            control.then_three(Action::Expression(right), Action::Test, Action::TruthValue)?;
+            push_three(
+                &mut control.actions,
+                Action::Expression(right),
+                Action::Test,
+                Action::TruthValue,
+            )?;
             Ok(Flow::Goes)
         }
     }
@@ -141,11 +153,19 @@ pub fn or<'a>(control: &mut Control<'a>, right: &'a Expression) -> Result<Flow, 
     match control.take_truth() {
         None => Ok(Flow::Fails),
         Some(true) => {
-            control.put(Operand::Value(Value::Scalar(Scalar::Number(1))))?;
+            push(
+                &mut control.operands,
+                Operand::Value(Value::Scalar(Scalar::Number(1))),
+            )?;
             Ok(Flow::Goes)
         }
         Some(false) => {
-            control.then_three(Action::Expression(right), Action::Test, Action::TruthValue)?;
+            push_three(
+                &mut control.actions,
+                Action::Expression(right),
+                Action::Test,
+                Action::TruthValue,
+            )?;
             Ok(Flow::Goes)
         }
     }
@@ -162,11 +182,11 @@ pub fn choose<'a>(
     match control.take_truth() {
         None => Ok(Flow::Fails),
         Some(true) => {
-            control.then(Action::Expression(first))?;
+            push(&mut control.actions, Action::Expression(first))?;
             Ok(Flow::Goes)
         }
         Some(false) => {
-            control.then(Action::Expression(second))?;
+            push(&mut control.actions, Action::Expression(second))?;
             Ok(Flow::Goes)
         }
     }
@@ -179,7 +199,10 @@ pub fn address<'a>(control: &mut Control<'a>) -> Result<Flow, NoMemory>
     match control.take_place() {
         None => Ok(Flow::Fails),
         Some(place) => {
-            control.put(Operand::Value(Value::Scalar(Scalar::Pointer(place))))?;
+            push(
+                &mut control.operands,
+                Operand::Value(Value::Scalar(Scalar::Pointer(place))),
+            )?;
             Ok(Flow::Goes)
         }
     }
@@ -205,7 +228,10 @@ pub fn return_value<'a>(control: &mut Control<'a>) -> Result<Flow, NoMemory>
     match control.take_value() {
         None => Ok(Flow::Fails),
         Some(value) => {
-            control.put(Operand::Ending(Ending::Returns(value)))?;
+            push(
+                &mut control.operands,
+                Operand::Ending(Ending::Returns(value)),
+            )?;
             Ok(Flow::Goes)
         }
     }
@@ -222,11 +248,11 @@ pub fn branch<'a>(
     match control.take_truth() {
         None => Ok(Flow::Fails),
         Some(true) => {
-            control.then(Action::Statement(first))?;
+            push(&mut control.actions, Action::Statement(first))?;
             Ok(Flow::Goes)
         }
         Some(false) => {
-            control.then(Action::Statement(second))?;
+            push(&mut control.actions, Action::Statement(second))?;
             Ok(Flow::Goes)
         }
     }
@@ -253,7 +279,7 @@ pub fn put_scalar<'a>(control: &mut Control<'a>, scalar: Option<Scalar>) -> Resu
     match scalar {
         None => Ok(Flow::Fails),
         Some(scalar) => {
-            control.put(Operand::Value(Value::Scalar(scalar)))?;
+            push(&mut control.operands, Operand::Value(Value::Scalar(scalar)))?;
             Ok(Flow::Goes)
         }
     }
@@ -266,7 +292,10 @@ fn put_pointer<'a>(control: &mut Control<'a>, pointer: Option<Pointer>) -> Resul
     match pointer {
         None => Ok(Flow::Fails),
         Some(pointer) => {
-            control.put(Operand::Value(Value::Scalar(Scalar::Pointer(pointer))))?;
+            push(
+                &mut control.operands,
+                Operand::Value(Value::Scalar(Scalar::Pointer(pointer))),
+            )?;
             Ok(Flow::Goes)
         }
     }

@@ -5,16 +5,12 @@
 mod actions;
 mod control;
 mod evaluation;
-mod expressions;
 mod places;
 
 pub use actions::{Action, Ending, Flow, Frame, Initialiser, Operand, Turns};
-pub use control::{Control, begin_full};
+pub use control::{Control, begin_full, push, push_five, push_four, push_three, push_two};
 pub use evaluation::{
     address, and, branch, choose, convert, falls, not, nothing, or, put_scalar, return_value,
     target, test, to_first_element, truth_value, use_scalar, use_value,
-};
-pub use expressions::{
-    begin_expression, begin_member, begin_target, begin_temporary, then_argument,
 };
 pub use places::{member, operate, put_object, read, update, update_after, write, write_and_put};

@@ -10,7 +10,7 @@ ghost use Rattle.interp_actions.specs.Pieces.{StepsWith, Gives, PutsGiven};
 ghost use Rattle.interp_actions.specs.PieceForms.{write_piece, updated_piece, changed_piece, update_piece};
 
 use crate::actions::{Flow, Operand};
-use crate::control::Control;
+use crate::control::{Control, push};
 use crate::evaluation::put_scalar;
 use cond_formula::NoMemory;
 use core_cells::{Location, Pointer, Scalar, Value};
@@ -27,7 +27,10 @@ pub fn put_object<'a>(
     ensures { IfOk result (λ flow. PutsGiven flow (Some (plain.place_operand (plain_form.at object []))) control.old control.new) }
 {
     let path = Vec::new(alloc);
-    control.put(Operand::Place(Pointer::At(Location { object, path })))?;
+    push(
+        &mut control.operands,
+        Operand::Place(Pointer::At(Location { object, path })),
+    )?;
     Ok(Flow::Goes)
 }
 
@@ -37,7 +40,7 @@ fn put_place<'a>(control: &mut Control<'a>, place: Option<Pointer>) -> Result<Fl
     match place {
         None => Ok(Flow::Fails),
         Some(place) => {
-            control.put(Operand::Place(place))?;
+            push(&mut control.operands, Operand::Place(place))?;
             Ok(Flow::Goes)
         }
     }
@@ -49,7 +52,7 @@ fn put_read<'a>(control: &mut Control<'a>, value: Option<Value<'a>>) -> Result<F
     match value {
         None => Ok(Flow::Fails),
         Some(value) => {
-            control.put(Operand::Value(value))?;
+            push(&mut control.operands, Operand::Value(value))?;
             Ok(Flow::Goes)
         }
     }
@@ -126,7 +129,7 @@ pub fn write_and_put<'a>(
 {
     let done = memory.write(alloc, place, value)?;
     if done {
-        control.put(operand)?;
+        push(&mut control.operands, operand)?;
         Ok(Flow::Goes)
     } else {
         Ok(Flow::Fails)

@@ -7,8 +7,8 @@ use Rattle.core_meaning.specs.Values.{number, pointer, Value, nothing, scalar, w
 use Rattle.core_meaning.specs.Outcomes.{State, Outcome, Comes, Exits, Stops, Fails, followed_by, give, without_temporaries}
 use Rattle.core_meaning.specs.Meaning.{Ending, falls, breaks, continues, returns, body_of, called, called_function, then_item, items_ending, job_ending, meaning}
 use Rattle.core_meaning.specs.Run.{Answer, Ended, Running, Undefined, answer_at, answer_of, first_state, run}
-use Rattle.core_meaning.specs.Growth.{output_of, Extends, IsDefined, IsReachedBy, LargerBoundReaches}
-use Rattle.run_pairs.specs.Correspondences.{Correspondence, Related, RelatedOutcomes, RelatedEndings, output, statement_setting}
+use Rattle.core_meaning.specs.Growth.{Extends, IsDefined, IsReachedBy, LargerBoundReaches, outcome_output, output_of}
+use Rattle.run_pairs.specs.Correspondences.{Correspondence, Related, RelatedOutcomes, RelatedEndings, statement_setting}
 use Rattle.run_pairs.specs.Alike.{before_items, AlikePrograms, RelatedJobs}
 use Rattle.run_pairs.specs.Starts.{first_objects_of}
 use Rattle.run_pairs.specs.Laws.{KeepsRunsWithMoreCalls, KeepsRunsWithFewerCalls, ExtractionRuns, RenamingRuns}
@@ -39,16 +39,16 @@ module _ (p p' : PlainProgram) (functions : ℕ → Option ℕ) (arity : ℕ →
         (after_nothing (called p' later' x.callee vs s₀) ∙
         ap (λ o. called_function p' later' o x.callee vs s₀) x.is_function))) in
         subst (λ o. RelatedOutcomes (statement_setting false held ts us) (RelatedEndings false false) d original o) (sym result)
-        (second_only (statement_setting false held ts us) (RelatedEndings false false) d false refl [] original (output original, refl));
+        (second_only (statement_setting false held ts us) (RelatedEndings false false) d false refl [] original (outcome_output original, refl));
   }
 
-  first_at : (n m : ℕ) → n + n ≤ m → LaterAt p p' functions arity first (Stands p p' functions arity first) alike true n m
+  pub first_at : (n m : ℕ) → n + n ≤ m → LaterAt p p' functions arity first (Stands p p' functions arity first) alike true n m
   first_at n m less = first_laters p p' functions arity first (Stands p p' functions arity first) alike true refl (selected_after p p' functions arity first alike true) n m less
 
-  second_at : (n m : ℕ) → m ≤ n → LaterAt p p' functions arity first (Stands p p' functions arity first) alike false n m
+  pub second_at : (n m : ℕ) → m ≤ n → LaterAt p p' functions arity first (Stands p p' functions arity first) alike false n m
   second_at n m less = second_laters p p' functions arity first (Stands p p' functions arity first) alike false refl selected_stops (selected_after p p' functions arity first alike false) n m less
 
-  selected_second : (n m : ℕ) → m ≤ n → SelectedRelated p p' functions arity first (Stands p p' functions arity first) alike false (meaning p n) (meaning p' m)
+  pub selected_second : (n m : ℕ) → m ≤ n → SelectedRelated p p' functions arity first (Stands p p' functions arity first) alike false (meaning p n) (meaning p' m)
   selected_second n zero less = selected_stops n
   selected_second n (suc m) less = selected_after p p' functions arity first alike false n m (second_at n m (omega (arith, less)))
 
@@ -77,7 +77,7 @@ answer_output (returns (whole cells)) out = refl
 answer_output (returns (scalar (number z))) out = refl
 answer_output (returns (scalar (pointer q))) out = refl
 
-same_output : (o : Outcome Ending) → output_of (answer_of o) ≡ output o
+same_output : (o : Outcome Ending) → output_of (answer_of o) ≡ outcome_output o
 same_output (Comes x s out) = answer_output x out
 same_output (Exits status out) = refl
 same_output (Stops out) = refl

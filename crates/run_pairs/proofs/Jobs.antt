@@ -7,7 +7,8 @@ use Rattle.core_meaning.specs.Program.{PlainStatement, PlainItems, PlainFunction
 use Rattle.core_meaning.specs.Values.{at, Value}
 use Rattle.core_meaning.specs.Outcomes.{Piece}
 use Rattle.core_meaning.specs.Meaning.{Ending, Frame, with_slot, Job, body_of, turn, enter, enter_function, after_turn, job_ending, meaning}
-use Rattle.run_pairs.specs.Correspondences.{Correspondence, Grown, WhereGiven, HeldAside, Setting, output, RelatedPieces, RelatedValueLists, statement_setting, RelatedEndings}
+use Rattle.core_meaning.specs.Growth.{outcome_output}
+use Rattle.run_pairs.specs.Correspondences.{Correspondence, Grown, WhereGiven, HeldAside, Setting, RelatedPieces, RelatedValueLists, statement_setting, RelatedEndings}
 use Rattle.run_pairs.specs.Alike.{Use, Uses, direct, through, elements, unused, AreDistinct, with_use, RelatedFrames, AlikeItems, RelatedJobs, parameter_uses, AlikeFunctions, AlikePrograms}
 use Rattle.run_pairs.proofs.Pieces.{grown_on, first_only, second_only, pieces_then, pieces_give, pieces_given}
 use Rattle.run_pairs.proofs.MemoryPairs.{values_grow, some_same}
@@ -162,13 +163,13 @@ module _ (p p' : PlainProgram) (functions : ℕ → Option ℕ) (arity : ℕ →
   first_stops : first_cut ≡ true → (m : ℕ) → LaterAt 0 m
   first_stops e m held r c g job job' h ts us = record {
     in_states = λ d grown s s' st.
-        first_only (statement_setting first_cut held ts us) (RelatedEndings false r) d true e [] (meaning p' m job' s') (output (meaning p' m job' s'), refl);
+        first_only (statement_setting first_cut held ts us) (RelatedEndings false r) d true e [] (meaning p' m job' s') (outcome_output (meaning p' m job' s'), refl);
   }
 
   second_stops : first_cut ≡ false → (n : ℕ) → LaterAt n 0
   second_stops e n held r c g job job' h ts us = record {
     in_states = λ d grown s s' st.
-        second_only (statement_setting first_cut held ts us) (RelatedEndings false r) d false e [] (meaning p n job s) (output (meaning p n job s), refl);
+        second_only (statement_setting first_cut held ts us) (RelatedEndings false r) d false e [] (meaning p n job s) (outcome_output (meaning p n job s), refl);
   }
 
   -- The result has 2n for the original's n, where what stands for selected statements costs it one.

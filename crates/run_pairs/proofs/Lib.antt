@@ -10,5 +10,7 @@ pub mod Private
 pub mod Embedding
 pub mod Extractions
 pub mod Headline
+pub mod LawOnPieces
 pub mod WorkedPair
+pub mod WorkedTexts
 pub mod WrongPairs

@@ -3,7 +3,8 @@ use Rattle.std.proofs.Common.{◌≡◌, ℕ, Bool, true, false, List, [], ◌++
 use Rattle.std.proofs.lemmas.Bool.{true≢false}
 use Rattle.core_meaning.specs.Memory.{Memory}
 use Rattle.core_meaning.specs.Outcomes.{State, Outcome, Comes, Exits, Stops, Fails, after, followed_by, ◌>>=◌, give, given, memory_now}
-use Rattle.run_pairs.specs.Correspondences.{Correspondence, Grown, WhereGiven, HeldAside, RelatedMemories, Setting, Related, EndsAt, Outcomes, Extends, output, BothCut, FirstCut, SecondCut, RelatedOutcomes, RelatedPieces}
+use Rattle.core_meaning.specs.Growth.{Extends, outcome_output}
+use Rattle.run_pairs.specs.Correspondences.{Correspondence, Grown, WhereGiven, HeldAside, RelatedMemories, Setting, Related, EndsAt, Outcomes, BothCut, FirstCut, SecondCut, RelatedOutcomes, RelatedPieces}
 
 pub same_grown : (c : Correspondence) → Grown c c
 same_grown c = record { keeps = λ j k e. e }
@@ -83,31 +84,31 @@ outcomes_back w R b c g o o' h = outcomes_to w R c w.held w.temps w.temps_grow R
 
 -- ---- one after the other
 
-output_after : {A : Type 0} (before : List ℕ) (o : Outcome A) → output (after before o) ≡ before ++ output o
+output_after : {A : Type 0} (before : List ℕ) (o : Outcome A) → outcome_output (after before o) ≡ before ++ outcome_output o
 output_after before (Comes x s out) = refl
 output_after before (Exits status out) = refl
 output_after before (Stops out) = refl
 output_after before (Fails out) = refl
 
 -- the original's is cut off, and whatever is like this stays so
-cut_first : {A B : Type 0} (cut : Bool) (End : Correspondence → A → State → B → State → Type 0) (c : Correspondence) (b : Bool) → cut ≡ b → (out : List ℕ) (o : Outcome B) → FirstCut b out (output o) → Outcomes cut End c (Stops out) o
+cut_first : {A B : Type 0} (cut : Bool) (End : Correspondence → A → State → B → State → Type 0) (c : Correspondence) (b : Bool) → cut ≡ b → (out : List ℕ) (o : Outcome B) → FirstCut b out (outcome_output o) → Outcomes cut End c (Stops out) o
 cut_first cut End c true e out (Comes y s' out') h = subst (λ b. FirstCut b out out') (sym e) h
 cut_first cut End c true e out (Exits status out') h = subst (λ b. FirstCut b out out') (sym e) h
 cut_first cut End c true e out (Fails out') h = subst (λ b. FirstCut b out out') (sym e) h
 cut_first cut End c true e out (Stops out') h = subst (λ b. BothCut b out out') (sym e) h
 cut_first cut End c false e out o h = absurd h
 
-cut_second : {A B : Type 0} (cut : Bool) (End : Correspondence → A → State → B → State → Type 0) (c : Correspondence) (b : Bool) → cut ≡ b → (out : List ℕ) (o : Outcome A) → SecondCut b (output o) out → Outcomes cut End c o (Stops out)
+cut_second : {A B : Type 0} (cut : Bool) (End : Correspondence → A → State → B → State → Type 0) (c : Correspondence) (b : Bool) → cut ≡ b → (out : List ℕ) (o : Outcome A) → SecondCut b (outcome_output o) out → Outcomes cut End c o (Stops out)
 cut_second cut End c true e out o h = absurd h
 cut_second cut End c false e out' (Comes y s' out) h = subst (λ b. SecondCut b out out') (sym e) h
 cut_second cut End c false e out' (Exits status out) h = subst (λ b. SecondCut b out out') (sym e) h
 cut_second cut End c false e out' (Fails out) h = tt
 cut_second cut End c false e out' (Stops out) h = subst (λ b. BothCut b out out') (sym e) h
 
-pub first_only : {A B : Type 0} (w : Setting) (R : Correspondence → A → B → Type 0) (c : Correspondence) (b : Bool) → w.first_cut ≡ b → (out : List ℕ) (o : Outcome B) → FirstCut b out (output o) → RelatedOutcomes w R c (Stops out) o
+pub first_only : {A B : Type 0} (w : Setting) (R : Correspondence → A → B → Type 0) (c : Correspondence) (b : Bool) → w.first_cut ≡ b → (out : List ℕ) (o : Outcome B) → FirstCut b out (outcome_output o) → RelatedOutcomes w R c (Stops out) o
 first_only w R c b e out o h = cut_first w.first_cut (λ d x s y s'. EndsAt w R d x s y s') c b e out o h
 
-pub second_only : {A B : Type 0} (w : Setting) (R : Correspondence → A → B → Type 0) (c : Correspondence) (b : Bool) → w.first_cut ≡ b → (out : List ℕ) (o : Outcome A) → SecondCut b (output o) out → RelatedOutcomes w R c o (Stops out)
+pub second_only : {A B : Type 0} (w : Setting) (R : Correspondence → A → B → Type 0) (c : Correspondence) (b : Bool) → w.first_cut ≡ b → (out : List ℕ) (o : Outcome A) → SecondCut b (outcome_output o) out → RelatedOutcomes w R c o (Stops out)
 second_only w R c b e out o h = cut_second w.first_cut (λ d x s y s'. EndsAt w R d x s y s') c b e out o h
 
 first_more : (b : Bool) (out longer more : List ℕ) → FirstCut b out longer → FirstCut b out (longer ++ more)
@@ -145,7 +146,7 @@ module _ {A B X Y : Type 0} (cut : Bool) (End : Correspondence → A → State �
       (ends_after cut Then c out (h x s) (k y s') (ends_back cut Then c m.now m.grown (h x s) (k y s') (next m.now m.grown x y s s' m.ends)))
   ends_followed (Comes x s out) (Stops out') r =
       cut_second cut Then c cut refl out' (after out (h x s))
-      (subst (λ o. SecondCut cut o out') (sym (output_after out (h x s))) (second_more cut out' out (output (h x s)) r))
+      (subst (λ o. SecondCut cut o out') (sym (output_after out (h x s))) (second_more cut out' out (outcome_output (h x s)) r))
   ends_followed (Comes x s out) (Exits status out') r = absurd r
   ends_followed (Comes x s out) (Fails out') r = absurd r
   ends_followed (Exits status out) (Exits status' out') r = r
@@ -155,7 +156,7 @@ module _ {A B X Y : Type 0} (cut : Bool) (End : Correspondence → A → State �
   ends_followed (Stops out) (Stops out') r = r
   ends_followed (Stops out) (Comes y s' out') r =
       cut_first cut Then c cut refl out (after out' (k y s'))
-      (subst (λ o. FirstCut cut out o) (sym (output_after out' (k y s'))) (first_more cut out out' (output (k y s')) r))
+      (subst (λ o. FirstCut cut out o) (sym (output_after out' (k y s'))) (first_more cut out out' (outcome_output (k y s')) r))
   ends_followed (Stops out) (Exits status out') r = r
   ends_followed (Stops out) (Fails out') r = r
 

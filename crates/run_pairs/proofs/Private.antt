@@ -1,4 +1,4 @@
--- Correspondence of the result that stand for none, and hold what they were given.
+-- Objects of the result that stand for none, and hold what they were given.
 use Rattle.std.proofs.Common.{◌≡◌, ℕ, suc, ◌≤◌, List, [], ◌⊎◌, inl, inr, refl, sym, ◌∙◌, ap, subst, cond, eqb, ◌&&◌, Some, None, option_map, if◌then◌else◌, arith}
 use Rattle.std.proofs.lemmas.Bool.{cond-true, cond-false, cases_eq, eq-eqb, ne_eqb}
 use Rattle.c_types.specs.Types.{PlainType}

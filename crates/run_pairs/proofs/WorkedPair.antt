@@ -14,12 +14,12 @@ use Rattle.run_pairs.specs.WorkedPairs.{before, behind, WorkedPair}
 use Rattle.run_pairs.proofs.MemoryPairs.{some_same}
 use Rattle.run_pairs.proofs.Statements.{direct_of}
 
-abbrev functions : ℕ → Option ℕ
+abbrev pub functions : ℕ → Option ℕ
 functions zero = Some 1
 functions (suc zero) = Some 2
 functions (suc (suc k)) = None
 
-abbrev arity : ℕ → ℕ
+abbrev pub arity : ℕ → ℕ
 arity zero = 0
 arity (suc k) = 1
 
@@ -33,13 +33,13 @@ first = first_objects_of before texts
 abbrev one_slot : Use → Uses
 one_slot u k = cond (eqb k 0) u unused
 
-abbrev through_of : Use → Option ℕ
+abbrev pub through_of : Use → Option ℕ
 through_of (direct k) = None
 through_of (through k) = Some k
 through_of (elements k) = None
 through_of unused = None
 
-abbrev elements_of : Use → Option ℕ
+abbrev pub elements_of : Use → Option ℕ
 elements_of (direct k) = None
 elements_of (through k) = None
 elements_of (elements k) = Some k

@@ -46,17 +46,28 @@ module _ (p p' : PlainProgram) (functions : ℕ → Option ℕ) (arity : ℕ →
       null_constants : AlikeExpressions quiet uses null_constant null_constant
       reads : (a b : PlainPlace) → AlikePlaces quiet uses a b → AlikeExpressions quiet uses (read a) (read b)
       addresses : (a b : PlainPlace) → AlikePlaces quiet uses a b → AlikeExpressions quiet uses (address a) (address b)
-      first_elements : (a b : PlainPlace) → AlikePlaces quiet uses a b → AlikeExpressions quiet uses (first_element a) (first_element b)
-      converts : (t : IntegerType) (a b : PlainExpression) → AlikeExpressions quiet uses a b → AlikeExpressions quiet uses (convert t a) (convert t b)
-      binaries : (op : Operation) (a b x y : PlainExpression) → AlikeExpressions quiet uses a b → AlikeExpressions quiet uses x y → AlikeExpressions quiet uses (binary op a x) (binary op b y)
-      nots : (a b : PlainExpression) → AlikeExpressions quiet uses a b → AlikeExpressions quiet uses (logical_not a) (logical_not b)
-      ands : (a b x y : PlainExpression) → AlikeExpressions quiet uses a b → AlikeExpressions quiet uses x y → AlikeExpressions quiet uses (logical_and a x) (logical_and b y)
-      ors : (a b x y : PlainExpression) → AlikeExpressions quiet uses a b → AlikeExpressions quiet uses x y → AlikeExpressions quiet uses (logical_or a x) (logical_or b y)
-      chooses : (a b x y u v : PlainExpression) → AlikeExpressions quiet uses a b → AlikeExpressions quiet uses x y → AlikeExpressions quiet uses u v → AlikeExpressions quiet uses (choose a x u) (choose b y v)
-      assigns : (a b : PlainPlace) (x y : PlainExpression) → AlikePlaces quiet uses a b → AlikeExpressions quiet uses x y → AlikeExpressions quiet uses (assign a x) (assign b y)
-      updates : (by : Change) (a b : PlainPlace) (x y : PlainExpression) → AlikePlaces quiet uses a b → AlikeExpressions quiet uses x y → AlikeExpressions quiet uses (update by a x) (update by b y)
-      updates_after : (by : Change) (a b : PlainPlace) (x y : PlainExpression) → AlikePlaces quiet uses a b → AlikeExpressions quiet uses x y → AlikeExpressions quiet uses (update_after by a x) (update_after by b y)
-      calls : (f g : ℕ) (a b : PlainArguments) → functions f ≡ Some g → argument_count a ≡ arity f → AlikeArguments quiet uses a b → AlikeExpressions quiet uses (call f a) (call g b)
+      first_elements : (a b : PlainPlace) → AlikePlaces quiet uses a b →
+          AlikeExpressions quiet uses (first_element a) (first_element b)
+      converts : (t : IntegerType) (a b : PlainExpression) → AlikeExpressions quiet uses a b →
+          AlikeExpressions quiet uses (convert t a) (convert t b)
+      binaries : (op : Operation) (a b x y : PlainExpression) → AlikeExpressions quiet uses a b →
+          AlikeExpressions quiet uses x y → AlikeExpressions quiet uses (binary op a x) (binary op b y)
+      nots : (a b : PlainExpression) → AlikeExpressions quiet uses a b →
+          AlikeExpressions quiet uses (logical_not a) (logical_not b)
+      ands : (a b x y : PlainExpression) → AlikeExpressions quiet uses a b → AlikeExpressions quiet uses x y →
+          AlikeExpressions quiet uses (logical_and a x) (logical_and b y)
+      ors : (a b x y : PlainExpression) → AlikeExpressions quiet uses a b → AlikeExpressions quiet uses x y →
+          AlikeExpressions quiet uses (logical_or a x) (logical_or b y)
+      chooses : (a b x y u v : PlainExpression) → AlikeExpressions quiet uses a b → AlikeExpressions quiet uses x y →
+          AlikeExpressions quiet uses u v → AlikeExpressions quiet uses (choose a x u) (choose b y v)
+      assigns : (a b : PlainPlace) (x y : PlainExpression) → AlikePlaces quiet uses a b → AlikeExpressions quiet uses x y →
+          AlikeExpressions quiet uses (assign a x) (assign b y)
+      updates : (by : Change) (a b : PlainPlace) (x y : PlainExpression) → AlikePlaces quiet uses a b →
+          AlikeExpressions quiet uses x y → AlikeExpressions quiet uses (update by a x) (update by b y)
+      updates_after : (by : Change) (a b : PlainPlace) (x y : PlainExpression) → AlikePlaces quiet uses a b →
+          AlikeExpressions quiet uses x y → AlikeExpressions quiet uses (update_after by a x) (update_after by b y)
+      calls : (f g : ℕ) (a b : PlainArguments) → functions f ≡ Some g → argument_count a ≡ arity f →
+          AlikeArguments quiet uses a b → AlikeExpressions quiet uses (call f a) (call g b)
       discards : (a b : PlainExpression) → AlikeExpressions quiet uses a b → AlikeExpressions quiet uses (discard a) (discard b)
       -- a use of a passed array is a read of its parameter
       passed_array : (j k : ℕ) → uses j ≡ elements k → AlikeExpressions quiet uses (first_element (slot j)) (read (slot k))
@@ -64,20 +75,24 @@ module _ (p p' : PlainProgram) (functions : ℕ → Option ℕ) (arity : ℕ →
     pub data AlikePlaces (quiet : Bool) (uses : Uses) : PlainPlace → PlainPlace → Type 0 where
       slots : (j k : ℕ) → uses j ≡ direct k → AlikePlaces quiet uses (slot j) (slot k)
       globals : (j k : ℕ) → first j ≡ Some k → AlikePlaces quiet uses (global j) (global k)
-      literals : (j k : ℕ) → first (length p.globals + j) ≡ Some (length p'.globals + k) → AlikePlaces quiet uses (literal j) (literal k)
+      literals : (j k : ℕ) → first (length p.globals + j) ≡ Some (length p'.globals + k) →
+          AlikePlaces quiet uses (literal j) (literal k)
       targets : (a b : PlainExpression) → AlikeExpressions quiet uses a b → AlikePlaces quiet uses (target a) (target b)
       members : (a b : PlainPlace) (k : ℕ) → AlikePlaces quiet uses a b → AlikePlaces quiet uses (member a k) (member b k)
-      temporaries : (t : PlainType) (a b : PlainExpression) → quiet ≡ false → AlikeExpressions quiet uses a b → AlikePlaces quiet uses (temporary t a) (temporary t b)
+      temporaries : (t : PlainType) (a b : PlainExpression) → quiet ≡ false → AlikeExpressions quiet uses a b →
+          AlikePlaces quiet uses (temporary t a) (temporary t b)
       -- a use of a passed variable is a target through a parameter
       passed : (j k : ℕ) → uses j ≡ through k → AlikePlaces quiet uses (slot j) (target (read (slot k)))
 
     pub data AlikeArguments (quiet : Bool) (uses : Uses) : PlainArguments → PlainArguments → Type 0 where
       no_arguments : AlikeArguments quiet uses no_argument no_argument
-      arguments : (a b : PlainExpression) (x y : PlainArguments) → AlikeExpressions quiet uses a b → AlikeArguments quiet uses x y → AlikeArguments quiet uses (argument a x) (argument b y)
+      arguments : (a b : PlainExpression) (x y : PlainArguments) → AlikeExpressions quiet uses a b →
+          AlikeArguments quiet uses x y → AlikeArguments quiet uses (argument a x) (argument b y)
 
   pub data AlikeParts (quiet : Bool) (uses : Uses) : List PlainPart → List PlainPart → Type 0 where
     no_parts : AlikeParts quiet uses [] []
-    parts : (path : Path) (a b : PlainExpression) (x y : List PlainPart) → AlikeExpressions quiet uses a b → AlikeParts quiet uses x y →
+    parts : (path : Path) (a b : PlainExpression) (x y : List PlainPart) → AlikeExpressions quiet uses a b →
+        AlikeParts quiet uses x y →
         AlikeParts quiet uses (record { path = path; value = a } ∷ x) (record { path = path; value = b } ∷ y)
 
 -- statements before the items that follow them
@@ -109,26 +124,39 @@ module _ (p p' : PlainProgram) (functions : ℕ → Option ℕ) (arity : ℕ →
 
   mutual
     -- whether what may stand for selected statements occurs, whether a loop is left or continued here, and whether this may return
-    pub data AlikeStatements (types types' : List PlainType) (selects : Bool) : Uses → Bool → Bool → PlainStatement → PlainStatement → Type 0 where
-      blocks : (uses : Uses) (l r : Bool) (a b : PlainItems) → AlikeItems types types' selects uses l r a b → AlikeStatements types types' selects uses l r (block a) (block b)
-      evaluates : (uses : Uses) (l r : Bool) (a b : PlainExpression) → Expressions uses a b → AlikeStatements types types' selects uses l r (evaluate a) (evaluate b)
-      selections : (uses : Uses) (l r : Bool) (a b : PlainExpression) (x y u v : PlainStatement) → Expressions uses a b → AlikeStatements types types' selects uses l r x y → AlikeStatements types types' selects uses l r u v →
+    pub data AlikeStatements (types types' : List PlainType) (selects : Bool) : Uses → Bool → Bool → PlainStatement →
+        PlainStatement → Type 0 where
+      blocks : (uses : Uses) (l r : Bool) (a b : PlainItems) → AlikeItems types types' selects uses l r a b →
+          AlikeStatements types types' selects uses l r (block a) (block b)
+      evaluates : (uses : Uses) (l r : Bool) (a b : PlainExpression) → Expressions uses a b →
+          AlikeStatements types types' selects uses l r (evaluate a) (evaluate b)
+      selections : (uses : Uses) (l r : Bool) (a b : PlainExpression) (x y u v : PlainStatement) → Expressions uses a b →
+          AlikeStatements types types' selects uses l r x y → AlikeStatements types types' selects uses l r u v →
           AlikeStatements types types' selects uses l r (selection a x u) (selection b y v)
-      loops : (uses : Uses) (l r asks : Bool) (a b s t : PlainExpression) (x y : PlainStatement) → Expressions uses a b → Expressions uses s t → AlikeStatements types types' selects uses true r x y →
+      loops : (uses : Uses) (l r asks : Bool) (a b s t : PlainExpression) (x y : PlainStatement) → Expressions uses a b →
+          Expressions uses s t → AlikeStatements types types' selects uses true r x y →
           AlikeStatements types types' selects uses l r (loop asks a s x) (loop asks b t y)
       break_loops : (uses : Uses) (l r : Bool) → l ≡ true → AlikeStatements types types' selects uses l r break_loop break_loop
-      continue_loops : (uses : Uses) (l r : Bool) → l ≡ true → AlikeStatements types types' selects uses l r continue_loop continue_loop
-      returns_nothing : (uses : Uses) (l r : Bool) → r ≡ true → AlikeStatements types types' selects uses l r return_nothing return_nothing
-      returns_value : (uses : Uses) (l r : Bool) (a b : PlainExpression) → r ≡ true → Expressions uses a b → AlikeStatements types types' selects uses l r (return_value a) (return_value b)
+      continue_loops : (uses : Uses) (l r : Bool) → l ≡ true →
+          AlikeStatements types types' selects uses l r continue_loop continue_loop
+      returns_nothing : (uses : Uses) (l r : Bool) → r ≡ true →
+          AlikeStatements types types' selects uses l r return_nothing return_nothing
+      returns_value : (uses : Uses) (l r : Bool) (a b : PlainExpression) → r ≡ true → Expressions uses a b →
+          AlikeStatements types types' selects uses l r (return_value a) (return_value b)
 
-    pub data AlikeItems (types types' : List PlainType) (selects : Bool) : Uses → Bool → Bool → PlainItems → PlainItems → Type 0 where
+    pub data AlikeItems (types types' : List PlainType) (selects : Bool) : Uses → Bool → Bool → PlainItems → PlainItems →
+        Type 0 where
       no_items : (uses : Uses) (l r : Bool) → AlikeItems types types' selects uses l r no_item no_item
-      locals : (uses : Uses) (l r : Bool) (j k : ℕ) (x y : List PlainPart) (a b : PlainItems) → WhereGiven ◌≡◌ (slice_get types j) (slice_get types' k) → AreDistinct (with_use uses j k) →
-          AlikeParts p p' functions arity first false (with_use uses j k) x y → AlikeItems types types' selects (with_use uses j k) l r a b →
+      locals : (uses : Uses) (l r : Bool) (j k : ℕ) (x y : List PlainPart) (a b : PlainItems) →
+          WhereGiven ◌≡◌ (slice_get types j) (slice_get types' k) → AreDistinct (with_use uses j k) →
+          AlikeParts p p' functions arity first false (with_use uses j k) x y →
+          AlikeItems types types' selects (with_use uses j k) l r a b →
           AlikeItems types types' selects uses l r (local j x a) (local k y b)
-      statement_items : (uses : Uses) (l r : Bool) (s t : PlainStatement) (a b : PlainItems) → AlikeStatements types types' selects uses l r s t → AlikeItems types types' selects uses l r a b →
+      statement_items : (uses : Uses) (l r : Bool) (s t : PlainStatement) (a b : PlainItems) →
+          AlikeStatements types types' selects uses l r s t → AlikeItems types types' selects uses l r a b →
           AlikeItems types types' selects uses l r (statement_item s a) (statement_item t b)
-      selected : (uses : Uses) (l r : Bool) (ss ts : List PlainStatement) (a b : PlainItems) → selects ≡ true → Stands types types' uses ss ts → AlikeItems types types' selects uses l r a b →
+      selected : (uses : Uses) (l r : Bool) (ss ts : List PlainStatement) (a b : PlainItems) → selects ≡ true →
+          Stands types types' uses ss ts → AlikeItems types types' selects uses l r a b →
           AlikeItems types types' selects uses l r (before_items ss a) (before_items ts b)
 
   -- ---- what costs one
@@ -169,4 +197,5 @@ module _ (p p' : PlainProgram) (functions : ℕ → Option ℕ) (arity : ℕ →
 
   pub record AlikePrograms : Type 0 where
     pub same_structs : p.structs ≡ p'.structs
-    pub alike_functions : (f g : ℕ) → functions f ≡ Some g → WhereGiven (AlikeFunctions (arity f)) (slice_get p.functions f) (slice_get p'.functions g)
+    pub alike_functions : (f g : ℕ) → functions f ≡ Some g →
+        WhereGiven (AlikeFunctions (arity f)) (slice_get p.functions f) (slice_get p'.functions g)

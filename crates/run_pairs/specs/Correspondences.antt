@@ -1,10 +1,11 @@
--- Correspondence of one run and of another that stand for each other, and what is related through them.
-use Rattle.std.specs.Prelude.{◌≡◌, ℕ, suc, ◌≤◌, Bool, true, false, List, [], ◌∷◌, ◌++◌, Option, Some, None, if◌then◌else◌, ⊤}
+-- Objects of one run and of another that stand for each other, and what is related through them.
+use Rattle.std.specs.Prelude.{◌≡◌, ℕ, suc, ◌≤◌, Bool, true, false, List, [], ◌∷◌, Option, Some, None, if◌then◌else◌, ⊤}
 use Rattle.c_types.specs.Types.{PlainType}
 use Rattle.core_meaning.specs.Values.{Path, Pointer, null, at, Scalar, number, pointer, Cells, Value, nothing, scalar, whole, same_path, is_scalar}
 use Rattle.core_meaning.specs.Memory.{Object, Memory, unwritten, fresh}
 use Rattle.core_meaning.specs.Outcomes.{State, Outcome, Comes, Exits, Stops, Fails}
 use Rattle.core_meaning.specs.Meaning.{Ending, falls, breaks, continues, returns}
+use Rattle.core_meaning.specs.Growth.{Extends}
 
 -- the object of the result that stands for an object of the original
 abbrev pub Correspondence : Type 0
@@ -92,15 +93,6 @@ pub record MeetIn {A B : Type 0} (End : Correspondence → A → State → B →
   pub grown : Grown c now
   pub ends : End now x s y s'
 
-abbrev pub Extends : List ℕ → List ℕ → Type 0
-Extends out longer = (more : List ℕ) × (longer ≡ out ++ more)
-
-abbrev pub output : {A : Type 0} → Outcome A → List ℕ
-output (Comes x s out) = out
-output (Exits status out) = out
-output (Stops out) = out
-output (Fails out) = out
-
 abbrev pub BothCut : Bool → List ℕ → List ℕ → Type 0
 BothCut true out out' = Extends out out'
 BothCut false out out' = Extends out' out
@@ -114,7 +106,8 @@ SecondCut true out out' = ⊥
 SecondCut false out out' = Extends out' out
 
 -- the outcomes of two pieces, by what their ends are to be
-abbrev pub Outcomes : {A B : Type 0} → Bool → (Correspondence → A → State → B → State → Type 0) → Correspondence → Outcome A → Outcome B → Type 0
+abbrev pub Outcomes : {A B : Type 0} → Bool → (Correspondence → A → State → B → State → Type 0) → Correspondence → Outcome A →
+    Outcome B → Type 0
 Outcomes cut End c (Fails out) o = ⊤
 Outcomes cut End c (Comes x s out) (Comes y s' out') = (out ≡ out') × MeetIn End c x s y s'
 Outcomes cut End c (Comes x s out) (Stops out') = SecondCut cut out out'
@@ -129,14 +122,12 @@ Outcomes cut End c (Stops out) (Comes y s' out') = FirstCut cut out out'
 Outcomes cut End c (Stops out) (Exits status out') = FirstCut cut out out'
 Outcomes cut End c (Stops out) (Fails out') = FirstCut cut out out'
 
-abbrev pub RelatedOutcomes : {A B : Type 0} → Setting → (Correspondence → A → B → Type 0) → Correspondence → Outcome A → Outcome B → Type 0
+abbrev pub RelatedOutcomes : {A B : Type 0} → Setting → (Correspondence → A → B → Type 0) → Correspondence → Outcome A →
+    Outcome B → Type 0
 RelatedOutcomes w R c o o' = Outcomes w.first_cut (λ d x s y s'. EndsAt w R d x s y s') c o o'
 
 pub record RelatedPieces {A B : Type 0} (w : Setting) (R : Correspondence → A → B → Type 0) (c : Correspondence) (f : State → Outcome A) (g : State → Outcome B) : Type 0 where
   pub in_states : (d : Correspondence) → Grown c d → (s s' : State) → Related w d s s' → RelatedOutcomes w R d (f s) (g s')
-
-abbrev pub GrownOn : Type 0
-GrownOn = (c d e : Correspondence) → Grown c d → Grown d e → Grown c e
 
 -- ---- lists of values and of objects
 

@@ -32,7 +32,8 @@ pub record Extracted (p p' : PlainProgram) (functions : ℕ → Option ℕ) (ari
   pub inner_types : List PlainType
   pub body : PlainItems
   pub is_function : slice_get p'.functions callee ≡ Some (defined inner_types body)
-  pub parameter_types : (k : ℕ) (e : Entry) → slice_get entries k ≡ Some e → (t : PlainType) × (slice_get inner_types k ≡ Some t) × (is_scalar t ≡ true)
+  pub parameter_types : (k : ℕ) (e : Entry) → slice_get entries k ≡ Some e →
+      (t : PlainType) × (slice_get inner_types k ≡ Some t) × (is_scalar t ≡ true)
   pub in_scope : (k : ℕ) (e : Entry) → slice_get entries k ≡ Some e → (j : ℕ) × (uses j ≡ direct (slot_of e))
   pub inner : Uses
   pub distinct : AreDistinct inner

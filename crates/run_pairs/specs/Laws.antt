@@ -1,9 +1,12 @@
 -- What refactorings keep of the runs of a core program (ISO/IEC 9899:2011, 5.1.2.3).
-use Rattle.std.specs.Prelude.{◌≡◌, ℕ, suc, ◌+◌, List, Option, Some}
-use Rattle.core_meaning.specs.Program.{PlainProgram}
+use Rattle.std.specs.Prelude.{◌≡◌, ℕ, suc, ◌+◌, Bool, true, false, List, Option, Some}
+use Rattle.c_types.specs.Types.{PlainType}
+use Rattle.core_meaning.specs.Program.{PlainExpression, PlainStatement, PlainProgram}
+use Rattle.core_meaning.specs.Meaning.{Frame, Job, value_of, ending_of, meaning}
 use Rattle.core_meaning.specs.Run.{run}
 use Rattle.core_meaning.specs.Growth.{IsDefined, IsReachedBy}
-use Rattle.run_pairs.specs.Alike.{AlikePrograms}
+use Rattle.run_pairs.specs.Correspondences.{Correspondence, Grown, HeldAside, RelatedValues, RelatedPieces, RelatedEndings, expression_setting, statement_setting}
+use Rattle.run_pairs.specs.Alike.{Uses, AreDistinct, RelatedFrames, AlikeExpressions, AlikeStatements, RelatedJobs, AlikePrograms}
 use Rattle.run_pairs.specs.Starts.{first_objects_of, AlikeStarts}
 use Rattle.run_pairs.specs.Extraction.{Extracted}
 
@@ -31,8 +34,38 @@ pub record IsExtraction (p p' : PlainProgram) : Type 0 where
   pub alike : AlikePrograms p p' functions arity (first_objects_of p texts) (λ types types' uses ss ts. Extracted p p' functions arity (first_objects_of p texts) types types' uses ss ts)
   pub starts : AlikeStarts p p' texts
 
+-- the selected statements, and the call that stands for them
+abbrev pub Selected : (p p' : PlainProgram) → IsExtraction p p' → List PlainType → List PlainType → Uses → List PlainStatement → List PlainStatement → Type 0
+Selected p p' x types types' uses ss ts = Extracted p p' x.functions x.arity (first_objects_of p x.texts) types types' uses ss ts
+
 abbrev pub ExtractionRuns : Type 0
 ExtractionRuns = (p p' : PlainProgram) → IsExtraction p p' → KeepsRunsWithMoreCalls p p'
+
+-- ---- each piece of an extraction
+
+-- Alike pieces that begin in related states, the original's with so much of the bound left and the result's with so much,
+-- where the bound may cut off the original's alone, or else the result's alone.
+pub record PiecesCorrespond (p p' : PlainProgram) (x : IsExtraction p p') (first_cut : Bool) (n m : ℕ) : Type 0 where
+  pub expressions : (held : HeldAside) (c : Correspondence) → Grown (first_objects_of p x.texts) c →
+      (types types' : List PlainType) (uses : Uses) (a b : PlainExpression) →
+      AlikeExpressions p p' x.functions x.arity (first_objects_of p x.texts) false uses a b →
+      (frame frame' : Frame) → RelatedFrames types types' uses held c frame frame' →
+      RelatedPieces (expression_setting first_cut held) RelatedValues c (value_of p (meaning p n) frame a) (value_of p' (meaning p' m) frame' b)
+  pub statements : (held : HeldAside) (c : Correspondence) → Grown (first_objects_of p x.texts) c →
+      (types types' : List PlainType) (selects : Bool) (uses : Uses) → AreDistinct uses → (in_loop may_return : Bool) (a b : PlainStatement) →
+      AlikeStatements p p' x.functions x.arity (first_objects_of p x.texts) (Selected p p' x) types types' selects uses in_loop may_return a b →
+      (frame frame' : Frame) → RelatedFrames types types' uses held c frame frame' → (ts us : List ℕ) →
+      RelatedPieces (statement_setting first_cut held ts us) (RelatedEndings in_loop may_return) c
+      (ending_of p (meaning p n) frame a) (ending_of p' (meaning p' m) frame' b)
+  -- a call's body, or a turn of a loop with all that follows in that loop
+  pub calls : (held : HeldAside) (c : Correspondence) → Grown (first_objects_of p x.texts) c → (may_return : Bool) (job job' : Job) →
+      RelatedJobs p p' x.functions x.arity (first_objects_of p x.texts) (Selected p p' x) held may_return c job job' → (ts us : List ℕ) →
+      RelatedPieces (statement_setting first_cut held ts us) (RelatedEndings false may_return) c (meaning p n job) (meaning p' m job')
+
+-- The side that may be cut off has n, and the other one 2n + 1.
+abbrev pub ExtractionPieces : Type 0
+ExtractionPieces = (p p' : PlainProgram) (x : IsExtraction p p') (n : ℕ) →
+    PiecesCorrespond p p' x true n (suc (n + n)) × PiecesCorrespond p p' x false (suc (n + n)) n
 
 -- ---- renaming
 

@@ -21,6 +21,7 @@ AlikeGlobals c gs hs = ⊥
 
 pub record AlikeStarts (p p' : PlainProgram) (texts : ℕ → Option ℕ) : Type 0 where
   pub globals : AlikeGlobals (first_objects_of p texts) p.globals p'.globals
-  pub same_texts : (j k : ℕ) → texts j ≡ Some k → (text : List ℕ) × (slice_get p.literals j ≡ Some text) × (slice_get p'.literals k ≡ Some text)
+  pub same_texts : (j k : ℕ) → texts j ≡ Some k →
+      (text : List ℕ) × (slice_get p.literals j ≡ Some text) × (slice_get p'.literals k ≡ Some text)
   -- no two texts stand for one
   pub one : (i j k : ℕ) → texts i ≡ Some k → texts j ≡ Some k → i ≡ j

@@ -1,12 +1,12 @@
 -- Pairs of programs by hand.
-use Rattle.std.specs.Prelude.{ℕ, pos, List, [], ◌∷◌}
-use Rattle.c_types.specs.Types.{int, pointer_to}
+use Rattle.std.specs.Prelude.{ℕ, pos, List, [], ◌∷◌, codes}
+use Rattle.c_types.specs.Types.{char, int, pointer_to}
 use Rattle.c_types.specs.declared.arithmetic.BinaryOp.TheVariants.{Add, Mul}
 use Rattle.core_meaning.specs.declared.integers.IntegerType.TheVariants.{Int}
 use Rattle.core_meaning.specs.declared.expressions.Operation.TheVariants.{Numbers}
-use Rattle.core_meaning.specs.declared.program.BuiltIn.TheVariants.{Putchar, Getchar}
-use Rattle.core_meaning.specs.Values.{number}
-use Rattle.core_meaning.specs.Program.{PlainExpression, constant, read, address, assign, binary, call, slot, global, target, PlainArguments, no_argument, argument, block, evaluate, selection, return_value, PlainItems, no_item, local, statement_item, PlainFunction, defined, built_in, PlainGlobal, PlainProgram}
+use Rattle.core_meaning.specs.declared.program.BuiltIn.TheVariants.{Putchar, Getchar, Puts}
+use Rattle.core_meaning.specs.Values.{part, at, number, pointer}
+use Rattle.core_meaning.specs.Program.{PlainExpression, constant, read, address, first_element, assign, binary, call, slot, global, literal, target, PlainArguments, no_argument, argument, block, evaluate, selection, return_value, PlainItems, no_item, local, statement_item, PlainFunction, defined, built_in, PlainGlobal, PlainProgram}
 use Rattle.run_pairs.specs.Laws.{IsExtraction, KeepsRunsWithMoreCalls, KeepsRunsWithFewerCalls}
 
 -- ---- short forms
@@ -54,6 +54,43 @@ behind = program (
 
 abbrev pub WorkedPair : Type 0
 WorkedPair = IsExtraction before behind
+
+-- ---- an extraction that numbers texts anew
+
+-- char *g = "c";
+abbrev pub text_pointer : PlainGlobal
+text_pointer = record { ty = pointer_to char; parts = record { path = []; value = pointer (at 1 (part 0 ∷ [])) } ∷ [] }
+
+abbrev pub puts_text : ℕ → ℕ → PlainExpression
+puts_text puts k = call puts (one (first_element (literal k)))
+
+-- char *g = "c"; int main(void) { puts("a"); puts("b"); puts(g); return 0; }
+abbrev pub texts_in_order : PlainProgram
+texts_in_order = record {
+  structs = [];
+  functions =
+      defined [] (does (puts_text 1 1) (does (puts_text 1 2) (does (call 1 (one (read (global 0)))) (gives (plain_number 0)))))
+      ∷ built_in Puts ∷ [];
+  globals = text_pointer ∷ [];
+  literals = codes "c" ∷ codes "a" ∷ codes "b" ∷ [];
+  main = 0;
+}
+
+-- char *g = "c"; static void f(void) { puts("b"); } int main(void) { puts("a"); f(); puts(g); return 0; }
+abbrev pub texts_turned : PlainProgram
+texts_turned = record {
+  structs = [];
+  functions =
+      defined [] (does (puts_text 2 1) no_item)
+      ∷ defined [] (does (puts_text 2 2) (does (call 0 no_argument) (does (call 2 (one (read (global 0)))) (gives (plain_number 0)))))
+      ∷ built_in Puts ∷ [];
+  globals = text_pointer ∷ [];
+  literals = codes "c" ∷ codes "b" ∷ codes "a" ∷ [];
+  main = 1;
+}
+
+abbrev pub WorkedTexts : Type 0
+WorkedTexts = IsExtraction texts_in_order texts_turned
 
 -- ---- an inlining
 

@@ -2,8 +2,14 @@
 //! 6.2.4, 6.5.2.2). The relations are definitions, in `specs/`; the laws are the contracts of functions without a body.
 #![tactic(auto)]
 
-ghost use Rattle.run_pairs.specs.Laws.{ExtractionRuns, RenamingRuns};
-ghost use Rattle.run_pairs.specs.WorkedPairs.{WorkedPair, WorkedInlining, WrongPairs};
+ghost use Rattle.run_pairs.specs.Laws.{ExtractionPieces, ExtractionRuns, RenamingRuns};
+ghost use Rattle.run_pairs.specs.WorkedPairs.{WorkedPair, WorkedTexts, WorkedInlining, WrongPairs};
+
+/// Expressions, statements and calls of an extraction that begin in related states end in related ways, where the side that the
+/// bound may cut off has n of it and the other one 2n + 1.
+pub fn extraction_pieces()
+    ensures { ExtractionPieces }
+{}
 
 /// An extraction keeps what runs do: the original's run to n is reached by the result's to 2n + 1, and the result's to n by
 /// the original's to n.
@@ -19,6 +25,11 @@ pub fn renaming_runs()
 /// A pair by hand is an extraction.
 pub fn worked_pair()
     ensures { WorkedPair }
+{}
+
+/// So is one in which texts are numbered anew, and a global points to one of them.
+pub fn worked_texts()
+    ensures { WorkedTexts }
 {}
 
 /// A pair by hand, in which a call is inlined, keeps its runs for every input and bound.

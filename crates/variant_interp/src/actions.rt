@@ -8,10 +8,11 @@ use crate::machine::Machine;
 use cond_formula::NoMemory;
 use core_meaning::{Change, Expression, IntegerType, Operation, Statement};
 use interp_actions::{
-    Flow, address, and, begin_expression, branch, choose, convert, falls, member, not, nothing,
-    operate, or, read, return_value, target, test, to_first_element, truth_value, update,
-    update_after, use_scalar, use_value, write,
+    Flow, address, and, branch, choose, convert, falls, member, not, nothing, operate, or, read,
+    return_value, target, test, to_first_element, truth_value, update, update_after, use_scalar,
+    use_value, write,
 };
+use interp_expressions::begin_expression;
 
 impl<'a> Machine<'a> {
     /// Evaluates an expression (6.5).

@@ -14,7 +14,8 @@ use c_types::CType;
 use cond_formula::NoMemory;
 use core_cells::Value;
 use core_meaning::{Definition, Expression, Function, Item};
-use interp_actions::{Action, Ending, Flow, Frame, Operand, put_object, then_argument};
+use interp_actions::{Action, Ending, Flow, Frame, Operand, push, push_two, put_object};
+use interp_expressions::then_argument;
 use std::mem;
 
 impl<'a> Machine<'a> {
@@ -105,8 +106,11 @@ impl<'a> Machine<'a> {
             }
             [argument, rest @ ..] => {
                 then_argument(&mut self.control, function, rest, values)?;
-                self.control
-                    .then_two(Action::Expression(argument), Action::Used)?;
+                push_two(
+                    &mut self.control.actions,
+                    Action::Expression(argument),
+                    Action::Used,
+                )?;
                 Ok(Flow::Goes)
             }
         }
@@ -163,7 +167,8 @@ impl<'a> Machine<'a> {
         let inner = frame_of(self.alloc, definition, self.frame.bound - 1)?;
         let caller = mem::replace(&mut self.frame, inner);
         arguments.reverse();
-        self.control.then_two(
+        push_two(
+            &mut self.control.actions,
             Action::Enter(0, arguments, &definition.body),
             Action::Return(caller),
         )?;
@@ -181,7 +186,7 @@ impl<'a> Machine<'a> {
     {
         match values.pop() {
             None => {
-                self.control.then(Action::Items(body))?;
+                push(&mut self.control.actions, Action::Items(body))?;
                 Ok(Flow::Goes)
             }
             Some(value) => {
@@ -226,7 +231,7 @@ impl<'a> Machine<'a> {
         let object = self.declare(slot, ty)?;
         let done = write_whole(&mut self.memory, self.alloc, object, value)?;
         if done {
-            self.control.then(Action::Enter(next, values, body))?;
+            push(&mut self.control.actions, Action::Enter(next, values, body))?;
             Ok(Flow::Goes)
         } else {
             Ok(Flow::Fails)
@@ -243,11 +248,11 @@ impl<'a> Machine<'a> {
             Some(Ending::Breaks) => Ok(Flow::Fails),
             Some(Ending::Continues) => Ok(Flow::Fails),
             Some(Ending::Falls) => {
-                self.control.put(Operand::Value(Value::Nothing))?;
+                push(&mut self.control.operands, Operand::Value(Value::Nothing))?;
                 Ok(Flow::Goes)
             }
             Some(Ending::Returns(value)) => {
-                self.control.put(Operand::Value(value))?;
+                push(&mut self.control.operands, Operand::Value(value))?;
                 Ok(Flow::Goes)
             }
         }

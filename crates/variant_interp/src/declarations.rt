@@ -16,7 +16,7 @@ use c_types::CType;
 use cond_formula::NoMemory;
 use core_cells::Value;
 use core_meaning::{Item, Part, Statement};
-use interp_actions::{Action, Ending, Flow, Initialiser, Operand, begin_full};
+use interp_actions::{Action, Ending, Flow, Initialiser, Operand, begin_full, push, push_two};
 
 impl<'a> Machine<'a> {
     // ---- blocks
@@ -27,7 +27,7 @@ impl<'a> Machine<'a> {
     {
         match items {
             [] => {
-                self.control.put(Operand::Ending(Ending::Falls))?;
+                push(&mut self.control.operands, Operand::Ending(Ending::Falls))?;
                 Ok(Flow::Goes)
             }
             [item, rest @ ..] => {
@@ -54,8 +54,11 @@ impl<'a> Machine<'a> {
     ) -> Result<Flow, NoMemory>
         ensures { IfOk result (λ flow. Does flow (plain.items_action (program_form.statement_item (plain_statement statement.now) (plain_items rest.now))) self.old self.new) }
     {
-        self.control
-            .then_two(Action::Statement(statement), Action::RestOfItems(rest))?;
+        push_two(
+            &mut self.control.actions,
+            Action::Statement(statement),
+            Action::RestOfItems(rest),
+        )?;
         Ok(Flow::Goes)
     }
 
@@ -66,19 +69,25 @@ impl<'a> Machine<'a> {
         match self.control.take_ending() {
             None => Ok(Flow::Fails),
             Some(Ending::Falls) => {
-                self.control.then(Action::Items(rest))?;
+                push(&mut self.control.actions, Action::Items(rest))?;
                 Ok(Flow::Goes)
             }
             Some(Ending::Breaks) => {
-                self.control.put(Operand::Ending(Ending::Breaks))?;
+                push(&mut self.control.operands, Operand::Ending(Ending::Breaks))?;
                 Ok(Flow::Goes)
             }
             Some(Ending::Continues) => {
-                self.control.put(Operand::Ending(Ending::Continues))?;
+                push(
+                    &mut self.control.operands,
+                    Operand::Ending(Ending::Continues),
+                )?;
                 Ok(Flow::Goes)
             }
             Some(Ending::Returns(value)) => {
-                self.control.put(Operand::Ending(Ending::Returns(value)))?;
+                push(
+                    &mut self.control.operands,
+                    Operand::Ending(Ending::Returns(value)),
+                )?;
                 Ok(Flow::Goes)
             }
         }
@@ -109,7 +118,7 @@ impl<'a> Machine<'a> {
         ensures { IfOk result (λ flow. ComesTo flow (declared_outcome slot (plain_type ty.now) (map plain_part parts.now) (plain_items rest.now) self.old) self.new) }
     {
         let object = self.declare(slot as usize, ty)?;
-        self.control.then(Action::Items(rest))?;
+        push(&mut self.control.actions, Action::Items(rest))?;
         let flow = self.initialise(Initialiser { object, ty, parts })?;
         Ok(flow)
     }
@@ -124,7 +133,10 @@ impl<'a> Machine<'a> {
         let object = self.memory.make(self.alloc, ty)?;
         let before = held_at(&self.frame, slot);
         hold(&mut self.frame, slot, Some(object));
-        self.control.then(Action::EndScope(slot, object, before))?;
+        push(
+            &mut self.control.actions,
+            Action::EndScope(slot, object, before),
+        )?;
         Ok(object)
     }
 
@@ -142,7 +154,7 @@ impl<'a> Machine<'a> {
             Some(ending) => {
                 self.memory.end(self.alloc, object);
                 hold(&mut self.frame, slot, before);
-                self.control.put(Operand::Ending(ending))?;
+                push(&mut self.control.operands, Operand::Ending(ending))?;
                 Ok(Flow::Goes)
             }
         }
@@ -170,10 +182,16 @@ impl<'a> Machine<'a> {
     ) -> Result<Flow, NoMemory>
         ensures { IfOk result (λ flow. Does flow (plain.parts_action (plain_initialiser target.entry) (plain_part part.now ∷ map plain_part rest.now)) self.old self.new) }
     {
-        self.control.then(Action::WritePart(target, part, rest))?;
+        push(
+            &mut self.control.actions,
+            Action::WritePart(target, part, rest),
+        )?;
         begin_full(&mut self.control, self.alloc, &mut self.temporaries)?;
-        self.control
-            .then_two(Action::Expression(&part.value), Action::Used)?;
+        push_two(
+            &mut self.control.actions,
+            Action::Expression(&part.value),
+            Action::Used,
+        )?;
         Ok(Flow::Goes)
     }
 

@@ -17,7 +17,7 @@ use crate::machine::Machine;
 use cond_formula::NoMemory;
 use core_meaning::{CoreProgram, Definition, Function};
 use core_memory::Memory;
-use interp_actions::{Action, Control};
+use interp_actions::{Action, Control, push};
 use std::alloc::Global;
 
 /// A run from what stands in memory before `main` begins.
@@ -93,6 +93,6 @@ fn first_control<'a>(alloc: Global, definition: &'a Definition) -> Result<Contro
         actions: Vec::new(alloc),
         operands: Vec::new(alloc),
     };
-    control.then(Action::Items(&definition.body))?;
+    push(&mut control.actions, Action::Items(&definition.body))?;
     Ok(control)
 }

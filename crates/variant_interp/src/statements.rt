@@ -10,7 +10,7 @@ use crate::machine::Machine;
 use cond_formula::NoMemory;
 use core_cells::Value;
 use core_meaning::{Expression, Item, Statement};
-use interp_actions::{Action, Ending, Flow, Operand, Turns, begin_full};
+use interp_actions::{Action, Ending, Flow, Operand, Turns, begin_full, push, push_two};
 
 impl<'a> Machine<'a> {
     /// Begins a statement (6.8).
@@ -38,7 +38,7 @@ impl<'a> Machine<'a> {
     fn begin_block(&mut self, items: &'a [Item]) -> Result<Flow, NoMemory>
         ensures { IfOk result (λ flow. Does flow (plain.statement_action (program_form.block (plain_items items.now))) self.old self.new) }
     {
-        self.control.then(Action::Items(items))?;
+        push(&mut self.control.actions, Action::Items(items))?;
         Ok(Flow::Goes)
     }
 
@@ -50,51 +50,62 @@ impl<'a> Machine<'a> {
     ) -> Result<Flow, NoMemory>
         ensures { IfOk result (λ flow. Does flow (plain.statement_action (program_form.selection (plain_expression condition.now) (plain_statement first.now) (plain_statement second.now))) self.old self.new) }
     {
-        self.control.then(Action::If(first, second))?;
+        push(&mut self.control.actions, Action::If(first, second))?;
         begin_full(&mut self.control, self.alloc, &mut self.temporaries)?;
-        self.control
-            .then_two(Action::Expression(condition), Action::Test)?;
+        push_two(
+            &mut self.control.actions,
+            Action::Expression(condition),
+            Action::Test,
+        )?;
         Ok(Flow::Goes)
     }
 
     fn begin_return_value(&mut self, value: &'a Expression) -> Result<Flow, NoMemory>
         ensures { IfOk result (λ flow. Does flow (plain.statement_action (program_form.return_value (plain_expression value.now))) self.old self.new) }
     {
-        self.control.then(Action::ReturnValue)?;
+        push(&mut self.control.actions, Action::ReturnValue)?;
         begin_full(&mut self.control, self.alloc, &mut self.temporaries)?;
-        self.control
-            .then_two(Action::Expression(value), Action::Used)?;
+        push_two(
+            &mut self.control.actions,
+            Action::Expression(value),
+            Action::Used,
+        )?;
         Ok(Flow::Goes)
     }
 
     fn begin_evaluate(&mut self, expression: &'a Expression) -> Result<Flow, NoMemory>
         ensures { IfOk result (λ flow. Does flow (plain.statement_action (program_form.evaluate (plain_expression expression.now))) self.old self.new) }
     {
-        self.control.then(Action::Falls)?;
+        push(&mut self.control.actions, Action::Falls)?;
         begin_full(&mut self.control, self.alloc, &mut self.temporaries)?;
-        self.control.then(Action::Expression(expression))?;
+        push(&mut self.control.actions, Action::Expression(expression))?;
         Ok(Flow::Goes)
     }
 
     fn begin_break(&mut self) -> Result<Flow, NoMemory>
         ensures { IfOk result (λ flow. Does flow (plain.statement_action program_form.break_loop) self.old self.new) }
     {
-        self.control.put(Operand::Ending(Ending::Breaks))?;
+        push(&mut self.control.operands, Operand::Ending(Ending::Breaks))?;
         Ok(Flow::Goes)
     }
 
     fn begin_continue(&mut self) -> Result<Flow, NoMemory>
         ensures { IfOk result (λ flow. Does flow (plain.statement_action program_form.continue_loop) self.old self.new) }
     {
-        self.control.put(Operand::Ending(Ending::Continues))?;
+        push(
+            &mut self.control.operands,
+            Operand::Ending(Ending::Continues),
+        )?;
         Ok(Flow::Goes)
     }
 
     fn begin_return(&mut self) -> Result<Flow, NoMemory>
         ensures { IfOk result (λ flow. Does flow (plain.statement_action program_form.return_nothing) self.old self.new) }
     {
-        self.control
-            .put(Operand::Ending(Ending::Returns(Value::Nothing)))?;
+        push(
+            &mut self.control.operands,
+            Operand::Ending(Ending::Returns(Value::Nothing)),
+        )?;
         Ok(Flow::Goes)
     }
 
@@ -127,10 +138,13 @@ impl<'a> Machine<'a> {
     fn asks(&mut self, turns: Turns<'a>) -> Result<Flow, NoMemory>
         ensures { IfOk result (λ flow. Does flow (plain.asking_action (plain_turns turns.entry)) self.old self.new) }
     {
-        self.control.then(Action::Turn(turns))?;
+        push(&mut self.control.actions, Action::Turn(turns))?;
         begin_full(&mut self.control, self.alloc, &mut self.temporaries)?;
-        self.control
-            .then_two(Action::Expression(turns.condition), Action::Test)?;
+        push_two(
+            &mut self.control.actions,
+            Action::Expression(turns.condition),
+            Action::Test,
+        )?;
         Ok(Flow::Goes)
     }
 
@@ -158,9 +172,9 @@ impl<'a> Machine<'a> {
     fn begin_step(&mut self, turns: Turns<'a>) -> Result<Flow, NoMemory>
         ensures { IfOk result (λ flow. Does flow (plain.step_action (plain_turns turns.entry)) self.old self.new) }
     {
-        self.control.then(Action::Asks(turns))?;
+        push(&mut self.control.actions, Action::Asks(turns))?;
         begin_full(&mut self.control, self.alloc, &mut self.temporaries)?;
-        self.control.then(Action::Expression(turns.step))?;
+        push(&mut self.control.actions, Action::Expression(turns.step))?;
         Ok(Flow::Goes)
     }
 
@@ -188,8 +202,11 @@ impl<'a> Machine<'a> {
             return Ok(Flow::Stops);
         }
         self.frame.bound -= 1;
-        self.control
-            .then_two(Action::Statement(turns.body), Action::AfterTurn(turns))?;
+        push_two(
+            &mut self.control.actions,
+            Action::Statement(turns.body),
+            Action::AfterTurn(turns),
+        )?;
         Ok(Flow::Goes)
     }
 
@@ -223,7 +240,7 @@ impl<'a> Machine<'a> {
         ensures { IfOk result (λ flow. Does flow (plain.leave_action (plain_turns turns.entry) (plain_ending ending.entry)) self.old self.new) }
     {
         self.frame.bound = turns.bound_behind;
-        self.control.put(Operand::Ending(ending))?;
+        push(&mut self.control.operands, Operand::Ending(ending))?;
         Ok(Flow::Goes)
     }
 }

@@ -11,7 +11,8 @@ use crate::machine::Machine;
 use c_types::CType;
 use cond_formula::NoMemory;
 use core_meaning::{Expression, Place};
-use interp_actions::{Action, Flow, begin_member, begin_target, begin_temporary, put_object};
+use interp_actions::{Action, Flow, put_object};
+use interp_expressions::{begin_member, begin_target, begin_temporary};
 
 impl<'a> Machine<'a> {
     /// Does an action. The only error is want of memory.

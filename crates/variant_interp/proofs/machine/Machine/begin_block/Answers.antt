@@ -3,4 +3,4 @@ use Rattle.variant_interp.proofs.MachineLemmas.{stacks_come}
 use Rattle.variant_interp.proofs.machine.Machine.begin_block.Goals as goal
 
 pub returns : goal.returns
-returns c = stacks_come c.args.self.now c.then.new.self _ _ _ c.in_ok-then.ensures.actions c.then.ensures.operands refl
+returns c = stacks_come c.args.self.now (record c.args.self.now.control { actions = c.push.new.stack }) _ _ _ c.in_ok-push.ensures refl refl

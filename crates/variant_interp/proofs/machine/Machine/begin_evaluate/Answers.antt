@@ -13,11 +13,11 @@ returns c =
     let m = c.args.self.now in
     let p = program_of m in
     ap (after m.output.items)
-    (full_begins p m.frame.types.now m.frame.slots.items m.frame.bound m.control c.then.new.self c.begin_full.new.control c.then-2.new.self
+    (full_begins p m.frame.types.now m.frame.slots.items m.frame.bound m.control (record m.control { actions = c.push.new.stack }) c.begin_full.new.control (record c.begin_full.new.control { actions = c.push-2.new.stack })
     (state_of m) (record (state_of m) { temporaries = reverse c.begin_full.new.temporaries.items }) (record (state_of m) { temporaries = [] })
     (statement_action (evaluate (plain_expression c.args.expression.now))) (expression_action (plain_expression c.args.expression.now) ∷ []) falls_action (end_full_action (reverse m.temporaries.items))
-    (ap (plain_actions m.frame.types.now m.frame.slots.items) c.in_ok-then-2.ensures.actions) c.then-2.ensures.operands
+    (ap (plain_actions m.frame.types.now m.frame.slots.items) c.in_ok-push-2.ensures) refl
     c.in_ok-begin_full.ensures.full
-    (ap (plain_actions m.frame.types.now m.frame.slots.items) c.in_ok-then.ensures.actions) c.then.ensures.operands
+    (ap (plain_actions m.frame.types.now m.frame.slots.items) c.in_ok-push.ensures) refl
     (ap (λ temporaries. record (state_of m) { temporaries = reverse temporaries }) c.in_ok-begin_full.ensures.none)
     (λ ts os. refl))

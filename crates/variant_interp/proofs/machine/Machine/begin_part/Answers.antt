@@ -15,11 +15,11 @@ returns c =
     let x = plain_initialiser c.args.target in
     let left = map plain_part c.args.rest.now in
     ap (after m.output.items)
-    (full_begins p m.frame.types.now m.frame.slots.items m.frame.bound m.control c.then.new.self c.begin_full.new.control c.then_two.new.self
+    (full_begins p m.frame.types.now m.frame.slots.items m.frame.bound m.control (record m.control { actions = c.push.new.stack }) c.begin_full.new.control (record c.begin_full.new.control { actions = c.push_two.new.stack })
     (state_of m) (record (state_of m) { temporaries = reverse c.begin_full.new.temporaries.items }) (record (state_of m) { temporaries = [] })
     (plain.parts_action x (part ∷ left)) (plain.expression_action part.value ∷ plain.use_action ∷ []) (plain.write_part_action x part.path left) (plain.end_full_action (reverse m.temporaries.items))
-    (ap (plain_actions m.frame.types.now m.frame.slots.items) c.in_ok-then_two.ensures.actions) c.then_two.ensures.operands
+    (ap (plain_actions m.frame.types.now m.frame.slots.items) c.in_ok-push_two.ensures) refl
     c.in_ok-begin_full.ensures.full
-    (ap (plain_actions m.frame.types.now m.frame.slots.items) c.in_ok-then.ensures.actions) c.then.ensures.operands
+    (ap (plain_actions m.frame.types.now m.frame.slots.items) c.in_ok-push.ensures) refl
     (ap (λ temporaries. record (state_of m) { temporaries = reverse temporaries }) c.in_ok-begin_full.ensures.none)
     (λ ts os. refl))

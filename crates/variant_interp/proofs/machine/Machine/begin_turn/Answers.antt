@@ -1,4 +1,4 @@
-use Rattle.std.proofs.Common.{◌≡◌, suc, ◌-◌, map, ap, ◌∙◌, arith}
+use Rattle.std.proofs.Common.{◌≡◌, suc, ◌-◌, map, ap, ◌∙◌, arith, refl}
 use Rattle.core_meaning.specs.Outcomes.{after}
 use Rattle.interp_actions.specs.Forms.{plain_turns, plain_actions, plain_operand, plain_frame}
 use Rattle.interp_actions.specs.Stacks.{actions_of, operands_of}
@@ -12,5 +12,5 @@ returns c =
     let m = c.args.self.now in
     let p = program_of m in
     ap (after m.output.items)
-    (stacks_finish p m.frame.types.now m.frame.slots.items (m.frame.bound - 1) c.then_two.new.self _ (operands_of m.control) (state_of m) c.in_ok-then_two.ensures.actions c.then_two.ensures.operands
+    (stacks_finish p m.frame.types.now m.frame.slots.items (m.frame.bound - 1) (record m.control { actions = c.push_two.new.stack }) _ (operands_of m.control) (state_of m) c.in_ok-push_two.ensures refl
     ∙ turn_begins p (plain_turns c.args.turns) (plain_actions m.frame.types.now m.frame.slots.items (actions_of m.control)) m.frame.bound (m.frame.bound - 1) (plain_frame m.frame.types.now m.frame.slots.items) (map plain_operand (operands_of m.control)) (state_of m) one_more)

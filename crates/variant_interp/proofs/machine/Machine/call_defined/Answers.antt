@@ -1,4 +1,4 @@
-use Rattle.std.proofs.Common.{◌≡◌, ◌-◌, ◌∷◌, suc, map, reverse, ap, ◌∙◌, arith}
+use Rattle.std.proofs.Common.{◌≡◌, ◌-◌, ◌∷◌, suc, map, reverse, ap, ◌∙◌, arith, refl}
 use Rattle.core_meaning.specs.Plain.{plain_items}
 use Rattle.core_cells.specs.Forms.{plain_value}
 use Rattle.interp_actions.specs.declared.actions.Frame.{Frame}
@@ -19,13 +19,13 @@ returns c = λ f found.
     let behind = actions_of old.control in
     let below = c.if-self-eq0.false in
     let left : old.frame.bound ≡ suc (old.frame.bound - 1) = omega arith in
-    call_begins old c.then_two.new.self inner f (old.frame.bound - 1) (map plain_value values) definition.slots.items (plain_items definition.body.items)
+    call_begins old (record old.control { actions = c.push_two.new.stack }) inner f (old.frame.bound - 1) (map plain_value values) definition.slots.items (plain_items definition.body.items)
     (ap (λ (g : Frame). g.types.now) c.replace-caller.ensures.after ∙ c.in_ok-inner.ensures.types)
     (ap (λ (g : Frame). g.slots.items) c.replace-caller.ensures.after ∙ c.in_ok-inner.ensures.slots)
     (ap (λ (g : Frame). g.bound) c.replace-caller.ensures.after ∙ c.in_ok-inner.ensures.bound)
     left found
-    (ap (plain_actions inner.types.now inner.slots.items) c.in_ok-then_two.ensures.actions
+    (ap (plain_actions inner.types.now inner.slots.items) c.in_ok-push_two.ensures
     ∙ (ap (λ (g : Frame). enter_action 0 (reverse (map plain_value turned)) (plain_items c.deref.result.now) ∷ return_action g.bound (plain_frame g.types.now g.slots.items) ∷ plain_actions g.types.now g.slots.items behind) c.replace-caller.ensures.value
     ∙ (ap (λ vs. enter_action 0 vs (plain_items c.deref.result.now) ∷ return_action old.frame.bound (plain_frame old.frame.types.now old.frame.slots.items) ∷ plain_actions old.frame.types.now old.frame.slots.items behind) (ap (λ xs. reverse (map plain_value xs)) c.reverse.ensures.items ∙ turned_twice values)
     ∙ ap (λ body. enter_action 0 (map plain_value values) (plain_items body) ∷ return_action old.frame.bound (plain_frame old.frame.types.now old.frame.slots.items) ∷ plain_actions old.frame.types.now old.frame.slots.items behind) c.deref.ensures.value)))
-    c.then_two.ensures.operands
+    refl

@@ -1,4 +1,4 @@
-use Rattle.std.proofs.Common.{◌∷◌, add-one, cond, map, reverse, ap, ◌∙◌, Some, None}
+use Rattle.std.proofs.Common.{◌∷◌, add-one, cond, map, reverse, ap, ◌∙◌, Some, None, refl}
 use Rattle.c_types.specs.Types.{plain_type}
 use Rattle.core_meaning.specs.Plain.{plain_items}
 use Rattle.core_cells.specs.Forms.{plain_value}
@@ -9,19 +9,19 @@ use Rattle.variant_interp.specs.Machines.{position_of}
 use Rattle.variant_interp.proofs.PositionLemmas.{entered_done, entered_fails}
 use Rattle.variant_interp.proofs.machine.Machine.enter_slot.Goals as goal
 
-pub returns-in_ok-then : goal.returns-in_ok-then
-returns-in_ok-then c =
+pub returns-in_ok-push : goal.returns-in_ok-push
+returns-in_ok-push c =
     let old = c.args.self.now in
     let middle = c.declare.new.self in
     let held = c.write_whole.new.memory in
     let vs = reverse (map plain_value c.args.values.items) in
     let body = plain_items c.args.body.now in
-    entered_done old middle c.then.new.self held c.args.slot c.in_ok-object.object (plain_type c.args.ty.now) (plain_value c.args.value) vs body
+    entered_done old middle (record middle.control { actions = c.push.new.stack }) held c.args.slot c.in_ok-object.object (plain_type c.args.ty.now) (plain_value c.args.value) vs body
     c.in_ok-object.ensures.declared c.in_ok-object.ensures.number c.write_whole.ensures.structs
     (c.in_ok-done.ensures.written ∙ ap (λ b. cond b (Some (plain_memory held)) None) c.if-done.true)
-    (ap (plain_actions middle.frame.types.now middle.frame.slots.items) c.in_ok-then.ensures.actions
+    (ap (plain_actions middle.frame.types.now middle.frame.slots.items) c.in_ok-push.ensures
     ∙ ap (λ k. enter_action k vs body ∷ (position_of middle).actions) (add-one c.args.slot))
-    c.then.ensures.operands
+    refl
 
 pub returns-else-done : goal.returns-else-done
 returns-else-done c =

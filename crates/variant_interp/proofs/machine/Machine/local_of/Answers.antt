@@ -1,4 +1,4 @@
-use Rattle.std.proofs.Common.{map, ap}
+use Rattle.std.proofs.Common.{map, ap, refl}
 use Rattle.c_types.specs.Types.{plain_type}
 use Rattle.core_meaning.specs.Plain.{plain_items, plain_part}
 use Rattle.interp_actions.specs.Actions.{PlainInitialiser, initialise_action}
@@ -16,6 +16,6 @@ returns c =
     let parts = map plain_part c.args.parts.now in
     let x : PlainInitialiser = record { object = c.in_ok-object.object; ty = t; parts = parts } in
     does_comes c.in_ok-flow.flow (declared_outcome c.args.slot t parts (plain_items c.args.rest.now) old) (initialise_action x)
-    (record middle { control = c.then.new.self }) c.initialise.new.self c.in_ok-flow.ensures
-    (local_begins old middle c.then.new.self c.args.slot x c.args.rest.now c.in_ok-object.ensures.declared c.in_ok-object.ensures.number
-    (ap (plain_actions middle.frame.types.now middle.frame.slots.items) c.in_ok-then.ensures.actions) c.then.ensures.operands)
+    (record middle { control = (record middle.control { actions = c.push.new.stack }) }) c.initialise.new.self c.in_ok-flow.ensures
+    (local_begins old middle (record middle.control { actions = c.push.new.stack }) c.args.slot x c.args.rest.now c.in_ok-object.ensures.declared c.in_ok-object.ensures.number
+    (ap (plain_actions middle.frame.types.now middle.frame.slots.items) c.in_ok-push.ensures) refl)

@@ -23,8 +23,8 @@ returns-in_ok-flow-in-empty c =
     ∙ ap (λ vs. outcome_with (call_action f vs) m) (all_given items)))
     c.in_ok-flow-in-empty.ensures
 
-pub returns-in_ok-then_two-in-len1-up : goal.returns-in_ok-then_two-in-len1-up
-returns-in_ok-then_two-in-len1-up c =
+pub returns-in_ok-push_two-in-len1-up : goal.returns-in_ok-push_two-in-len1-up
+returns-in_ok-push_two-in-len1-up c =
     let m = c.args.self.now in
     let f = c.args.function in
     let es = c.args.arguments.now in
@@ -32,9 +32,9 @@ returns-in_ok-then_two-in-len1-up c =
     let rest = plain_arguments (take (length es - 1) (drop 1 es)) in
     let before = reverse (map plain_value c.args.values.items) in
     let pushed = c.in_ok-then_argument-in-len1-up.ensures in
-    plain_stacks_come m c.then_two.new.self
+    plain_stacks_come m (record c.then_argument.new.control { actions = c.push_two.new.stack })
     (expression_action (plain_expression e) ∷ use_action ∷ argument_action f rest before ∷ plain_actions m.frame.types.now m.frame.slots.items (actions_of m.control)) (operands_in m.control) _
-    (ap (plain_actions m.frame.types.now m.frame.slots.items) c.in_ok-then_two-in-len1-up.ensures.actions
+    (ap (plain_actions m.frame.types.now m.frame.slots.items) c.in_ok-push_two-in-len1-up.ensures
     ∙ ap (λ ts. expression_action (plain_expression e) ∷ use_action ∷ ts) (pushed.actions m.frame.types.now m.frame.slots.items))
-    (ap (map plain_operand) (c.then_two.ensures.operands ∙ pushed.operands))
+    (ap (map plain_operand) pushed.operands)
     (sym (ap (λ xs. outcome_with (arguments_action f (plain_arguments xs) before) m) (first_of es e c.in-len1-up.len_at_least c.argument-item.is)))

@@ -1,6 +1,0 @@
-use Rattle.std.proofs.Common.{refl}
-use Rattle.interp_actions.specs.StackLaws.{goes_on}
-use Rattle.interp_actions.proofs.expressions.begin_or.Goals as goal
-
-pub returns : goal.returns
-returns c = goes_on _ _ _ _ _ c.in_ok-then_three.ensures.actions c.then_three.ensures.operands (λ p types slots n s. refl)

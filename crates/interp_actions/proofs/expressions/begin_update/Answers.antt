@@ -1,6 +1,0 @@
-use Rattle.std.proofs.Common.{refl}
-use Rattle.interp_actions.specs.StackLaws.{goes_on}
-use Rattle.interp_actions.proofs.expressions.begin_update.Goals as goal
-
-pub returns : goal.returns
-returns c = goes_on _ _ _ _ _ c.in_ok-then_four.ensures.actions c.then_four.ensures.operands (λ p types slots n s. refl)

@@ -1,0 +1,6 @@
+use Rattle.std.proofs.Common.{refl}
+use Rattle.interp_actions.specs.StackLaws.{goes_on}
+use Rattle.interp_expressions.proofs.begin_address.Goals as goal
+
+pub returns : goal.returns
+returns c = goes_on _ _ _ _ _ c.in_ok-push_two.ensures refl (λ p types slots n s. refl)
