@@ -11,6 +11,7 @@ use Rattle.project_file.specs.Faults.{Fault}
 use Rattle.project_file.specs.Laws.{Alike}
 use Rattle.command_promises.specs.Courses.{Saying, Deed, says, Agree, IsDecided}
 use Rattle.command_promises.specs.Commands.{IsFit, IsDecidedCommand}
+use Rattle.command_promises.proofs.Leading.{one_saying}
 use Rattle.command_promises.proofs.Fitting.{tells_fits}
 use Rattle.command_projects.specs.Faults.{bad_project}
 use Rattle.command_projects.proofs.Decided.{ProjectLaws, project_decided, project_says}
@@ -66,9 +67,6 @@ agree a b alike files c d (inr h) (inr k) = h.1 ∙ sym k.1
 
 one_query : (further : List (List ℕ)) (m n : List ℕ) → Asks further m → Asks further n → m ≡ n
 one_query further m n a b = let e : m ∷ [] ≡ n ∷ [] = sym a.words_are ∙ b.words_are in cc
-
-one_saying : (x y : Saying) → says x ≡ says y → x ≡ y
-one_saying x y e = cc
 
 admits_fits : (names : List (List ℕ)) → IsFit admit (admits names)
 admits_fits names = tells_fits admit 0 (admits names).report (0, omega arith, refl) (inl (omega arith))

@@ -73,9 +73,9 @@ through store [] rest Then more deed h k = leads_by (WithFiles rest (λ sources.
 through store (f ∷ front) rest Then more deed h k = (
   refl,
   leads_by (WithFiles (map (λ (g : PlainFile). g.name) front ++ rest) (λ sources. Then (f ∷ sources)))
-  (λ files. WithFiles (f.name ∷ (map (λ (g : PlainFile). g.name) front ++ rest)) Then (f ∷ files))
-  (λ files deed x. inr ((all_head (IsRead store) f front h).short, x)) (front ++ more) deed
-  (through store front rest (λ sources. Then (f ∷ sources)) more deed (all_tail (IsRead store) f front h) k),
+      (λ files. WithFiles (f.name ∷ (map (λ (g : PlainFile). g.name) front ++ rest)) Then (f ∷ files))
+      (λ files deed x. inr ((all_head (IsRead store) f front h).short, x)) (front ++ more) deed
+      (through store front rest (λ sources. Then (f ∷ sources)) more deed (all_tail (IsRead store) f front h) k),
 )
 
 append_none : {X : Type 0} (xs : List X) → xs ++ [] ≡ xs

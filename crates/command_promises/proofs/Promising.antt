@@ -308,7 +308,6 @@ module _ {Which : Type 0} (commands : Which → Command) (words : List (List ℕ
       by (unwritten what) h p = absurd (h.some (ap (λ (x : Saying). x.written) (only_usage h.comes.files what h.comes.leads)))
       by memory_ended h p = (2, omega arith, sym p)
 
-
 -- what the words ask of one command, they ask of never other
 module _ {Which : Type 0} (commands : Which → Command) (decided : (which : Which) → IsDecidedCommand (commands which)) (apart : (a b : Which) → (commands a).word ≡ (commands b).word → a ≡ b) (words : List (List ℕ)) where
   same_further : (x y : List ℕ) (xs ys : List (List ℕ)) → x ∷ xs ≡ y ∷ ys → (x ≡ y) × (xs ≡ ys)

@@ -6,7 +6,7 @@ use Rattle.quick_form.specs.Renaming.{renamed_bytes}
 use Rattle.quick_form.specs.Quick.{Takes, KeepsBehaviour, RenamingKeepsBehaviour}
 use Rattle.command_promises.specs.Courses.{Saying, Deed, reads, says, Leads, IsThere, Comes}
 use Rattle.command_promises.specs.Writing.{PutsAll}
-use Rattle.command_promises.proofs.Leading.{all_head}
+use Rattle.command_promises.proofs.Leading.{one_saying, all_head}
 use Rattle.command_quick.specs.Words.{Renaming, target, Asks}
 use Rattle.command_quick.specs.Quick.{renames, refuses_at, OfBytes, Does}
 use Rattle.command_quick.specs.Behaviour.{BehaviourIsKept}
@@ -14,9 +14,6 @@ use Rattle.command_quick.proofs.Folders.{new_name_is_name}
 
 some_is : (x y : List ℕ) → ◌≡◌ {A = Option (List ℕ)} (Some x) (Some y) → x ≡ y
 some_is x y e = cc
-
-one_saying : (x y : Saying) → says x ≡ says y → x ≡ y
-one_saying x y e = cc
 
 never : (x : Saying) (name : List ℕ) → says x ≡ reads name → ⊥
 never x name e = cc

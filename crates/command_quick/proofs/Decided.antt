@@ -4,6 +4,7 @@ use Rattle.text_edits.specs.Files.{PlainFile}
 use Rattle.quick_form.specs.Places.{PlacesAreOne, TakenHasNoPlace}
 use Rattle.command_promises.specs.Courses.{Saying, Deed, reads, says, IsDecided}
 use Rattle.command_promises.specs.Commands.{IsFit, IsDecidedCommand}
+use Rattle.command_promises.proofs.Leading.{one_saying}
 use Rattle.command_promises.proofs.Fitting.{is_own, tells_fits}
 use Rattle.command_quick.specs.Words.{Renaming, Asks}
 use Rattle.command_quick.specs.Quick.{renames, refuses_at, OfBytes, Does, quick}
@@ -31,9 +32,6 @@ module _ (places : PlacesAreOne) (none : TakenHasNoPlace) where
   one_deed : (r : Renaming) → IsDecided (Does r)
   one_deed r [] a b h k = h ∙ sym k
   one_deed r (source ∷ files) a b h k = one_of_bytes r source.bytes a b h k
-
-  one_saying : (x y : Saying) → says x ≡ says y → x ≡ y
-  one_saying x y e = cc
 
   renames_fits : (r : Renaming) (bytes : List ℕ) → IsFit quick (renames r bytes)
   renames_fits r bytes = record { listed = (0, omega arith, refl); own = is_own 0 (inl (omega arith)); writes = inr (refl, refl) }

@@ -1,5 +1,5 @@
 -- Names and folders in the words of `quick`.
-use Rattle.std.proofs.Common.{◌≡◌, ◌≢◌, ◌↔◌, ℕ, ◌+◌, length, take, eqb, IsTrue, Some, None, Bor, ◌++◌, Bool, true, false, not, ◌&&◌, List, ◌∷◌, refl, sym, ◌∙◌, codes, drop, nat_eq}
+use Rattle.std.proofs.Common.{◌≡◌, ◌≢◌, ◌↔◌, ℕ, ◌+◌, length, take, eqb, IsTrue, Some, None, Bor, ◌++◌, Bool, true, false, not, ◌&&◌, List, ◌∷◌, refl, sym, ap, ◌∙◌, codes, drop, nat_eq}
 use Rattle.std.proofs.lemmas.Bool.{or_parts}
 use Rattle.std.proofs.lemmas.Bool.Decides.{Decides-eqb}
 use Rattle.std.proofs.lemmas.List.{append_cancel_left}

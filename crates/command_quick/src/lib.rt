@@ -7,8 +7,8 @@ ghost use Rattle.command_quick.specs.Quick as spec;
 mod renaming;
 mod words;
 
-pub use renaming::quick;
 use quick_form::{places_are_one, taken_has_no_place};
+pub use renaming::quick;
 
 /// The words ask for one renaming at most, and one thing is done then.
 pub fn quick_is_decided()

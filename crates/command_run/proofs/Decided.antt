@@ -14,6 +14,7 @@ use Rattle.project_program.specs.Laws.{ProgramsAreOne}
 use Rattle.command_promises.specs.Courses.{Saying, Deed, says, Course, Agree, IsDecided}
 use Rattle.command_promises.specs.Sayings.{tells, usage}
 use Rattle.command_promises.specs.Commands.{IsFit, IsDecidedCommand}
+use Rattle.command_promises.proofs.Leading.{one_saying}
 use Rattle.command_promises.proofs.Fitting.{tells_fits}
 use Rattle.command_projects.specs.Faults.{bad_project}
 use Rattle.command_projects.specs.Products.{on_by, are_features, admits_named}
@@ -72,9 +73,6 @@ module _ (laws : ProgramsAreOne) where
 
 abbrev Fit : Saying → Type 0
 Fit = IsFit run
-
-one_saying : (x y : Saying) → says x ≡ says y → x ≡ y
-one_saying x y e = cc
 
 useless_fits : Fit usage
 useless_fits = tells_fits run 2 usage.report (1, omega arith, refl) (inl (omega arith))

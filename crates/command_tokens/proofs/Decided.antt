@@ -13,6 +13,7 @@ use Rattle.project_store.specs.Reads.{names_of}
 use Rattle.command_promises.specs.Courses.{Saying, Deed, says, Course, Agree, IsDecided}
 use Rattle.command_promises.specs.Sayings.{tells, usage}
 use Rattle.command_promises.specs.Commands.{IsFit, IsDecidedCommand}
+use Rattle.command_promises.proofs.Leading.{one_saying}
 use Rattle.command_promises.proofs.Fitting.{tells_fits}
 use Rattle.command_projects.specs.Faults.{bad_project}
 use Rattle.command_projects.specs.Names.{names_in}
@@ -64,7 +65,7 @@ module _ (one : OutcomesAreOne) where
       let sources : sources_of a files on_a ≡ sources_of b files on_b = same_sources_of a b files on_a like ∙ ap (λ on. sources_of b files on) on in
       let number : file_of a x.number ≡ file_of b y.number = ap (λ hs. length hs + x.number) like.headers ∙ ap (λ n. length b.headers + n) unit.number in
       let inner = unless_agree (value on_a x.unit.when) (value on_b y.unit.when) not_present (OfSources (sources_of a files on_a) (file_of a x.number)) (OfSources (sources_of b files on_b) (file_of b y.number)) present
-          (sources_agree (sources_of a files on_a) (sources_of b files on_b) (file_of a x.number) (file_of b y.number) sources number) in
+      (sources_agree (sources_of a files on_a) (sources_of b files on_b) (file_of a x.number) (file_of b y.number) sources number) in
       unless_agree (admits_named a q.names) (admits_named b q.names) not_admitted
       (Unless (value on_a x.unit.when) not_present (OfSources (sources_of a files on_a) (file_of a x.number)))
       (Unless (value on_b y.unit.when) not_present (OfSources (sources_of b files on_b) (file_of b y.number))) admitted inner
@@ -81,9 +82,6 @@ module _ (one : OutcomesAreOne) where
 
 abbrev Fit : Saying → Type 0
 Fit = IsFit tokens
-
-one_saying : (x y : Saying) → says x ≡ says y → x ≡ y
-one_saying x y e = cc
 
 useless_fits : Fit usage
 useless_fits = tells_fits tokens 2 usage.report (1, omega arith, refl) (inl (omega arith))

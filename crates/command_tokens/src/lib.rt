@@ -7,9 +7,9 @@ ghost use Rattle.command_tokens.specs.Tokens as spec;
 mod unit;
 mod words;
 
-pub use unit::tokens;
 use plain_pp::outcomes_are_one;
 use project_file::{first_fault_is_one, projects_are_alike, projects_have_no_fault};
+pub use unit::tokens;
 
 /// The words ask for one unit and configuration at most, and one thing is done then.
 pub fn tokens_are_decided()

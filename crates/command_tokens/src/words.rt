@@ -41,7 +41,10 @@ fn tokens_words(words: &[String]) -> Option<(&str, &str, &str)>
 }
 
 /// The unit and configuration whose tokens the words ask for, if they ask for some.
-pub(crate) fn asked_tokens(alloc: Global, words: &[String]) -> Result<Option<UnitWords<'_>>, AllocError>
+pub(crate) fn asked_tokens(
+    alloc: Global,
+    words: &[String],
+) -> Result<Option<UnitWords<'_>>, AllocError>
     ensures { IfOk result (λ query. MatchOption query
         ((q : spec.UnitQuery) → spec.Asks (map string_bytes words.now) q → ⊥)
         (λ query. spec.Asks (map string_bytes words.now) (query_of query))) }

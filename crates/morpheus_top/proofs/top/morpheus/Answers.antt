@@ -83,5 +83,5 @@ returns-clause-behaviour g c =
     let K = g.K.Sink in
     let words = map string_bytes c.args.words.now in
     λ zero_is t r asked.
-        behaves c.renaming_keeps_behaviour.ensures words r asked (S.state c.args.store.now) (S.state c.serve.new.store) (K.state c.args.out.now) (K.state c.serve.new.out) c.serve.result t zero_is
-        (promises_of commands (all_decided c.quick_is_decided.ensures c.admit_is_decided.ensures c.tokens_are_decided.ensures c.run_is_decided.ensures) apart words (S.state c.args.store.now) (S.state c.serve.new.store) (K.state c.args.out.now) (K.state c.serve.new.out) c.serve.result c.serve.ensures Quick r asked)
+    behaves c.renaming_keeps_behaviour.ensures words r asked (S.state c.args.store.now) (S.state c.serve.new.store) (K.state c.args.out.now) (K.state c.serve.new.out) c.serve.result t zero_is
+    (promises_of commands (all_decided c.quick_is_decided.ensures c.admit_is_decided.ensures c.tokens_are_decided.ensures c.run_is_decided.ensures) apart words (S.state c.args.store.now) (S.state c.serve.new.store) (K.state c.args.out.now) (K.state c.serve.new.out) c.serve.result c.serve.ensures Quick r asked)
