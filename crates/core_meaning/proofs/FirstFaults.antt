@@ -300,10 +300,10 @@ suspect linked f link.Undefined name h =
 suspect linked f link.Duplicate name h =
     let twice : Unit → Bool = λ unit. nat_le 2 (count_in_unit unit name) in
     let found : Among (all_names linked.units f) name = duplicate_by (nat_le 2 (count_external linked.units name)) (list_any twice linked.units) (is_some (built_in_named name)) (nat_le 1 (count_external linked.units name)) (Among (all_names linked.units f) name)
-            (λ is. counted_among name linked.units f (two_at_least (count_external linked.units name) is))
-            (λ is. among_units twice name (λ u g e. count_of_unit u g name e) linked.units f is)
-            (λ is. counted_among name linked.units f (one_at_least (count_external linked.units name) is))
-            (true_of (is_duplicate linked.units name) h) in
+    (λ is. counted_among name linked.units f (two_at_least (count_external linked.units name) is))
+    (λ is. among_units twice name (λ u g e. count_of_unit u g name e) linked.units f is)
+    (λ is. counted_among name linked.units f (one_at_least (count_external linked.units name) is))
+    (true_of (is_duplicate linked.units name) h) in
     inr (among_right built_in_names (all_names linked.units f) name found)
 suspect linked f link.Incompatible name h = declared_suspect name h.first linked.units f h.declares_first.0 h.declares_first.1 h.declares_first.2
 
