@@ -1,15 +1,15 @@
 -- What the statements of the quick form are judged to be.
-use Rattle.std.proofs.Common.{◌≡◌, inr, ℕ, ◌==◌, pos, Bool, true, List, [], ◌∷◌, length, codes, refl, ◌∙◌, ap, Option, Some, None}
+use Rattle.std.proofs.Common.{◌≡◌, inr, ℕ, pos, Bool, true, List, [], ◌∷◌, codes, refl, ◌∙◌, ap, Option, Some, None}
 use Rattle.c_text.specs.Token.{PlainToken}
 use Rattle.c_types.specs.Types.{int}
 use Rattle.c_tree.specs.declared.kinds.Kind.TheVariants as kind
 use Rattle.c_tree.specs.Trees.{PlainTree, PlainTrees, leaf, node, none, more, trees}
-use Rattle.core_meaning.specs.declared.refusals.TypeKind.TheVariants.{ArgumentCount, BadOperand, Misplaced}
+use Rattle.core_meaning.specs.declared.refusals.TypeKind.TheVariants.{BadOperand, Misplaced}
 use Rattle.core_meaning.specs.Program.{PlainExpression, constant, assign, call, global, no_argument, argument, PlainStatement, block, evaluate, loop, return_value, PlainItems, no_item, statement_item}
 use Rattle.core_meaning.specs.Checking.{file_entity, Checked, fine, refused, broken, ◌>>=◌, give, uses, unless_so, found_or}
 use Rattle.core_meaning.specs.Entities.{Scope, Signature, no_entry}
 use Rattle.core_meaning.specs.Typing.{Operand, Typed, fits_into, typed, of_value, of_object, loaded}
-use Rattle.core_meaning.specs.Expressions.{Callee, callee, callee_unless_local, callee_of_name, assigned_place, assignment, judged, valued, judged_condition, condition_value, first_token, passed, judged_arguments, count_entries, result_of_call}
+use Rattle.core_meaning.specs.Expressions.{Callee, callee, callee_unless_local, callee_of_name, written_place, assignment, judged, valued, judged_condition, condition_value, first_token, passed, judged_arguments, count_entries, may_be_called, result_of_call, unused}
 use Rattle.core_meaning.specs.Statements.{Around, Judged, JudgedItems, judged_as, items_as, loop_of, nothing_to_do, expression_statement, returned, judged_statement, judged_items}
 use Rattle.quick_form.specs.Symbols.{Putchar, Name, Mark, Return}
 use Rattle.quick_form.specs.Form.{Term, operand_symbol}
@@ -45,7 +45,7 @@ core_from broken = no_item
 abbrev return_of : PlainToken → Typed → Checked PlainStatement
 return_of token x = found_or (fits_into int x) Misplaced token >>= (λ core. give (return_value core))
 
-returned_tree : (scope : Scope) (b : Bool) (token : PlainToken) (tree : PlainTree) → IsSumTree tree → returned (inside scope b) token tree ≡ (valued scope tree >>= return_of token)
+returned_tree : (scope : Scope) (b : Bool) (token : PlainToken) (tree : PlainTree) → IsSumTree tree → returned (inside scope b) token tree ≡ (unless_so true Misplaced token >>= (λ placed. valued scope tree >>= return_of token))
 returned_tree scope b token (leaf word) h = refl
 returned_tree scope b token (node kind.Sum parts) h = refl
 returned_tree scope b token (node other parts) h = absurd h
@@ -55,13 +55,13 @@ module _ (Known : List ℕ → Type 0) (scope : Scope) (b : Bool) where
   U = Usable Known
 
   expression_judged : (tree : PlainTree) (token : PlainToken) (core : PlainExpression) (end : PlainTree)
-      → expression_statement scope tree ≡ (valued scope tree >>= (λ x. give (evaluate x.core)))
+      → expression_statement scope tree ≡ (valued scope tree >>= (λ x. give (evaluate (unused x.core))))
       → Judges U (judged scope tree) (of_value token int core)
-      → Judges U (judged_statement (inside scope b) [] (node kind.ExpressionStatement (trees (tree ∷ end ∷ [])))) (judged_as [] (evaluate core))
+      → Judges U (judged_statement (inside scope b) [] (node kind.ExpressionStatement (trees (tree ∷ end ∷ [])))) (judged_as [] (evaluate (unused core)))
   expression_judged tree token core end e h =
-      judges_then U (expression_statement scope tree) (evaluate core) (λ c. give (judged_as [] c)) (judged_as [] (evaluate core))
-      (judges_same U (expression_statement scope tree) (valued scope tree >>= (λ x. give (evaluate x.core))) (evaluate core) e
-      (judges_then U (valued scope tree) (typed int core) (λ x. give (evaluate x.core)) (evaluate core)
+      judges_then U (expression_statement scope tree) (evaluate (unused core)) (λ c. give (judged_as [] c)) (judged_as [] (evaluate (unused core)))
+      (judges_same U (expression_statement scope tree) (valued scope tree >>= (λ x. give (evaluate (unused x.core)))) (evaluate (unused core)) e
+      (judges_then U (valued scope tree) (typed int core) (λ x. give (evaluate (unused x.core))) (evaluate (unused core))
       (judges_then U (judged scope tree) (of_value token int core) (loaded scope) (typed int core) h (judges_now U _ _ refl)) (judges_now U _ _ refl)))
       (judges_now U _ _ refl)
 
@@ -81,9 +81,9 @@ module _ (Known : List ℕ → Type 0) (scope : Scope) (b : Bool) where
         let place = global (at Known scope sees x) in
         let left = of_object (token_of (Name x) (seats 0)) int place true in
         expression_judged (node kind.Assignment (trees (word (Name x) (seats 0) ∷ word (Mark 61) (seats 1) ∷ sum.tree ∷ []))) sign (assign place core) (word (Mark 59) (sum.seats 0)) refl
-        (judges_then U (judged scope (word (Name x) (seats 0))) left (λ l. assigned_place l sign >>= (λ q. judged scope sum.tree >>= (λ r. loaded scope r >>= assignment scope sign l q))) (of_value sign int (assign place core))
+        (judges_then U (judged scope (word (Name x) (seats 0))) left (λ l. written_place scope sign l >>= (λ q. judged scope sum.tree >>= (λ r. loaded scope r >>= assignment scope sign l q))) (of_value sign int (assign place core))
         (name_is Known scope sees x (seats 0) h)
-        (judges_then U (assigned_place left sign) place (λ q. judged scope sum.tree >>= (λ r. loaded scope r >>= assignment scope sign left q)) (of_value sign int (assign place core)) (judges_now U _ _ refl)
+        (judges_then U (written_place scope sign left) place (λ q. judged scope sum.tree >>= (λ r. loaded scope r >>= assignment scope sign left q)) (of_value sign int (assign place core)) (judges_now U _ _ refl)
         (then_value_in Known scope sum.tree core (assignment scope sign left place) (of_value sign int (assign place core)) k (judges_now U _ _ refl))))
 
     arguments_judged : (tree : PlainTree) (core : PlainExpression) (bracket : PlainToken) → IsInt Known scope tree core
@@ -102,9 +102,9 @@ module _ (Known : List ℕ → Type 0) (scope : Scope) (b : Bool) where
     call_of first parts bracket found = elim found as (λ x. Checked Operand) [
       | Some f ↦ (do
         bound ← uses (file_entity f.name.text)
-        enough ← unless_so (count_entries parts == length f.signature.parameters) ArgumentCount bracket
+        callable ← may_be_called scope f.signature (count_entries parts) bracket
         arguments ← judged_arguments scope f.signature.parameters parts bracket
-        result_of_call scope f bracket arguments)
+        give (result_of_call scope f bracket arguments))
       | None ↦ (do
         operand ← judged scope first
         x ← loaded scope operand
@@ -118,19 +118,21 @@ module _ (Known : List ℕ → Type 0) (scope : Scope) (b : Bool) where
         let signature : Signature = record { result = int; parameters = int ∷ [] } in
         let f : Callee = record { name = token_of Putchar (seats 0); signature = signature } in
         let result = of_value bracket int (call (putchar Known scope sees) (argument core no_argument)) in
-        let called : Checked Operand = uses (file_entity (codes "putchar")) >>= (λ bound. unless_so (count_entries (more sum.tree none) == 1) ArgumentCount bracket >>= (λ enough. judged_arguments scope (int ∷ []) (more sum.tree none) bracket >>= result_of_call scope f bracket)) in
+        let arguments_then : Unit {0} → Checked Operand = λ callable. judged_arguments scope (int ∷ []) (more sum.tree none) bracket >>= (λ arguments. give (result_of_call scope f bracket arguments)) in
+        let called : Checked Operand = uses (file_entity (codes "putchar")) >>= (λ bound. may_be_called scope signature (count_entries (more sum.tree none)) bracket >>= arguments_then) in
         expression_judged (node kind.Call (trees (word Putchar (seats 0) ∷ word (Mark 40) (seats 1) ∷ node kind.Arguments (trees (sum.tree ∷ [])) ∷ word (Mark 41) (sum.seats 0) ∷ []))) bracket (call (putchar Known scope sees) (argument core no_argument)) (word (Mark 59) (sum.seats 1)) refl
         (judges_same U _ called result (ap (call_of (word Putchar (seats 0)) (more sum.tree none) bracket) (callee_is_putchar (seats 0)))
-        (judges_then U (uses (file_entity (codes "putchar"))) tt (λ bound. unless_so (count_entries (more sum.tree none) == 1) ArgumentCount bracket >>= (λ enough. judged_arguments scope (int ∷ []) (more sum.tree none) bracket >>= result_of_call scope f bracket)) result
+        (judges_then U (uses (file_entity (codes "putchar"))) tt (λ bound. may_be_called scope signature (count_entries (more sum.tree none)) bracket >>= arguments_then) result
         (judges_use U (codes "putchar") (inr refl))
-        (judges_then U (unless_so true ArgumentCount bracket) tt (λ enough. judged_arguments scope (int ∷ []) (more sum.tree none) bracket >>= result_of_call scope f bracket) result (judges_now U _ _ refl)
-        (judges_then U (judged_arguments scope (int ∷ []) (more sum.tree none) bracket) (argument core no_argument) (result_of_call scope f bracket) result (arguments_judged sum.tree core bracket k) (judges_now U _ _ refl)))))
+        (judges_then U (may_be_called scope signature (count_entries (more sum.tree none)) bracket) tt arguments_then result (judges_now U _ _ refl)
+        (judges_then U (judged_arguments scope (int ∷ []) (more sum.tree none) bracket) (argument core no_argument) (λ arguments. give (result_of_call scope f bracket arguments)) result (arguments_judged sum.tree core bracket k) (judges_now U _ _ refl)))))
 
     returned_is : (tree : PlainTree) (token : PlainToken) (core : PlainExpression) → IsSumTree tree → IsInt Known scope tree core → Judges U (returned (inside scope b) token tree) (return_value core)
     returned_is tree token core shape k =
-        judges_same U (returned (inside scope b) token tree) (valued scope tree >>= return_of token) (return_value core) (returned_tree scope b token tree shape)
+        judges_same U (returned (inside scope b) token tree) (unless_so true Misplaced token >>= (λ placed. valued scope tree >>= return_of token)) (return_value core) (returned_tree scope b token tree shape)
+        (judges_then U (unless_so true Misplaced token) tt (λ placed. valued scope tree >>= return_of token) (return_value core) (judges_now U _ _ refl)
         (judges_then U (valued scope tree) (int_value core k.null) (return_of token) (return_value core)
-        (judges_then U (judged scope tree) k.operand (loaded scope) (int_value core k.null) k.judges k.loads) (judges_now U _ _ refl))
+        (judges_then U (judged scope tree) k.operand (loaded scope) (int_value core k.null) k.judges k.loads) (judges_now U _ _ refl)))
 
     return_judged : (seats : Seats) (sum : Grown) (core : PlainExpression) → IsSumTree sum.tree → IsInt Known scope sum.tree core
         → Judges U (judged_statement (inside scope b) [] (return_tree seats sum)) (judged_as [] (return_value core))

@@ -1,14 +1,17 @@
 -- What the items of the quick form, and their unit, are judged to be.
-use Rattle.std.proofs.Common.{◌≡◌, ℕ, true, false, List, [], ◌∷◌, ◌++◌, map, codes, refl, ap, Option, Some, None, IsTrue}
+use Rattle.std.proofs.Common.{◌≡◌, ℕ, Bool, true, false, List, [], ◌∷◌, ◌++◌, map, codes, refl, ap, cond, Option, Some, None, IsTrue}
 use Rattle.std.specs.List.{AllByRecursion}
+use Rattle.std.specs.Str.{bytes_eq}
 use Rattle.c_text.specs.Token.{PlainToken}
 use Rattle.c_types.specs.Types.{int}
 use Rattle.c_tree.specs.Trees.{PlainTrees, none, more}
+use Rattle.core_meaning.specs.declared.refusals.TypeKind.TheVariants.{Redeclared}
 use Rattle.core_meaning.specs.Program.{PlainItems, no_item}
-use Rattle.core_meaning.specs.Checking.{Entity, local_entity, local_of_function, file_entity, struct_entity, member_entity, own_entity, Binding, Checked, with_bindings, ◌>>=◌, give, numbered, numbered_binding, in_function}
+use Rattle.core_meaning.specs.Checking.{Entity, local_entity, local_of_function, file_entity, struct_entity, member_entity, own_entity, Binding, Checked, with_bindings, ◌>>=◌, give, unless_so, numbered, numbered_binding, in_function}
 use Rattle.core_meaning.specs.Entities.{Table, no_entry, with_entry, Scope, FileName, Numbers, function, number_of}
+use Rattle.core_meaning.specs.Declarations.{Parameter}
 use Rattle.core_meaning.specs.Statements.{JudgedItems, items_as, judged_items}
-use Rattle.core_meaning.specs.UnitNames.{Body, object_body, tentative_body, function_body, Defined, UnitState, by_none, with_name, declared_as, linkage, with_scope, with_defined, judged_body, count_functions, judged_item, judged_file_items, unit_start, judged_unit}
+use Rattle.core_meaning.specs.UnitNames.{Body, object_body, tentative_body, function_body, Defined, UnitState, by_none, with_name, declared_as, linkage, with_scope, with_defined, judged_body, count_functions, judged_item, judged_file_items, unit_start, judged_unit, may_be_function, signature_of, with_parameters, parameter_types, is_too_big, too_big_in, unless_too_big}
 use Rattle.quick_form.specs.Symbols.{Int, Main, Putchar, Number, Mark}
 use Rattle.quick_form.specs.Words.{is_number, value_of}
 use Rattle.quick_form.specs.Program.{Code}
@@ -62,14 +65,49 @@ unit_after numbers table order defined [] = unit_of numbers table order defined
 unit_after numbers table order defined (item ∷ rest) =
     unit_after numbers (with_item table item) (order ++ item_name item ∷ []) (defined ++ definition numbers item ∷ []) rest
 
+abbrev unit_parts : List Item → Seats → PlainTrees
+unit_parts items seats = more (declaration_tree seats (function_declarator Putchar Int (skip 1 seats) ∷ []) (seats 5)) (item_trees items (skip 6 seats))
+
 main_named : (numbers : Numbers) (table : Table FileName) (order : List (List ℕ)) (c : Code) (token : PlainToken) (found : Option FileName) → found ≡ None
     → declared_as (scope_of numbers table order) (record token { text = codes "main" }) (function (record { result = int; parameters = [] })) (linkage by_none true found) found
     ≡ give (scope_of numbers (with_item table (main_of c)) (order ++ codes "main" ∷ []))
 main_named numbers table order c token None e = refl
 main_named numbers table order c token (Some n) e = absurd cc
 
+main_is_new : (found : Option FileName) (name : PlainToken) → found ≡ None → unless_so (may_be_function by_none int found) Redeclared name ≡ give tt
+main_is_new found name e = ap (λ o. unless_so (may_be_function by_none int o) Redeclared name) e
+
 abbrev pub first_table : Table FileName
 first_table = with_entry no_entry (codes "putchar") (as_function (int ∷ []))
+
+-- ---- objects that are small
+
+abbrev AreSmall : Scope → Table FileName → Type 0
+AreSmall scope table = (x : List ℕ) → is_too_big scope (table x) ≡ false
+
+item_is_small : (scope : Scope) (i : Item) → is_too_big scope (Some (item_as i)) ≡ false
+item_is_small scope (tentative x) = refl
+item_is_small scope (valued x d) = refl
+item_is_small scope (main_of c) = refl
+
+choice_is_small : (scope : Scope) (t : Bool) (a b : Option FileName) → is_too_big scope a ≡ false → is_too_big scope b ≡ false → is_too_big scope (cond t a b) ≡ false
+choice_is_small scope true a b h k = h
+choice_is_small scope false a b h k = k
+
+entry_is_small : (scope : Scope) (table : Table FileName) (x : List ℕ) (n : FileName) → is_too_big scope (Some n) ≡ false → AreSmall scope table → AreSmall scope (with_entry table x n)
+entry_is_small scope table x n h k y = choice_is_small scope (bytes_eq y x) (Some n) (table y) h (k y)
+
+objects_are_small : (scope : Scope) (numbers : Numbers) (table : Table FileName) (order : List (List ℕ)) (defined : List Defined) (items : List Item)
+    → AreSmall scope table → AreSmall scope (unit_after numbers table order defined items).scope.file_names
+objects_are_small scope numbers table order defined [] h = h
+objects_are_small scope numbers table order defined (i ∷ rest) h =
+    objects_are_small scope numbers (with_item table i) (order ++ item_name i ∷ []) (defined ++ definition numbers i ∷ []) rest (entry_is_small scope table (item_name i) (item_as i) (item_is_small scope i) h)
+
+none_too_big : (scope : Scope) (items : List Item) (seats : Seats) → AreSmall scope scope.file_names → too_big_in scope (item_trees items seats) ≡ None
+none_too_big scope [] seats h = refl
+none_too_big scope (tentative x ∷ rest) seats h = rw (h x, none_too_big scope rest (skip 3 seats) h) refl
+none_too_big scope (valued x d ∷ rest) seats h = rw (h x, none_too_big scope rest (skip 5 seats) h) refl
+none_too_big scope (main_of c ∷ rest) seats h = none_too_big scope rest (skip 1 (code_trees c (skip 6 seats)).seats) h
 
 -- ---- what items need
 
@@ -140,11 +178,17 @@ module _ (Known : List ℕ → Type 0) where
         let sees : Sees Known (with_inner scope) = record { no_local = λ x. refl; objects = k.1; putchar = k.2 } in
         let result = unit_of numbers (with_item table (main_of c)) (order ++ codes "main" ∷ []) (defined ++ definition numbers (main_of c) ∷ []) in
         let end : JudgedItems → Checked UnitState = λ items. give (with_defined (with_scope (unit_of numbers table order defined) scope) (codes "main") (function_body items.slots items.core)) in
+        let name = token_of Main (seats 1) in
+        let new : Checked (Unit {0}) = unless_so (may_be_function by_none int (table (codes "main"))) Redeclared name in
+        let no_parameters : Unit {0} → Checked (List Parameter) = λ is_new. give [] in
         let whole : Scope → Checked UnitState = λ s. judged_body (with_inner s) int [] body >>= (λ items. give (with_defined (with_scope (unit_of numbers table order defined) s) (codes "main") (function_body items.slots items.core))) in
+        let of_parameters : List Parameter → Checked UnitState = λ parameters. with_name (scope_of numbers table order) name (function (signature_of int parameters)) by_none
+        >>= (λ s. judged_body (with_parameters (with_inner s) 0 parameters) int (parameter_types parameters) body >>= (λ items. give (with_defined (with_scope (unit_of numbers table order defined) s) (codes "main") (function_body items.slots items.core)))) in
         judges_with [] _ result tt (judges_with [] _ result tt (judges_in_function (count_functions defined) _ result
         (judges_with (record { entity = file_entity (codes "main"); in_expression = false } ∷ []) _ result (declared_allowed (codes "main"))
-        (judges_with [] _ result tt (judges_with [] _ result tt
-        (judges_then U (with_name (scope_of numbers table order) (token_of Main (seats 1)) (function (record { result = int; parameters = [] })) by_none) scope whole result (judges_now U _ _ (main_named numbers table order c (token_of Main (seats 1)) (table (codes "main")) h))
+        (judges_with [] _ result tt (judges_then U (new >>= no_parameters) [] of_parameters result
+        (judges_then U new tt no_parameters [] (judges_now U _ _ (main_is_new (table (codes "main")) name h)) (judges_now U _ _ refl))
+        (judges_then U (with_name (scope_of numbers table order) name (function (record { result = int; parameters = [] })) by_none) scope whole result (judges_now U _ _ (main_named numbers table order c name (table (codes "main")) h))
         (judges_then U (judged_body (with_inner scope) int [] body) (items_as [] core) end result
         (body_judged (with_inner scope) (seats 5) inner.trees inner.seats core (code_judged Known c (with_inner scope) false sees (skip 6 seats) k.0)) (judges_now U _ _ refl))))))))
 
@@ -165,10 +209,20 @@ module _ (Known : List ℕ → Type 0) where
         (main_judged table order defined c seats others h.0 h.1)
         (items_judged (with_item table (main_of c)) (order ++ codes "main" ∷ []) (defined ++ definition numbers (main_of c) ∷ []) rest (skip 1 (code_trees c (skip 6 seats)).seats) h.2)
 
-    pub unit_judged : (items : List Item) (seats : Seats) → AreReady first_table items
-        → Judges U (judged_unit globals [] numbers (unit_tree items seats)) (unit_after numbers first_table (codes "putchar" ∷ []) [] items)
-    unit_judged items seats h =
+    file_items_judged : (items : List Item) (seats : Seats) → AreReady first_table items
+        → Judges U (judged_file_items globals (unit_start [] numbers) (unit_parts items seats)) (unit_after numbers first_table (codes "putchar" ∷ []) [] items)
+    file_items_judged items seats h =
         judges_then U (judged_item globals (unit_start [] numbers) (declaration_tree seats (function_declarator Putchar Int (skip 1 seats) ∷ []) (seats 5)) (item_trees items (skip 6 seats)))
         (unit_of numbers first_table (codes "putchar" ∷ []) []) (λ first. judged_file_items globals first (item_trees items (skip 6 seats))) _
         (record { bindings = record { entity = file_entity (codes "putchar"); in_expression = false } ∷ []; is = refl; allowed = declared_allowed (codes "putchar") })
         (items_judged first_table (codes "putchar" ∷ []) [] items (skip 6 seats) h)
+
+    pub unit_judged : (items : List Item) (seats : Seats) → AreReady first_table items
+        → Judges U (judged_unit globals [] numbers (unit_tree items seats)) (unit_after numbers first_table (codes "putchar" ∷ []) [] items)
+    unit_judged items seats h =
+        let parts = unit_parts items seats in
+        let unit = unit_after numbers first_table (codes "putchar" ∷ []) [] items in
+        let small = objects_are_small unit.scope numbers first_table (codes "putchar" ∷ []) [] items (entry_is_small unit.scope no_entry (codes "putchar") (as_function (int ∷ [])) refl (λ x. refl)) in
+        judges_then U (judged_file_items globals (unit_start [] numbers) parts) unit (λ u. unless_too_big (too_big_in u.scope parts) >>= (λ is_small. give u)) unit
+        (file_items_judged items seats h)
+        (judges_now U _ _ (ap (λ found. unless_too_big found >>= (λ is_small. give unit)) (none_too_big unit.scope items (skip 6 seats) small)))
