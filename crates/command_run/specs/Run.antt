@@ -1,5 +1,5 @@
 -- The command `run PROJECT NAMES BOUND INPUT`: the run of one product, with an input and up to a bound.
-use Rattle.std.specs.Prelude.{◌≡◌, ◌⊎◌, ℕ, true, List, [], ◌∷◌, ◌++◌, codes, Option, Some, None}
+use Rattle.std.specs.Prelude.{◌≡◌, ◌⊎◌, ℕ, true, false, List, [], ◌∷◌, ◌++◌, codes, Option, Some, None}
 use Rattle.std.specs.Fmt.{signed_decimal}
 use Rattle.text_edits.specs.Files.{PlainFile}
 use Rattle.core_meaning.specs.Program.{PlainProgram}

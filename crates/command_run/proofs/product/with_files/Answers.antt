@@ -1,4 +1,5 @@
-use Rattle.text_edits.specs.Files.{plain_files}
+use Rattle.std.proofs.Common.{List}
+use Rattle.text_edits.specs.Files.{PlainFile, plain_files}
 use Rattle.project_file.specs.View.{project_view}
 use Rattle.project_store.specs.Reads.{names_of, IsTooLong, HasAbsent}
 use Rattle.command_projects.specs.Projects.{WithFiles}
@@ -22,5 +23,5 @@ returns-in-Err-clause-came g c =
     let q = run_of c.args.query.now in
     let project = project_view c.args.project.now in
     let names = names_of project in
-    let Then = λ sources. WithFiles (input_names q.input) (OfInputs q project sources) in
+    let Then = λ (sources : List PlainFile). WithFiles (input_names q.input) (OfInputs q project sources) in
     refusal_came (OfFiles q project) s (IsTooLong s names) (HasAbsent s names) (comes_to_long s names Then) (unread_file s names Then) c.in-Err.error c.without_project.result c.in-Err.ensures.files c.without_project.ensures
