@@ -9,7 +9,7 @@ use Rattle.project_file.specs.View.{Why}
 use Rattle.project_file.specs.declared.errors.ProjectError.{ProjectError}
 use Rattle.project_file.specs.declared.errors.ProjectError.TheVariants as error
 use Rattle.project_store.specs.States.{StoreState, Stands, IsAbsent, IsReadAlone}
-use Rattle.project_store.specs.Reads.{SaysProject, HasFault, IsRead, AreFilesOf, IsNext, IsTooLong, HasAbsent}
+use Rattle.project_store.specs.Reads.{SaysProject, HasFault, IsRead, AreFilesOf, IsNext, IsTooLong, HasAbsent, IsSource, IsLong}
 use Rattle.command_promises.specs.declared.said.Said.{Said}
 use Rattle.command_promises.specs.declared.said.Stop.{Stop}
 use Rattle.command_promises.specs.declared.said.Stop.TheVariants.{ReadFault, WantOfMemory}
@@ -119,6 +119,26 @@ module _ (store : StoreState) (names : List (List ℕ)) (Then : List PlainFile �
     comes = comes_next h.name [] (reads h.name) h.next (λ k d less. absurd (omega (arith, less))) refl;
     absent = h.absent;
   }
+
+-- ---- one file
+
+module _ (store : StoreState) (name : List ℕ) where
+  next_alone : IsNext store (name ∷ []) name
+  next_alone = record { front = []; rest = []; split = refl; are_read = λ k d less. absurd (omega (arith, less)) }
+
+  pub file_alone : (f : PlainFile) → IsSource store name f → AreFilesOf store (name ∷ []) (f ∷ [])
+  file_alone f h = record { named = ap (λ n. n ∷ []) h.name_is; are_read = cons_all (IsRead store) f [] h.is_read (λ k d less. absurd (omega (arith, less))) }
+
+  pub long_alone : (fault : Fault) → IsLong store name fault → IsTooLong store (name ∷ []) fault
+  long_alone (size other) h = subst (λ n. IsTooLong store (name ∷ []) (size n)) (sym h.0) (record { next = next_alone; is_long = h.1 })
+  long_alone not_toml h = absurd h
+  long_alone (shape key) h = absurd h
+  long_alone (feature other) h = absurd h
+  long_alone (duplicate other) h = absurd h
+  long_alone (constraint place) h = absurd h
+
+  pub absent_alone : IsAbsent store name → HasAbsent store (name ∷ [])
+  absent_alone absent = record { name = name; next = next_alone; absent = absent }
 
 -- ---- a call behind one that read alone
 

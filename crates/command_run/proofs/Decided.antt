@@ -17,11 +17,11 @@ use Rattle.command_promises.specs.Commands.{IsFit, IsDecidedCommand}
 use Rattle.command_promises.proofs.Leading.{one_saying}
 use Rattle.command_promises.proofs.Fitting.{tells_fits}
 use Rattle.command_projects.specs.Faults.{bad_project}
-use Rattle.command_projects.specs.Products.{on_by, are_features, admits_named}
-use Rattle.command_projects.specs.Projects.{WithFit, WithFiles}
+use Rattle.command_projects.specs.Products.{on_by, are_features, admits_named, not_admitted}
+use Rattle.command_projects.specs.Projects.{WithFiles}
 use Rattle.command_projects.proofs.Decided.{ProjectLaws, names_alike, project_decided, fits_agree, files_agree, unless_agree, project_says, fit_says, files_say, unless_says}
 use Rattle.command_run.specs.Words.{RunQuery}
-use Rattle.command_run.specs.Run.{HasFeatures, not_admitted, not_accepted, answers, input_names, input_of, OfProduct, OfConfiguration, OfInputs, OfFiles, Does, run}
+use Rattle.command_run.specs.Run.{HasFeatures, not_accepted, answers, input_names, input_of, OfProduct, OfConfiguration, OfInputs, OfFiles, OfProject, run}
 use Rattle.command_run.proofs.Programs.{program_alike, refused_alike}
 use Rattle.command_run.proofs.RunWords.{one_run}
 
@@ -62,7 +62,7 @@ module _ (laws : ProgramsAreOne) where
       files_agree (names_of a) (names_of b) (λ sources. WithFiles (input_names q.input) (OfInputs q a sources)) (λ sources. WithFiles (input_names q.input) (OfInputs q b sources)) (names_alike a b like)
       (λ sources. files_agree (input_names q.input) (input_names q.input) (OfInputs q a sources) (OfInputs q b sources) refl (λ inputs. configuration_agree q a b like sources (input_of inputs)))
 
-  agree : (q : RunQuery) (a b : PlainProject) → Alike a b → Agree (WithFit (HasFeatures q a) (λ fit. OfFiles q a)) (WithFit (HasFeatures q b) (λ fit. OfFiles q b))
+  agree : (q : RunQuery) (a b : PlainProject) → Alike a b → Agree (OfProject q a) (OfProject q b)
   agree q a b like =
       fits_agree (HasFeatures q a) (HasFeatures q b) (λ fit. OfFiles q a) (λ fit. OfFiles q b)
       (λ x h. (x, ap (λ features. are_features features q.names) (sym like.features) ∙ h))
@@ -106,7 +106,7 @@ files_fit q project =
 pub decided : ProjectLaws → ProgramsAreOne → IsDecidedCommand run
 decided laws one = record {
   one_query = one_run;
-  one_deed = λ q. project_decided laws q.project (λ project. WithFit (HasFeatures q project) (λ fit. OfFiles q project)) (agree one q);
-  fits = λ q. project_says Fit fault_fits q.project (λ project. WithFit (HasFeatures q project) (λ fit. OfFiles q project))
+  one_deed = λ q. project_decided laws q.project (OfProject q) (agree one q);
+  fits = λ q. project_says Fit fault_fits q.project (OfProject q)
       (λ project. fit_says Fit fault_fits (HasFeatures q project) (λ fit. OfFiles q project) useless_fits (λ fit. files_fit q project));
 }

@@ -1,3 +1,4 @@
 pub mod Programs
 pub mod RunWords
+pub mod Refusals
 pub mod Decided

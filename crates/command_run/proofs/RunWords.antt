@@ -2,7 +2,8 @@
 use Rattle.std.proofs.Common.{◌≡◌, ℕ, ◌≤◌, ◌<◌, ◌^◌, List, [], ◌∷◌, Option, Some, None, Result, Ok, Err, MatchOption, refl, sym, ◌∙◌, ap, subst, arith}
 use Rattle.std.proofs.lemmas.Fmt.{parse-decimal, decimal_injective}
 use Rattle.std.specs.Str.Parse.{ParsesUnsigned}
-use Rattle.command_run.specs.Words.{RunQuery, IsBound, IsGood, names_in, input_in, Asks}
+use Rattle.command_projects.specs.Names.{names_in}
+use Rattle.command_run.specs.Words.{RunQuery, IsBound, IsGood, input_in, Asks}
 
 -- ---- the bound
 

@@ -1,5 +1,5 @@
 -- The command `run PROJECT NAMES BOUND INPUT`: the run of one product, with an input and up to a bound.
-use Rattle.std.specs.Prelude.{◌≡◌, ◌⊎◌, ℕ, true, List, [], ◌∷◌, ◌++◌, codes, Option, Some, None}
+use Rattle.std.specs.Prelude.{◌≡◌, ◌⊎◌, ℕ, true, false, List, [], ◌∷◌, ◌++◌, codes, Option, Some, None}
 use Rattle.std.specs.Fmt.{signed_decimal}
 use Rattle.text_edits.specs.Files.{PlainFile}
 use Rattle.core_meaning.specs.Program.{PlainProgram}
@@ -12,16 +12,13 @@ use Rattle.project_program.specs.Programs.{IsProgram, IsRefusedAt}
 use Rattle.command_promises.specs.Courses.{Saying, says, Course}
 use Rattle.command_promises.specs.Sayings.{line, tells}
 use Rattle.command_promises.specs.Commands.{Command}
-use Rattle.command_projects.specs.Products.{on_by, are_features, admits_named}
+use Rattle.command_projects.specs.Products.{on_by, are_features, admits_named, not_admitted}
 use Rattle.command_projects.specs.Projects.{WithProject, WithFit, WithFiles, Unless}
 use Rattle.command_run.specs.Words.{RunQuery, Asks}
 
 -- the words fit the project: all the names are those of features
 abbrev pub HasFeatures : RunQuery → PlainProject → Unit {0} → Type 0
 HasFeatures q project fit = are_features project.features q.names ≡ true
-
-abbrev pub not_admitted : Saying
-not_admitted = tells 9 (line (codes "not admitted"))
 
 -- the name of a stage of translation
 abbrev pub stage_name : Stage → List ℕ
@@ -70,9 +67,13 @@ OfInputs q project sources inputs = OfConfiguration q project sources (input_of 
 abbrev pub OfFiles : RunQuery → PlainProject → Course
 OfFiles q project = WithFiles (names_of project) (λ sources. WithFiles (input_names q.input) (OfInputs q project sources))
 
--- the project file is read, the words are held against it, and its files and the input are read
+-- the words are held against the project, and its files and the input are read
+abbrev pub OfProject : RunQuery → PlainProject → Course
+OfProject q project = WithFit (HasFeatures q project) (λ fit. OfFiles q project)
+
+-- the project file is read first
 abbrev pub Does : RunQuery → Course
-Does q = WithProject q.project (λ project. WithFit (HasFeatures q project) (λ fit. OfFiles q project))
+Does q = WithProject q.project (OfProject q)
 
 abbrev pub run : Command
 run = record { word = codes "run"; Query = RunQuery; Asks = Asks; Does = Does; statuses = 0 ∷ 2 ∷ 5 ∷ 9 ∷ 10 ∷ 11 ∷ []; writes = false }

@@ -14,7 +14,7 @@ ghost use Rattle.project_store.specs.Reads.{names_of};
 ghost use Rattle.command_promises.specs.Sayings.{saying, SaysOrEnds, CameTo};
 ghost use Rattle.command_promises.specs.Commands.{CourseFor};
 ghost use Rattle.command_projects.specs.Products.{are_features};
-ghost use Rattle.command_projects.specs.Projects.{WithFit, WithFiles};
+ghost use Rattle.command_projects.specs.Projects.{WithFiles};
 ghost use Rattle.command_run.specs.Run as spec;
 ghost use Rattle.command_run.specs.Steps.{run_of, puts_out, Refuses, IsConfiguration};
 
@@ -244,7 +244,7 @@ fn in_project<S: Store>(
 ) -> Result<Said, Stop>
     requires few { length project.now.features.items ≤ 128 }
     requires lawful { list_all is_new_name (run_of query.now).names ≡ true }
-    ensures came { CameTo (WithFit (spec.HasFeatures (run_of query.now) (project_view project.now)) (λ fit. spec.OfFiles (run_of query.now) (project_view project.now))) (S.state store.old) result }
+    ensures came { CameTo (spec.OfProject (run_of query.now) (project_view project.now)) (S.state store.old) result }
     ensures cause { HasCause (S.state store.old).exact (S.state store.old).read_faults (S.state store.new).read_faults (IsErrOf result Stop.ReadFault) }
     ensures kept { IsReadAlone (S.state store.old) (S.state store.new) }
 {

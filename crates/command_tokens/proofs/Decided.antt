@@ -17,11 +17,11 @@ use Rattle.command_promises.proofs.Leading.{one_saying}
 use Rattle.command_promises.proofs.Fitting.{tells_fits}
 use Rattle.command_projects.specs.Faults.{bad_project}
 use Rattle.command_projects.specs.Names.{names_in}
-use Rattle.command_projects.specs.Products.{on_by, admits_named}
-use Rattle.command_projects.specs.Projects.{WithFit, WithFiles, Unless}
+use Rattle.command_projects.specs.Products.{on_by, admits_named, not_admitted}
+use Rattle.command_projects.specs.Projects.{WithFiles, Unless}
 use Rattle.command_projects.proofs.Decided.{ProjectLaws, names_alike, project_decided, fits_agree, files_agree, unless_agree, project_says, fit_says, files_say, unless_says}
 use Rattle.command_tokens.specs.Words.{UnitQuery, Asks}
-use Rattle.command_tokens.specs.Tokens.{NumberedUnit, FitsProject, not_admitted, not_present, not_preprocessed, prints, OfSources, OfUnit, Does, tokens}
+use Rattle.command_tokens.specs.Tokens.{NumberedUnit, FitsProject, not_present, not_preprocessed, prints, OfSources, OfUnit, OfProject, tokens}
 use Rattle.command_tokens.proofs.Units.{SameUnit, fit_alike, same_unit, same_sources_of, alike_back}
 
 one_query : (further : List (List ℕ)) (p q : UnitQuery) → Asks further p → Asks further q → p ≡ q
@@ -70,8 +70,7 @@ module _ (one : OutcomesAreOne) where
       (Unless (value on_a x.unit.when) not_present (OfSources (sources_of a files on_a) (file_of a x.number)))
       (Unless (value on_b y.unit.when) not_present (OfSources (sources_of b files on_b) (file_of b y.number))) admitted inner
 
-  agree : (q : UnitQuery) (a b : PlainProject) → Alike a b
-      → Agree (WithFit (FitsProject q a) (λ asked. WithFiles (names_of a) (OfUnit q a asked))) (WithFit (FitsProject q b) (λ asked. WithFiles (names_of b) (OfUnit q b asked)))
+  agree : (q : UnitQuery) (a b : PlainProject) → Alike a b → Agree (OfProject q a) (OfProject q b)
   agree q a b like =
       fits_agree (FitsProject q a) (FitsProject q b) (λ asked. WithFiles (names_of a) (OfUnit q a asked)) (λ asked. WithFiles (names_of b) (OfUnit q b asked))
       (λ x h. let r = fit_alike q a b x like h in (r.unit, r.fits))
@@ -106,7 +105,7 @@ unit_fits q project asked sources =
     unless_says Fit fault_fits (admits_named project q.names) not_admitted (Unless (value on asked.unit.when) not_present inner) (refused_fits not_admitted.report)
     (unless_says Fit fault_fits (value on asked.unit.when) not_present inner (refused_fits not_present.report) (sources_fit (sources_of project sources on) (file_of project asked.number)))
 
-project_fits : (q : UnitQuery) (project : PlainProject) (files : List PlainFile) (what : Saying) → WithFit (FitsProject q project) (λ asked. WithFiles (names_of project) (OfUnit q project asked)) files (says what) → Fit what
+project_fits : (q : UnitQuery) (project : PlainProject) (files : List PlainFile) (what : Saying) → OfProject q project files (says what) → Fit what
 project_fits q project =
     fit_says Fit fault_fits (FitsProject q project) (λ asked. WithFiles (names_of project) (OfUnit q project asked)) useless_fits
     (λ asked. files_say Fit fault_fits (names_of project) (OfUnit q project asked) (unit_fits q project asked))
@@ -114,6 +113,6 @@ project_fits q project =
 pub decided : ProjectLaws → OutcomesAreOne → IsDecidedCommand tokens
 decided laws one = record {
   one_query = one_query;
-  one_deed = λ q. project_decided laws q.project (λ project. WithFit (FitsProject q project) (λ asked. WithFiles (names_of project) (OfUnit q project asked))) (agree one q);
-  fits = λ q. project_says Fit fault_fits q.project (λ project. WithFit (FitsProject q project) (λ asked. WithFiles (names_of project) (OfUnit q project asked))) (project_fits q);
+  one_deed = λ q. project_decided laws q.project (OfProject q) (agree one q);
+  fits = λ q. project_says Fit fault_fits q.project (OfProject q) (project_fits q);
 }

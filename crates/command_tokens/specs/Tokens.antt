@@ -12,7 +12,7 @@ use Rattle.plain_pp.specs.Units.{sources_of, file_of}
 use Rattle.command_promises.specs.Courses.{Saying, says, Course}
 use Rattle.command_promises.specs.Sayings.{line, tells}
 use Rattle.command_promises.specs.Commands.{Command}
-use Rattle.command_projects.specs.Products.{on_by, are_features, admits_named}
+use Rattle.command_projects.specs.Products.{on_by, are_features, admits_named, not_admitted}
 use Rattle.command_projects.specs.Projects.{WithProject, WithFit, WithFiles, Unless}
 use Rattle.command_tokens.specs.Words.{UnitQuery, Asks}
 
@@ -34,9 +34,6 @@ unit_from number file (unit ∷ units) =
 pub record FitsProject (q : UnitQuery) (project : PlainProject) (asked : NumberedUnit) : Type 0 where
   pub unit : unit_from 0 q.unit project.units ≡ Some asked
   pub known : are_features project.features q.names ≡ true
-
-abbrev pub not_admitted : Saying
-not_admitted = tells 9 (line (codes "not admitted"))
 
 abbrev pub not_present : Saying
 not_present = tells 9 (line (codes "not present"))
@@ -60,9 +57,13 @@ OfUnit q project asked sources =
     Unless (admits_named project q.names) not_admitted (Unless (value (on_by project.features q.names) asked.unit.when) not_present
     (OfSources (sources_of project sources (on_by project.features q.names)) (file_of project asked.number)))
 
--- the project file is read, the words are held against it, and the project's files are read
+-- the words are held against the project, and its files are read
+abbrev pub OfProject : UnitQuery → PlainProject → Course
+OfProject q project = WithFit (FitsProject q project) (λ asked. WithFiles (names_of project) (OfUnit q project asked))
+
+-- the project file is read first
 abbrev pub Does : UnitQuery → Course
-Does q = WithProject q.project (λ project. WithFit (FitsProject q project) (λ asked. WithFiles (names_of project) (OfUnit q project asked)))
+Does q = WithProject q.project (OfProject q)
 
 abbrev pub tokens : Command
 tokens = record { word = codes "tokens"; Query = UnitQuery; Asks = Asks; Does = Does; statuses = 0 ∷ 2 ∷ 5 ∷ 9 ∷ []; writes = false }

@@ -12,7 +12,7 @@ ghost use Rattle.project_store.specs.Reads.{names_of};
 ghost use Rattle.plain_pp.specs.Units.{sources_of, file_of};
 ghost use Rattle.command_promises.specs.Sayings.{saying, SaysOrEnds, CameTo};
 ghost use Rattle.command_promises.specs.Commands.{CourseFor};
-ghost use Rattle.command_projects.specs.Projects.{WithFit, WithFiles};
+ghost use Rattle.command_projects.specs.Projects.{WithFiles};
 ghost use Rattle.command_tokens.specs.Tokens as spec;
 ghost use Rattle.command_tokens.specs.Tokens.{NumberedUnit, numbered, unit_from, FitsProject};
 ghost use Rattle.command_tokens.specs.Steps.{query_of, unit_of, IsChoice};
@@ -168,16 +168,17 @@ fn in_project<S: Store>(
 ) -> Result<Said, Stop>
     requires few { length project.now.features.items ≤ 128 }
     requires lawful { list_all is_new_name (query_of query.now).names ≡ true }
-    ensures came { CameTo (WithFit (FitsProject (query_of query.now) (project_view project.now)) (λ asked. WithFiles (names_of (project_view project.now)) (spec.OfUnit (query_of query.now) (project_view project.now) asked))) (S.state store.old) result }
+    ensures came { CameTo (spec.OfProject (query_of query.now) (project_view project.now)) (S.state store.old) result }
     ensures cause { HasCause (S.state store.old).exact (S.state store.old).read_faults (S.state store.new).read_faults (IsErrOf result Stop.ReadFault) }
     ensures kept { IsReadAlone (S.state store.old) (S.state store.new) }
 {
-    match chosen(alloc, query, project)? {
-        Some(choice) => with_files(alloc, query, project, &choice, store),
-        None => {
+    match chosen(alloc, query, project) {
+        Ok(Some(choice)) => with_files(alloc, query, project, &choice, store),
+        Ok(None) => {
             let said = usage(alloc)?;
             Ok(said)
         }
+        Err(_) => Err(Stop::WantOfMemory),
     }
 }
 
