@@ -249,13 +249,14 @@ fn text_of_array<'t>(
 fn one_part<'t>(
     alloc: Global,
     path: &[u32],
-    value: Expression,
+    value: Box<Expression>,
     first: &'t Token,
 ) -> Result<Vec<Initial<'t>>, NoMemory>
-    ensures { IfOk result (λ parts. map plain_initial parts.items ≡ value_at (path_from path.now) (plain_expression value) (plain_token first.now) ∷ []) }
+    ensures { IfOk result (λ parts. map plain_initial parts.items ≡ value_at (path_from path.now) (plain_expression value.value) (plain_token first.now) ∷ []) }
 {
     let mut parts = Vec::new(alloc);
     let path = Vec::from_slice(alloc, path)?;
+    let value = Box::into_inner(value);
     parts.push(Initial { path, value, first })?;
     Ok(parts)
 }
@@ -267,10 +268,10 @@ fn allowed_part<'t>(
     scope: &Scope,
     constant: bool,
     path: &[u32],
-    value: Expression,
+    value: Box<Expression>,
     first: &'t Token,
 ) -> Result<Vec<Initial<'t>>, ElabError>
-    ensures { Answers (allowed_value (plain_scope scope.now) (globals_if constant) (path_from path.now) (plain_expression value) (plain_token first.now)) (λ parts. map plain_initial parts.items) result }
+    ensures { Answers (allowed_value (plain_scope scope.now) (globals_if constant) (path_from path.now) (plain_expression value.value) (plain_token first.now)) (λ parts. map plain_initial parts.items) result }
 {
     unless(
         is_allowed(scope, constant, &value),
@@ -297,7 +298,7 @@ fn value_initial<'t>(
 {
     let x = valued(alloc, scope, used, tree)?;
     let core = fitted(alloc, ty, x, TypeKind::BadOperand, first)?;
-    let parts = allowed_part(alloc, scope, constant, path, Box::into_inner(core), first)?;
+    let parts = allowed_part(alloc, scope, constant, path, core, first)?;
     Ok(parts)
 }
 
@@ -448,13 +449,7 @@ fn kind_of_excess(
 }
 
 #[tactic(auto, using(plain_scope::specs::JudgementLaws::refuses_is))]
-fn excess(
-    alloc: Global,
-    scope: &Scope,
-    used: &mut Used,
-    tree: &Tree,
-    first: &Token,
-) -> ElabError
+fn excess(alloc: Global, scope: &Scope, used: &mut Used, tree: &Tree, first: &Token) -> ElabError
     ensures { RefusedAs (excess (plain_scope scope.now) (plain_tree tree.now) (plain_token first.now)) result }
 {
     match kind_of_excess(alloc, scope, used, tree, first) {

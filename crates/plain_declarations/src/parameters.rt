@@ -110,12 +110,7 @@ fn may_be_parameter(scope: &Scope, defining: bool, ty: &CType) -> bool
 
 /// A parameter's type fits and is small enough.
 #[tactic(auto, using(crate::specs::Sequences::both_passed, crate::specs::Sequences::failed_refused, crate::specs::Sequences::passed_refused, crate::specs::Sequences::test_refused))]
-fn judge_parameter(
-    scope: &Scope,
-    defining: bool,
-    ty: &CType,
-    at: &Token,
-) -> Result<(), ElabError>
+fn judge_parameter(scope: &Scope, defining: bool, ty: &CType, at: &Token) -> Result<(), ElabError>
     ensures { Answers (spec.judged_parameter defining (plain_scope scope.now) (plain_type ty.now) (plain_token at.now)) (λ u. tt) result }
 {
     unless(

@@ -33,7 +33,7 @@ pub loop-number-preserved : goal.loop-number-preserved
 loop-number-preserved c =
     let one : Gives (spec.one_parameter c.args.defining (plain_scope c.loop-number.scope) (map plain_parameter c.loop-number.all.items) (plain_tree c.index-list-number.result) (plain_token c.args.behind.now)) (plain_parameter c.in_ok-p.p) (uses_of c.loop-number.used) (uses_of c.one_parameter.new.used) = rw (sym c.as_slice-before.ensures.value) c.in_ok-p.ensures in
     let all : map plain_parameter c.push.new.self.items ≡ map plain_parameter c.loop-number.all.items ++ plain_parameter c.in_ok-p.p ∷ [] = ap (map plain_parameter) c.in_ok-push.ensures.items ∙ map-append plain_parameter c.loop-number.all.items (c.in_ok-p.p ∷ []) in
-    let slot : c.loop-number.number ≡ length (map plain_parameter c.loop-number.all.items) = sym c.loop-number.invariant.so_many ∙ sym (length-map plain_parameter c.loop-number.all.items) in
+    let slot : c.loop-number.number ≡ length (map plain_parameter c.loop-number.all.items) = sym c.loop-number.invariant.so_many ∙ sym (length-map c.loop-number.all.items plain_parameter) in
     record {
       all = c.loop-number.invariant.all;
       so_many = ap length c.in_ok-push.ensures.items ∙ length_more c.loop-number.all.items c.in_ok-p.p ∙ ap (λ n. n + 1) c.loop-number.invariant.so_many;
