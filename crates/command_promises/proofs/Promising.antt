@@ -8,7 +8,7 @@ use Rattle.command_promises.specs.Sayings.{line, usage}
 use Rattle.command_promises.specs.Writing.{PutsAll, StandsAt, LacksRoomFor}
 use Rattle.command_promises.specs.Endings.{Ending, said, unread, unwritten, memory_ended, Holds, status_of, report_of, ReadsStood, WritesStood, IsSaid, IsUnread, IsUnwritten, IsOutOfMemory, Takes, BreaksOff, Answers}
 use Rattle.command_promises.specs.Commands.{Command, Asked, CourseFor, CourseOf, program, IsOwn, IsFit, IsDecidedCommand}
-use Rattle.command_promises.specs.Promises.{NoneRose, RoomsSuffice, Undisturbed, HasFiles, SaysSo, ReadFails, WriteFails, MemoryEnds, SinkFails, Promises}
+use Rattle.command_promises.specs.Promises.{NoneRose, RoomsSuffice, Undisturbed, EndsInMemory, HasFiles, SaysSo, ReadFails, WriteFails, MemoryEnds, SinkFails, Promises}
 use Rattle.command_promises.proofs.Leading.{Follows, one_saying, done_last, one_end, none_missing}
 use Rattle.command_promises.proofs.Fitting.{tells_fits}
 use Rattle.command_promises.proofs.Answering.{answers_by}
@@ -173,38 +173,38 @@ module _ (command : Command) (decided : IsDecidedCommand command) (query : comma
       not_absent name what h k e = none_missing before t course (decided.one_deed query) name what h k e
 
       -- where never count rose
-      by_counts : (what : Saying) → Comes course before (says what) → NoneRose before after sink sink' → (status ≡ what.status) ⊎ (status ≡ 7)
-      by_counts what comes none = elim answer.told [ inl p ↦ by answer.ending answer.holds p.0 | inr p ↦ absurd (none.report p.1.rose) ]
+      by_counts : (what : Saying) → Comes course before (says what) → NoneRose before after sink sink' → (status ≡ what.status) ⊎ EndsInMemory sink sink' status
+      by_counts what comes none = elim answer.told [ inl p ↦ by answer.ending answer.holds p.0 p.1 | inr p ↦ absurd (none.report p.1.rose) ]
         where
-          by : (e : Ending) → Holds course before after e → status ≡ status_of e → (status ≡ what.status) ⊎ (status ≡ 7)
-          by (said other) h p = inl (p ∙ ap (λ (x : Saying). x.status) (one_comes other what h.comes comes))
-          by (unread name) h p = absurd (none.read h.rose)
-          by (unwritten other) h p = absurd (none.write h.rose)
-          by memory_ended h p = inr p
+          by : (e : Ending) → Holds course before after e → status ≡ status_of e → Takes sink sink' (report_of e) → (status ≡ what.status) ⊎ EndsInMemory sink sink' status
+          by (said other) h p takes = inl (p ∙ ap (λ (x : Saying). x.status) (one_comes other what h.comes comes))
+          by (unread name) h p takes = absurd (none.read h.rose)
+          by (unwritten other) h p takes = absurd (none.write h.rose)
+          by memory_ended h p takes = inr (inl (p, takes))
 
-      -- where the rooms suffice
-      fits_sink : RoomsSuffice course before sink → (e : Ending) → Holds course before after e → ((name : List ℕ) → Holds course before after (unread name) → ⊥) → sink.room < length (report_of e) → ⊥
-      fits_sink rooms (said what) h never less = let k = rooms.for_sink what h.comes in omega (arith, k, less)
-      fits_sink rooms (unread name) h never less = never name h
-      fits_sink rooms (unwritten what) h never less = rooms.for_store what h.comes (h.lacks rooms.store_told)
-      fits_sink rooms memory_ended h never less = let k = rooms.at_least in omega (arith, k, less)
+      -- where the rooms suffice, the sink fails in nothing but to say that memory ended
+      memory_broken : RoomsSuffice course before sink → (e : Ending) → Holds course before after e → ((name : List ℕ) → Holds course before after (unread name) → ⊥) → status ≡ 6 → BreaksOff sink sink' (report_of e) → EndsInMemory sink sink' status
+      memory_broken rooms (said what) h never is broken = let k = rooms.for_sink what h.comes in let less = broken.lacks rooms.sink_told in absurd (omega (arith, k, less))
+      memory_broken rooms (unread name) h never is broken = absurd (never name h)
+      memory_broken rooms (unwritten what) h never is broken = absurd (rooms.for_store what h.comes (h.lacks rooms.store_told))
+      memory_broken rooms memory_ended h never is broken = inr (is, broken)
 
-      by_rooms : (what : Saying) → Comes course before (says what) → RoomsSuffice course before sink → (status ≡ what.status) ⊎ (status ≡ 7)
+      by_rooms : (what : Saying) → Comes course before (says what) → RoomsSuffice course before sink → (status ≡ what.status) ⊎ EndsInMemory sink sink' status
       by_rooms what comes rooms = elim answer.told [
-        | inl p ↦ by answer.ending answer.holds p.0
-        | inr p ↦ absurd (fits_sink rooms answer.ending answer.holds none_unread (p.1.lacks rooms.sink_told))
+        | inl p ↦ by answer.ending answer.holds p.0 p.1
+        | inr p ↦ inr (memory_broken rooms answer.ending answer.holds none_unread p.0 p.1)
       ]
         where
           none_unread : (name : List ℕ) → Holds course before after (unread name) → ⊥
           none_unread name h = not_absent name what h.comes comes (h.absent rooms.store_told)
 
-          by : (e : Ending) → Holds course before after e → status ≡ status_of e → (status ≡ what.status) ⊎ (status ≡ 7)
-          by (said other) h p = inl (p ∙ ap (λ (x : Saying). x.status) (one_comes other what h.comes comes))
-          by (unread name) h p = absurd (none_unread name h)
-          by (unwritten other) h p = absurd (rooms.for_store other h.comes (h.lacks rooms.store_told))
-          by memory_ended h p = inr p
+          by : (e : Ending) → Holds course before after e → status ≡ status_of e → Takes sink sink' (report_of e) → (status ≡ what.status) ⊎ EndsInMemory sink sink' status
+          by (said other) h p takes = inl (p ∙ ap (λ (x : Saying). x.status) (one_comes other what h.comes comes))
+          by (unread name) h p takes = absurd (none_unread name h)
+          by (unwritten other) h p takes = absurd (rooms.for_store other h.comes (h.lacks rooms.store_told))
+          by memory_ended h p takes = inr (inl (p, takes))
 
-      pub complete : (what : Saying) → Comes course before (says what) → Undisturbed course before after sink sink' → (status ≡ what.status) ⊎ (status ≡ 7)
+      pub complete : (what : Saying) → Comes course before (says what) → Undisturbed course before after sink sink' → (status ≡ what.status) ⊎ EndsInMemory sink sink' status
       complete what comes (inl none) = by_counts what comes none
       complete what comes (inr rooms) = by_rooms what comes rooms
 
@@ -217,10 +217,10 @@ module _ (command : Command) (decided : IsDecidedCommand command) (query : comma
           by (unwritten what) h p = absurd (not_absent name what comes h.comes absent)
           by memory_ended h p = (2, omega arith, sym p)
 
-      pub sure : HasFiles course before → RoomsSuffice course before sink → Contains (7 ∷ command.statuses) status
+      pub sure : HasFiles course before → RoomsSuffice course before sink → Contains command.statuses status ⊎ EndsInMemory sink sink' status
       sure files rooms = elim answer.told [
-        | inl p ↦ by answer.ending answer.holds p.0
-        | inr p ↦ absurd (fits_sink rooms answer.ending answer.holds none_unread (p.1.lacks rooms.sink_told))
+        | inl p ↦ by answer.ending answer.holds p.0 p.1
+        | inr p ↦ inr (memory_broken rooms answer.ending answer.holds none_unread p.0 p.1)
       ]
         where
           none_unread : (name : List ℕ) → Holds course before after (unread name) → ⊥
@@ -229,11 +229,11 @@ module _ (command : Command) (decided : IsDecidedCommand command) (query : comma
               let e : ◌≡◌ {A = Option (List ℕ)} (Some there.0) None = sym there.1 ∙ h.absent rooms.store_told in
               absurd cc
 
-          by : (e : Ending) → Holds course before after e → status ≡ status_of e → Contains (7 ∷ command.statuses) status
-          by (said what) h p = subst (Contains (7 ∷ command.statuses)) (sym p) (behind 7 command.statuses what.status (fit what h.comes).listed)
-          by (unread name) h p = absurd (none_unread name h)
-          by (unwritten what) h p = absurd (rooms.for_store what h.comes (h.lacks rooms.store_told))
-          by memory_ended h p = (0, omega arith, sym p)
+          by : (e : Ending) → Holds course before after e → status ≡ status_of e → Takes sink sink' (report_of e) → Contains command.statuses status ⊎ EndsInMemory sink sink' status
+          by (said what) h p takes = inl (subst (Contains command.statuses) (sym p) (fit what h.comes).listed)
+          by (unread name) h p takes = absurd (none_unread name h)
+          by (unwritten what) h p takes = absurd (rooms.for_store what h.comes (h.lacks rooms.store_told))
+          by memory_ended h p takes = inr (inl (p, takes))
 
     pub promised : Promises command query before after sink sink' status
     promised = record {

@@ -5,7 +5,7 @@ use Rattle.project_store.specs.States.{StoreState, SinkState, Kept}
 use Rattle.command_promises.specs.Courses.{Saying, Course, reads, says, Comes}
 use Rattle.command_promises.specs.Sayings.{line}
 use Rattle.command_promises.specs.Writing.{PutsAll, LacksRoomFor}
-use Rattle.command_promises.specs.Endings.{Ending, Holds, report_of, IsUnread, IsUnwritten, Takes, BreaksOff}
+use Rattle.command_promises.specs.Endings.{Ending, Holds, report_of, IsUnread, IsUnwritten, Takes, BreaksOff, Told}
 use Rattle.command_promises.specs.Commands.{Command, IsOwn}
 
 -- none of the three counts of faults rose
@@ -14,17 +14,20 @@ pub record NoneRose (before after : StoreState) (sink sink' : SinkState) : Type 
   pub write : Rose before.write_faults after.write_faults → ⊥
   pub report : Rose sink.faults sink'.faults → ⊥
 
--- both rooms are told, and suffice for whatever the course comes to say, and to say that memory ended
+-- both rooms are told, and suffice for whatever the course comes to say
 pub record RoomsSuffice (course : Course) (before : StoreState) (sink : SinkState) : Type 0 where
   pub store_told : before.tells_room
   pub sink_told : sink.tells_room
   pub for_store : (what : Saying) → Comes course before (says what) → LacksRoomFor before what.written → ⊥
   pub for_sink : (what : Saying) → Comes course before (says what) → length what.report ≤ sink.room
-  pub at_least : length (line (codes "want of memory")) ≤ sink.room
 
 -- no fault can come between
 abbrev pub Undisturbed : Course → StoreState → StoreState → SinkState → SinkState → Type 0
 Undisturbed course before after sink sink' = NoneRose before after sink sink' ⊎ RoomsSuffice course before sink
+
+-- memory ended, and that was said; or the sink failed in it
+abbrev pub EndsInMemory : SinkState → SinkState → ℕ → Type 0
+EndsInMemory sink sink' status = Told 7 (line (codes "want of memory")) sink sink' status
 
 -- each file that the course comes to read is there
 abbrev pub HasFiles : Course → StoreState → Type 0
@@ -72,15 +75,15 @@ pub record Promises (command : Command) (query : command.Query) (before after : 
   pub memory : status ≡ 7 → MemoryEnds before after sink sink'
   pub untouched : status ≢ 0 → status ≢ 4 → status ≢ 6 → Kept before after
   pub reads_only : command.writes ≡ false → (status ≢ 4) × Kept before after
-  -- Where nothing disturbs it, the status is that of what the command comes to say, or want of memory.
+  -- Where nothing disturbs it, the status is that of what the command comes to say, or memory ends.
   pub complete : before.tells → (what : Saying) → Comes (command.Does query) before (says what)
-      → Undisturbed (command.Does query) before after sink sink' → (status ≡ what.status) ⊎ (status ≡ 7)
+      → Undisturbed (command.Does query) before after sink sink' → (status ≡ what.status) ⊎ EndsInMemory sink sink' status
   -- A file that isn't there is a fault.
   pub missing : before.tells → (name : List ℕ) → Comes (command.Does query) before (reads name) → before.file name ≡ None
       → Contains (3 ∷ 6 ∷ 7 ∷ []) status
   -- Where files and room suffice, no fault comes.
   pub sure : before.tells → HasFiles (command.Does query) before → RoomsSuffice (command.Does query) before sink
-      → Contains (7 ∷ command.statuses) status
+      → Contains command.statuses status ⊎ EndsInMemory sink sink' status
   -- Each fault has its status, where the counts are exact: with another no count moved.
   pub reads_stood : before.exact → status ≢ 3 → status ≢ 6 → after.read_faults ≡ before.read_faults
   pub writes_stood : before.exact → status ≢ 4 → status ≢ 6 → after.write_faults ≡ before.write_faults
