@@ -172,7 +172,7 @@ module _ (command : Command) (decided : IsDecidedCommand command) (query : comma
       not_absent : (name : List ℕ) (what : Saying) → Comes course before (reads name) → Comes course before (says what) → before.file name ≡ None → ⊥
       not_absent name what h k e = none_missing before t course (decided.one_deed query) name what h k e
 
-      -- where never count rose
+      -- where no count rises
       by_counts : (what : Saying) → Comes course before (says what) → NoneRose before after sink sink' → (status ≡ what.status) ⊎ EndsInMemory sink sink' status
       by_counts what comes none = elim answer.told [ inl p ↦ by answer.ending answer.holds p.0 p.1 | inr p ↦ absurd (none.report p.1.rose) ]
         where
@@ -308,7 +308,7 @@ module _ {Which : Type 0} (commands : Which → Command) (words : List (List ℕ
       by (unwritten what) h p = absurd (h.some (ap (λ (x : Saying). x.written) (only_usage h.comes.files what h.comes.leads)))
       by memory_ended h p = (2, omega arith, sym p)
 
--- what the words ask of one command, they ask of never other
+-- what the words ask of one command, they ask of no other
 module _ {Which : Type 0} (commands : Which → Command) (decided : (which : Which) → IsDecidedCommand (commands which)) (apart : (a b : Which) → (commands a).word ≡ (commands b).word → a ≡ b) (words : List (List ℕ)) where
   same_further : (x y : List ℕ) (xs ys : List (List ℕ)) → x ∷ xs ≡ y ∷ ys → (x ≡ y) × (xs ≡ ys)
   same_further x y xs ys e = (cc, cc)
