@@ -1,12 +1,12 @@
 -- What follows from an answer, for each command that is decided.
-use Rattle.std.proofs.Common.{◌≡◌, ◌≢◌, ◌⊎◌, inl, inr, ℕ, suc, ◌+◌, ◌<◌, ◌≤◌, Bool, true, false, List, [], ◌∷◌, length, Some, None, Option, refl, sym, ◌∙◌, ap, subst, arith, codes}
+use Rattle.std.proofs.Common.{◌≡◌, ◌≢◌, ◌⊎◌, inl, inr, ℕ, suc, Bool, true, false, List, [], ◌∷◌, Some, None, Option, refl, sym, ◌∙◌, ap, subst, arith}
 use Rattle.std.specs.List.{Contains}
 use Rattle.text_edits.specs.Files.{PlainFile}
 use Rattle.project_store.specs.States.{StoreState, SinkState, Kept}
-use Rattle.command_promises.specs.Courses.{Saying, Deed, reads, says, Course, Leads, Comes, IsDecided}
-use Rattle.command_promises.specs.Sayings.{line, usage}
-use Rattle.command_promises.specs.Writing.{PutsAll, StandsAt, LacksRoomFor}
-use Rattle.command_promises.specs.Endings.{Ending, said, unread, unwritten, memory_ended, Holds, status_of, report_of, ReadsStood, WritesStood, IsSaid, IsUnread, IsUnwritten, IsOutOfMemory, Takes, BreaksOff, Answers}
+use Rattle.command_promises.specs.Courses.{Saying, reads, says, Course, Leads, Comes, IsDecided}
+use Rattle.command_promises.specs.Sayings.{usage}
+use Rattle.command_promises.specs.Writing.{PutsAll, StandsAt}
+use Rattle.command_promises.specs.Endings.{Ending, said, unread, unwritten, memory_ended, Holds, status_of, report_of, ReadsStood, WritesStood, Takes, BreaksOff, Answers}
 use Rattle.command_promises.specs.Commands.{Command, Asked, CourseFor, CourseOf, program, IsOwn, IsFit, IsDecidedCommand}
 use Rattle.command_promises.specs.Promises.{NoneRose, RoomsSuffice, Undisturbed, EndsInMemory, HasFiles, SaysSo, ReadFails, WriteFails, MemoryEnds, SinkFails, Promises}
 use Rattle.command_promises.proofs.Leading.{Follows, one_saying, done_last, one_end, none_missing}
