@@ -194,17 +194,3 @@ module _ (course : Course) (store : StoreState) (Is : Fault → Type 0) (Unread 
   refusal_came (error.Size name) came why h = fault_came (size (string_bytes name)) came why h
   refusal_came error.Read came why h = subst (CameTo course store) (sym h) (unread why)
   refusal_came error.Memory came why h = subst (CameTo course store) (sym h) tt
-
-fault_or_stop : (fault : Fault) (came : Result Said Stop) → SaysFault fault came → came ≡ Err ReadFault → ⊥
-fault_or_stop fault came h e = subst (SaysFault fault) e h
-
--- a read fault is said of a read fault alone
-pub refuses_read : (e : ProjectError) (came : Result Said Stop) → Refuses e came → came ≡ Err ReadFault → e ≡ error.Read
-refuses_read error.NotToml came h e = absurd (fault_or_stop not_toml came h e)
-refuses_read (error.Shape key) came h e = absurd (fault_or_stop (shape (string_bytes key)) came h e)
-refuses_read (error.Feature name) came h e = absurd (fault_or_stop (feature (string_bytes name)) came h e)
-refuses_read (error.Constraint place) came h e = absurd (fault_or_stop (constraint place) came h e)
-refuses_read (error.Duplicate name) came h e = absurd (fault_or_stop (duplicate (string_bytes name)) came h e)
-refuses_read (error.Size name) came h e = absurd (fault_or_stop (size (string_bytes name)) came h e)
-refuses_read error.Read came h e = refl
-refuses_read error.Memory came h e = let f : ◌≡◌ {A = Result Said Stop} (Err WantOfMemory) (Err ReadFault) = sym h ∙ e in absurd cc

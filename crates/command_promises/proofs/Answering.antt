@@ -1,18 +1,18 @@
 -- What a call came to, and then its files and its report, are an answer.
-use Rattle.std.proofs.Common.{◌≡◌, inl, inr, ℕ, zero, suc, ◌+◌, ◌<◌, ◌≤◌, List, [], ◌∷◌, Result, Ok, Err, refl, sym, ap, ◌∙◌, arith}
+use Rattle.std.proofs.Common.{◌≡◌, inl, inr, ℕ, zero, suc, List, [], ◌∷◌, Result, Ok, Err, refl, sym, ap, ◌∙◌, arith}
 use Rattle.text_edits.specs.Files.{PlainFile, Lookup, plain_files}
-use Rattle.project_store.specs.Faults.{Rose, HasCause}
-use Rattle.project_store.specs.Lookup.{SameFiles, PutsFile, LeavesPart}
+use Rattle.project_store.specs.Faults.{HasCause}
+use Rattle.project_store.specs.Lookup.{PutsFile}
 use Rattle.project_store.specs.Room.{names_taken}
 use Rattle.project_store.specs.States.{StoreState, SinkState, IsReadAlone}
 use Rattle.command_promises.specs.declared.said.Said.{Said}
 use Rattle.command_promises.specs.declared.said.Stop.{Stop}
 use Rattle.command_promises.specs.declared.said.Stop.TheVariants.{ReadFault, WantOfMemory}
-use Rattle.command_promises.specs.Courses.{Saying, Deed, reads, says, Course, Leads, IsThere, Comes}
-use Rattle.command_promises.specs.Sayings.{saying, Stops, CameTo}
-use Rattle.command_promises.specs.Writing.{PutsAll, StandsAt, names_needed, bytes_needed, LacksRoomFor}
+use Rattle.command_promises.specs.Courses.{reads, says, Course, Comes}
+use Rattle.command_promises.specs.Sayings.{saying, CameTo}
+use Rattle.command_promises.specs.Writing.{PutsAll, StandsAt, names_needed, LacksRoomFor}
 use Rattle.command_promises.specs.Endings.{Ending, said, unread, unwritten, memory_ended, ReadsStood, Holds, Answers}
-use Rattle.command_promises.specs.Giving.{WroteAll, WrotePart, Finished}
+use Rattle.command_promises.specs.Giving.{Finished}
 use Rattle.command_promises.proofs.Leading.{Follows, comes_by}
 
 -- courses that follow

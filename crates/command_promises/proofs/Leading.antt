@@ -1,8 +1,8 @@
 -- Where courses lead.
-use Rattle.std.proofs.Common.{◌≡◌, ℕ, suc, ◌<◌, List, [], ◌∷◌, ◌++◌, length, Some, None, Option, All, refl, sym, ◌∙◌, ap, subst, arith}
+use Rattle.std.proofs.Common.{◌≡◌, ℕ, suc, List, [], ◌∷◌, Some, None, Option, All, sym, ◌∙◌, ap, subst, arith}
 use Rattle.text_edits.specs.Files.{PlainFile}
 use Rattle.project_store.specs.States.{StoreState}
-use Rattle.command_promises.specs.Courses.{Saying, Deed, reads, says, Course, Leads, IsThere, Comes, Agree, IsDecided}
+use Rattle.command_promises.specs.Courses.{Saying, Deed, reads, says, Course, Leads, IsThere, Comes, IsDecided}
 
 -- what a course does, another does too
 abbrev pub Follows : Course → Course → Type 0

@@ -1,12 +1,12 @@
 -- What follows from an answer, for each command that is decided.
-use Rattle.std.proofs.Common.{◌≡◌, ◌≢◌, ◌⊎◌, inl, inr, ℕ, suc, ◌+◌, ◌<◌, ◌≤◌, Bool, true, false, List, [], ◌∷◌, length, Some, None, Option, refl, sym, ◌∙◌, ap, subst, arith, codes}
+use Rattle.std.proofs.Common.{◌≡◌, ◌≢◌, ◌⊎◌, inl, inr, ℕ, suc, Bool, true, false, List, [], ◌∷◌, Some, None, Option, refl, sym, ◌∙◌, ap, subst, arith}
 use Rattle.std.specs.List.{Contains}
 use Rattle.text_edits.specs.Files.{PlainFile}
 use Rattle.project_store.specs.States.{StoreState, SinkState, Kept}
-use Rattle.command_promises.specs.Courses.{Saying, Deed, reads, says, Course, Leads, Comes, IsDecided}
-use Rattle.command_promises.specs.Sayings.{line, usage}
-use Rattle.command_promises.specs.Writing.{PutsAll, StandsAt, LacksRoomFor}
-use Rattle.command_promises.specs.Endings.{Ending, said, unread, unwritten, memory_ended, Holds, status_of, report_of, ReadsStood, WritesStood, IsSaid, IsUnread, IsUnwritten, IsOutOfMemory, Takes, BreaksOff, Answers}
+use Rattle.command_promises.specs.Courses.{Saying, reads, says, Course, Leads, Comes, IsDecided}
+use Rattle.command_promises.specs.Sayings.{usage}
+use Rattle.command_promises.specs.Writing.{PutsAll, StandsAt}
+use Rattle.command_promises.specs.Endings.{Ending, said, unread, unwritten, memory_ended, Holds, status_of, report_of, ReadsStood, WritesStood, Takes, BreaksOff, Answers}
 use Rattle.command_promises.specs.Commands.{Command, Asked, CourseFor, CourseOf, program, IsOwn, IsFit, IsDecidedCommand}
 use Rattle.command_promises.specs.Promises.{NoneRose, RoomsSuffice, Undisturbed, EndsInMemory, HasFiles, SaysSo, ReadFails, WriteFails, MemoryEnds, SinkFails, Promises}
 use Rattle.command_promises.proofs.Leading.{Follows, one_saying, done_last, one_end, none_missing}
@@ -172,7 +172,7 @@ module _ (command : Command) (decided : IsDecidedCommand command) (query : comma
       not_absent : (name : List ℕ) (what : Saying) → Comes course before (reads name) → Comes course before (says what) → before.file name ≡ None → ⊥
       not_absent name what h k e = none_missing before t course (decided.one_deed query) name what h k e
 
-      -- where never count rose
+      -- where no count rises
       by_counts : (what : Saying) → Comes course before (says what) → NoneRose before after sink sink' → (status ≡ what.status) ⊎ EndsInMemory sink sink' status
       by_counts what comes none = elim answer.told [ inl p ↦ by answer.ending answer.holds p.0 p.1 | inr p ↦ absurd (none.report p.1.rose) ]
         where
@@ -308,7 +308,7 @@ module _ {Which : Type 0} (commands : Which → Command) (words : List (List ℕ
       by (unwritten what) h p = absurd (h.some (ap (λ (x : Saying). x.written) (only_usage h.comes.files what h.comes.leads)))
       by memory_ended h p = (2, omega arith, sym p)
 
--- what the words ask of one command, they ask of never other
+-- what the words ask of one command, they ask of no other
 module _ {Which : Type 0} (commands : Which → Command) (decided : (which : Which) → IsDecidedCommand (commands which)) (apart : (a b : Which) → (commands a).word ≡ (commands b).word → a ≡ b) (words : List (List ℕ)) where
   same_further : (x y : List ℕ) (xs ys : List (List ℕ)) → x ∷ xs ≡ y ∷ ys → (x ≡ y) × (xs ≡ ys)
   same_further x y xs ys e = (cc, cc)

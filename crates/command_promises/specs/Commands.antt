@@ -1,7 +1,7 @@
 -- What a command is.
 use Rattle.std.specs.Prelude.{◌≡◌, ◌≢◌, ◌⊎◌, ℕ, Bool, true, List, [], ◌∷◌, Contains}
 use Rattle.text_edits.specs.Files.{PlainFile}
-use Rattle.command_promises.specs.Courses.{Saying, Deed, says, Course, IsDecided}
+use Rattle.command_promises.specs.Courses.{Saying, says, Course, IsDecided}
 use Rattle.command_promises.specs.Sayings.{usage}
 
 -- Its first word, what can be asked of it, which further words ask for that, and its course then; the statuses with which it says

@@ -1,4 +1,4 @@
-use Rattle.std.proofs.Common.{take, map, ◌≡◌, ◌≤◌, ◌+◌}
+use Rattle.std.proofs.Common.{take, map}
 use Rattle.text_edits.specs.Files.{plain_file}
 use Rattle.command_promises.specs.Giving.{WroteAll}
 use Rattle.command_promises.proofs.write.write_all.Given as goal
