@@ -35,7 +35,7 @@ stage() {
 declare -A spent task
 sample() {
   local pid stat rest words folder crate
-  for pid in $(pgrep -x rattle); do
+  for pid in $(pgrep -x "rattle|antt-kernel"); do
     read -r stat 2>/dev/null <"/proc/$pid/stat" || continue
     if [ -z "${task[$pid]-}" ]; then
       mapfile -d '' -t words 2>/dev/null <"/proc/$pid/cmdline" || continue
