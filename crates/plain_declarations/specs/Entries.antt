@@ -1,12 +1,13 @@
 -- Steps in judging initialisers.
 use Rattle.std.proofs.Common.{◌≡◌, ℕ, suc, ◌+◌, ◌<◌, ◌≤◌, ◌==◌, ◌&&◌, Bool, true, false, List, [], ◌∷◌, ◌++◌, length, take, map, reverse, refl, sym, ap, arith, ◌∙◌}
-use Rattle.std.specs.Prelude.{pos, Option, Some, None, if◌then◌else◌}
+use Rattle.std.specs.Prelude.{pos, Option, Some, None, Result, Ok, Err, MatchResult, if◌then◌else◌}
 use Rattle.std.proofs.lemmas.List.{map-append, append_assoc, reverse-append, append-nil, length-append}
 use Rattle.std.proofs.Math.Seq.{take-append_seam}
 use Rattle.std.proofs.Common.{add-one, take_all, drop, get_or, zero, ◌*◌}
 use Rattle.std.proofs.Math.Seq.{drop-cons}
 use Rattle.std.proofs.Math.ListN.{drop_of_length-le}
 use Rattle.plain_scope.specs.declared.errors.ElabError.{ElabError}
+use Rattle.plain_scope.specs.declared.errors.ElabError.TheVariants.{Memory}
 use Rattle.plain_scope.specs.Judgements.{Gives, IsRefused, RefusedAs}
 use Rattle.plain_scope.specs.JudgementLaws.{refused_first}
 use Rattle.plain_declarations.specs.Shapes.{braced}
@@ -168,6 +169,19 @@ excess_refused c first kind found at r is = is ∙ rw (r.judged, r.stands.file, 
 
 pub excess_given : (c : Checked Typed) (first : PlainToken) (x : Typed) (before after : List ℕ → Bool) → Gives c x before after → BadConstant ≡ kind_of_excess first c
 excess_given c first x before after g = sym (ap (kind_of_excess first) g.judged)
+
+-- a list in braces is no expression
+pub no_value_in_braces : (scope : Scope) (first : PlainToken) (parts entries : PlainTrees) → braced parts ≡ Some entries → BadConstant ≡ kind_of_excess first (valued scope (node k.Braces parts))
+no_value_in_braces scope first (more brace (more (node kind entries) (more last none))) given is = refl
+no_value_in_braces scope first none given is = cc
+no_value_in_braces scope first (more brace none) given is = cc
+no_value_in_braces scope first (more brace (more (leaf token) rest)) given is = cc
+no_value_in_braces scope first (more brace (more (node kind entries) none)) given is = cc
+no_value_in_braces scope first (more brace (more (node kind entries) (more last (more other rest)))) given is = cc
+
+pub braces_judged : (scope : Scope) (first : PlainToken) (parts : PlainTrees) (tree : PlainTree) (result : Result TypeKind ElabError) → tree ≡ node k.Braces parts → MatchResult result (λ kind. (s : Scope) (f : PlainToken) → kind ≡ kind_of_excess f (valued s (node k.Braces parts))) (λ error. error ≡ Memory) → MatchResult result (λ kind. kind ≡ kind_of_excess first (valued scope tree)) (λ error. error ≡ Memory)
+braces_judged scope first parts tree (Ok kind) is given = given scope first ∙ ap (λ (t : PlainTree). kind_of_excess first (valued scope t)) (sym is)
+braces_judged scope first parts tree (Err error) is given = given
 
 -- a list in braces, or texts
 abbrev pub is_listed : PlainTree → Bool

@@ -1,12 +1,13 @@
 //! Initialisers (6.7.9).
 ghost use Rattle.std.specs.Prelude.{◌≡◌, ◌==◌, ◌&&◌, ◌∷◌, ◌++◌, ◌≤◌, [], nat_lt, length, take, map, pos, true, IfOk, Some, None, option_map, MatchResult, if◌then◌else◌};
 ghost use Rattle.text_edits.specs.Span.{plain_span};
-ghost use Rattle.c_text.specs.Token.{plain_token};
+ghost use Rattle.c_text.specs.Token.{PlainToken, plain_token};
 ghost use Rattle.c_types.specs.Types.{plain_type, structure};
 ghost use Rattle.c_types.specs.Integers.{converted};
 ghost use Rattle.c_tree.specs.Trees.{node, plain_tree, plain_trees};
 ghost use Rattle.core_meaning.specs.Plain.{plain_expression, path_from};
 ghost use Rattle.core_meaning.specs.Values.{part};
+ghost use Rattle.core_meaning.specs.Entities as entities;
 ghost use Rattle.core_meaning.specs.Expressions.{valued};
 ghost use Rattle.core_meaning.specs.Constancy as spec;
 ghost use Rattle.plain_scope.specs.PlainScope.{plain_scope};
@@ -15,6 +16,7 @@ ghost use Rattle.plain_declarations.specs.PlainDeclared.{plain_initial};
 ghost use Rattle.plain_declarations.specs.Entries.{globals_if, entry_initial, text_at, value_at, allowed_value, refused_value, array_from_text, kind_at, excess};
 
 use crate::constants::is_allowed;
+use crate::shapes::entries_in;
 use crate::types::is_character_type;
 use crate::words::entry_count;
 use c_text::{FileToken, Token};
@@ -429,9 +431,17 @@ fn kind_at(kind: TypeKind, at: &FileToken, first: &Token) -> TypeKind
     }
 }
 
-/// How an initialiser too many is refused: as an expression, where it is refused at its first token by a lesser number.
+/// A list in braces is no expression.
+#[tactic(auto, using(crate::specs::Entries::no_value_in_braces))]
+fn kind_of_braces(parts: &[Tree]) -> Result<TypeKind, ElabError>
+    ensures { MatchResult result (λ kind. (scope : entities.Scope) (first : PlainToken) → kind ≡ spec.kind_of_excess first (valued scope (node Kind.Braces (plain_trees parts.now)))) (λ error. error ≡ ElabError.Memory) }
+{
+    entries_in(parts)?;
+    Ok(TypeKind::BadConstant)
+}
+
 #[tactic(auto, using(crate::specs::Entries::excess_refused, crate::specs::Entries::excess_given))]
-fn kind_of_excess(
+fn kind_of_value(
     alloc: Global,
     scope: &Scope,
     used: &mut Used,
@@ -445,6 +455,26 @@ fn kind_of_excess(
         Err(ElabError::BadType(kind, at)) => Ok(kind_at(kind, &at, first)),
         Err(ElabError::Link(..)) => Err(ElabError::Memory),
         Err(ElabError::Memory) => Err(ElabError::Memory),
+    }
+}
+
+/// How an initialiser too many is refused: as an expression, where it is refused at its first token by a lesser number.
+#[tactic(auto, using(c_tree::specs::TreeLaws::tree_kinds))]
+fn kind_of_excess(
+    alloc: Global,
+    scope: &Scope,
+    used: &mut Used,
+    tree: &Tree,
+    first: &Token,
+) -> Result<TypeKind, ElabError>
+    ensures { MatchResult result (λ kind. kind ≡ spec.kind_of_excess (plain_token first.now) (valued (plain_scope scope.now) (plain_tree tree.now))) (λ error. error ≡ ElabError.Memory) }
+{
+    match tree {
+        Tree::Leaf(_) => kind_of_value(alloc, scope, used, tree, first),
+        Tree::Node(kind, parts) => match kind {
+            Kind::Braces => kind_of_braces(parts),
+            _ => kind_of_value(alloc, scope, used, tree, first),
+        },
     }
 }
 
