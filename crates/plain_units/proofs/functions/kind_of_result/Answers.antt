@@ -1,4 +1,4 @@
-use Rattle.std.proofs.Common.{◌≡◌, List, map, sym, ap, subst, ◌∙◌, true}
+use Rattle.std.proofs.Common.{◌≡◌, ℕ, List, map, sym, ap, subst, ◌∙◌, true}
 use Rattle.c_text.specs.Token.{PlainToken, plain_token}
 use Rattle.c_types.specs.Types.{PlainType, plain_type}
 use Rattle.c_tree.specs.Trees.{PlainTrees, plain_trees}
@@ -23,5 +23,6 @@ returns-in-Ok c =
     let kind : TypeKind = c.in_ok-kind-in-Ok.kind in
     let is : kind ≡ kind_or_incomplete (with_name behind name (function (signature_of result (map plain_parameter c.in-Ok.parameters.items))) storage) =
     subst (λ (ps : List RustParameter). kind ≡ kind_or_incomplete (with_name behind name (function (signature_of result (map plain_parameter ps))) storage)) c.as_slice-in-Ok.ensures.value c.in_ok-kind-in-Ok.ensures in
-    let new : may_be_function storage result (scope.file_names name.text) ≡ true = sym c.if-not-may_be_function.ensures in
+    let new : may_be_function storage result (scope.file_names name.text) ≡ true =
+    subst (λ (text : List ℕ). may_be_function storage result (scope.file_names text) ≡ true) c.as_slice.ensures.value (sym c.if-not-may_be_function.ensures) in
     kind_behind scope behind storage result (plain_trees c.args.parts.now) name (map plain_parameter c.in-Ok.parameters.items) (uses_of c.args.used.now) (uses_of c.declared_parameters.new.used) kind new c.in-Ok.ensures.judged c.in-Ok.ensures.same is
