@@ -13,7 +13,7 @@ use Rattle.core_meaning.specs.Checking.{Checked, ◌>>=◌, give, unless_so, fou
 use Rattle.core_meaning.specs.Entities.{Scope}
 use Rattle.core_meaning.specs.Typing.{fits_into}
 use Rattle.core_meaning.specs.Expressions.{valued, first_token}
-use Rattle.core_meaning.specs.Constancy.{is_constant, constant_value, address_scalar, first_scalar, is_allowed, value_initial, whole_initial, text_or_whole, Initial, initial, initial_entries, part_for, path_for}
+use Rattle.core_meaning.specs.Constancy.{is_constant, constant_value, address_scalar, first_scalar, is_allowed, value_initial, whole_initial, text_or_whole, Initial, initial, initial_entries, part_for, path_for, part_or_excess}
 
 pub address_there : (globals : ℕ) (place : PlainPlace) (e : PlainExpression) (x : Option Scalar) → e ≡ address place → x ≡ address_scalar globals (address place) → x ≡ address_scalar globals e
 address_there globals place e x is there = there ∙ ap (address_scalar globals) (sym is)
@@ -52,6 +52,10 @@ text_same : (scope : Scope) (g h : ℕ) (ty : PlainType) (path : Path) (parts : 
 text_same scope g h (array_of element count) path parts first = refl
 text_same scope g h other path parts first = value_same scope g h other path (node k.Texts parts) first
 
+excess_same : (scope : Scope) (g h : ℕ) (element : Option PlainType) (tree : PlainTree) (first : PlainToken) → part_or_excess scope (Some g) element tree first ≡ part_or_excess scope (Some h) element tree first
+excess_same scope g h (Some element) tree first = refl
+excess_same scope g h None tree first = refl
+
 mutual
   -- an initialiser's parts don't depend on the number of globals
   pub initial_same : (scope : Scope) (g h : ℕ) (ty : PlainType) (path : Path) (tree : PlainTree) (behind : PlainToken) → initial scope (Some g) ty path tree behind ≡ initial scope (Some h) ty path tree behind
@@ -61,9 +65,12 @@ mutual
 
   entries_same : (scope : Scope) (g h : ℕ) (ty : PlainType) (path : Path) (n : ℕ) (entries : PlainTrees) (behind : PlainToken) → initial_entries scope (Some g) ty path n entries behind ≡ initial_entries scope (Some h) ty path n entries behind
   entries_same scope g h ty path n none behind = refl
-  entries_same scope g h ty path n (more tree none) behind = ap (λ (next : PlainType → Checked (List Initial)). found_or (part_for scope.structs ty n) BadConstant (first_token tree behind) >>= next) (fun_ext (λ element. initial_same scope g h element (path_for ty path n) tree behind))
+  entries_same scope g h ty path n (more tree none) behind =
+      ap (λ (c : Checked PlainType). c >>= (λ element. initial scope (Some g) element (path_for ty path n) tree behind)) (excess_same scope g h (part_for scope.structs ty n) tree (first_token tree behind))
+      ∙ ap (λ (next : PlainType → Checked (List Initial)). part_or_excess scope (Some h) (part_for scope.structs ty n) tree (first_token tree behind) >>= next) (fun_ext (λ element. initial_same scope g h element (path_for ty path n) tree behind))
   entries_same scope g h ty path n (more tree (more comma rest)) behind =
-      ap (λ (next : PlainType → Checked (List Initial)). found_or (part_for scope.structs ty n) BadConstant (first_token tree behind) >>= next)
+      ap (λ (c : Checked PlainType). c >>= (λ element. initial scope (Some g) element (path_for ty path n) tree behind >>= (λ first. initial_entries scope (Some g) ty path (n + 1) rest behind >>= (λ others. give (first ++ others))))) (excess_same scope g h (part_for scope.structs ty n) tree (first_token tree behind))
+      ∙ ap (λ (next : PlainType → Checked (List Initial)). part_or_excess scope (Some h) (part_for scope.structs ty n) tree (first_token tree behind) >>= next)
       (fun_ext (λ element.
       ap (λ (c : Checked (List Initial)). c >>= (λ first. initial_entries scope (Some g) ty path (n + 1) rest behind >>= (λ others. give (first ++ others)))) (initial_same scope g h element (path_for ty path n) tree behind)
       ∙ ap (λ (c : Checked (List Initial)). initial scope (Some h) element (path_for ty path n) tree behind >>= (λ first. c >>= (λ others. give (first ++ others)))) (entries_same scope g h ty path (n + 1) rest behind)))

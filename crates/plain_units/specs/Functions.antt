@@ -21,7 +21,7 @@ use Rattle.plain_scope.specs.Parts.{parts_in}
 use Rattle.plain_scope.specs.Judgements.{Gives, RefusedAs}
 use Rattle.plain_scope.specs.declared.errors.ElabError.{ElabError}
 use Rattle.plain_scope.specs.declared.errors.ElabError.TheVariants.{BadType, Link, Memory}
-use Rattle.plain_scope.specs.JudgementLaws.{refused_first}
+use Rattle.plain_scope.specs.JudgementLaws.{refused_first, gives_then}
 use Rattle.plain_declarations.specs.Sequences.{gives_of, refused_of, next_of, gives_next, refused_next, gives_as, refused_behind}
 use Rattle.plain_units.specs.Members.{member_bound, member_refused}
 use Rattle.plain_units.specs.Binding.{bind_assoc, regrouped, then_same}
@@ -202,12 +202,13 @@ initialiser_refused scope named storage f name initialiser error a r =
 declared_as_found : (scope : Scope) (storage : Storage) (ty result : PlainType) (parts : PlainTrees) (name : PlainToken) (initialiser : Option PlainTree) → result ≡ starred parts ty → function_declared scope storage ty parts name initialiser ≡ (declares (file_entity name.text) >>= (λ u. new_function false scope storage result parts name >>= function_behind scope storage result name initialiser))
 declared_as_found scope storage ty result parts name initialiser is = ap (λ r. declares (file_entity name.text) >>= (λ u. new_function false scope storage r parts name >>= function_behind scope storage r name initialiser)) (sym is)
 
-pub declared_gives : (scope : Scope) (storage : Storage) (ty result : PlainType) (parts : PlainTrees) (name : PlainToken) (initialiser : Option PlainTree) (parameters : List Parameter) (x : Scope) (before after : List ℕ → Bool) → result ≡ starred parts ty → Gives (new_function false scope storage result parts name) parameters before after → placed_function scope storage (signature_of result parameters) name initialiser ≡ give x → Gives (function_declared scope storage ty parts name initialiser) x before after
-declared_gives scope storage ty result parts name initialiser parameters x before after is g placed =
+pub declared_gives : (scope behind : Scope) (storage : Storage) (ty result : PlainType) (parts : PlainTrees) (name : PlainToken) (initialiser : Option PlainTree) (parameters : List Parameter) (x : Scope) (before after : List ℕ → Bool) → result ≡ starred parts ty → Gives (new_function false scope storage result parts name) parameters before after → behind ≡ scope → placed_function behind storage (signature_of result parameters) name initialiser ≡ give x → Gives (function_declared scope storage ty parts name initialiser) x before after
+declared_gives scope behind storage ty result parts name initialiser parameters x before after is g same placed =
     let found : Checked (List Parameter) = new_function false scope storage result parts name in
+    let there : placed_function scope storage (signature_of result parameters) name initialiser ≡ give x = ap (λ s. placed_function s storage (signature_of result parameters) name initialiser) (sym same) ∙ placed in
     gives_of (function_declared scope storage ty parts name initialiser) (declares (file_entity name.text) >>= (λ u. found >>= function_behind scope storage result name initialiser)) x before after (declared_as_found scope storage ty result parts name initialiser is)
     (member_bound (file_entity name.text) (λ u. found >>= function_behind scope storage result name initialiser) x before after
-    (gives_as found (function_behind scope storage result name initialiser) parameters x before after g placed))
+    (gives_as found (function_behind scope storage result name initialiser) parameters x before after g there))
 
 pub parameters_refused : (scope : Scope) (storage : Storage) (ty result : PlainType) (parts : PlainTrees) (name : PlainToken) (initialiser : Option PlainTree) (error : ElabError) → result ≡ starred parts ty → RefusedAs (new_function false scope storage result parts name) error → RefusedAs (function_declared scope storage ty parts name initialiser) error
 parameters_refused scope storage ty result parts name initialiser error is r =
@@ -216,12 +217,13 @@ parameters_refused scope storage ty result parts name initialiser error is r =
     (member_refused (file_entity name.text) (λ u. found >>= function_behind scope storage result name initialiser) error
     (refused_first found (function_behind scope storage result name initialiser) error r))
 
-pub placing_refused : (scope : Scope) (storage : Storage) (ty result : PlainType) (parts : PlainTrees) (name : PlainToken) (initialiser : Option PlainTree) (parameters : List Parameter) (before after : List ℕ → Bool) (error : ElabError) → result ≡ starred parts ty → Gives (new_function false scope storage result parts name) parameters before after → RefusedAs (placed_function scope storage (signature_of result parameters) name initialiser) error → RefusedAs (function_declared scope storage ty parts name initialiser) error
-placing_refused scope storage ty result parts name initialiser parameters before after error is g r =
+pub placing_refused : (scope behind : Scope) (storage : Storage) (ty result : PlainType) (parts : PlainTrees) (name : PlainToken) (initialiser : Option PlainTree) (parameters : List Parameter) (before after : List ℕ → Bool) (error : ElabError) → result ≡ starred parts ty → Gives (new_function false scope storage result parts name) parameters before after → behind ≡ scope → RefusedAs (placed_function behind storage (signature_of result parameters) name initialiser) error → RefusedAs (function_declared scope storage ty parts name initialiser) error
+placing_refused scope behind storage ty result parts name initialiser parameters before after error is g same r =
     let found : Checked (List Parameter) = new_function false scope storage result parts name in
+    let there : RefusedAs (placed_function scope storage (signature_of result parameters) name initialiser) error = refused_of (placed_function scope storage (signature_of result parameters) name initialiser) (placed_function behind storage (signature_of result parameters) name initialiser) error (ap (λ s. placed_function s storage (signature_of result parameters) name initialiser) (sym same)) r in
     refused_of (function_declared scope storage ty parts name initialiser) (declares (file_entity name.text) >>= (λ u. found >>= function_behind scope storage result name initialiser)) error (declared_as_found scope storage ty result parts name initialiser is)
     (member_refused (file_entity name.text) (λ u. found >>= function_behind scope storage result name initialiser) error
-    (refused_behind found (function_behind scope storage result name initialiser) parameters before after error g r))
+    (refused_behind found (function_behind scope storage result name initialiser) parameters before after error g there))
 
 -- ---- steps of definitions
 
@@ -236,6 +238,16 @@ block_refused scope named storage result name body parameters error a r =
     let f : Signature = signature_of result parameters in
     refused_next (with_name scope name (function f) storage) (λ s. function_items s result parameters body >>= (λ i. give (found_as s i))) named error a
     (refused_first (function_items named result parameters body) (λ i. give (found_as named i)) error r)
+
+pub with_result_gives : (scope behind : Scope) (storage : Storage) (result : PlainType) (parts : PlainTrees) (name : PlainToken) (body : PlainTree) (parameters : List Parameter) (x : FoundFunction) (before between after : List ℕ → Bool) → Gives (new_function true scope storage result parts name) parameters before between → behind ≡ scope → Gives (named_function behind storage result name body parameters) x between after → Gives (function_with_result scope storage result parts name body) x before after
+with_result_gives scope behind storage result parts name body parameters x before between after g same found =
+    gives_then (new_function true scope storage result parts name) (named_function scope storage result name body) parameters x before between after g
+    (gives_of (named_function scope storage result name body parameters) (named_function behind storage result name body parameters) x between after (ap (λ s. named_function s storage result name body parameters) (sym same)) found)
+
+pub with_result_refused : (scope behind : Scope) (storage : Storage) (result : PlainType) (parts : PlainTrees) (name : PlainToken) (body : PlainTree) (parameters : List Parameter) (before between : List ℕ → Bool) (error : ElabError) → Gives (new_function true scope storage result parts name) parameters before between → behind ≡ scope → RefusedAs (named_function behind storage result name body parameters) error → RefusedAs (function_with_result scope storage result parts name body) error
+with_result_refused scope behind storage result parts name body parameters before between error g same r =
+    refused_behind (new_function true scope storage result parts name) (named_function scope storage result name body) parameters before between error g
+    (refused_of (named_function scope storage result name body parameters) (named_function behind storage result name body parameters) error (ap (λ s. named_function s storage result name body parameters) (sym same)) r)
 
 found_by_result : (scope : Scope) (storage : Storage) (ty result : PlainType) (parts : PlainTrees) (name : PlainToken) (body : PlainTree) → result ≡ starred parts ty → function_found scope storage ty parts name body ≡ (declares (file_entity name.text) >>= (λ u. complete_function scope storage result parts name body))
 found_by_result scope storage ty result parts name body is = ap (λ r. declares (file_entity name.text) >>= (λ u. complete_function scope storage r parts name body)) (sym is)
@@ -267,9 +279,10 @@ kind_left c scope is = sym (ap kind_or_incomplete is)
 may_be : (scope : Scope) (storage : Storage) (result : PlainType) (name : PlainToken) (parameters : Checked (List Parameter)) → may_be_function storage result (scope.file_names name.text) ≡ true → result_kind scope storage result name parameters ≡ kind_by_parameters scope storage result name parameters
 may_be scope storage result name parameters is = rw is refl
 
-pub kind_behind : (scope : Scope) (storage : Storage) (result : PlainType) (parts : PlainTrees) (name : PlainToken) (parameters : List Parameter) (before after : List ℕ → Bool) (kind : TypeKind) → may_be_function storage result (scope.file_names name.text) ≡ true → Gives (parameters_of true scope (behind_word t.OpenParenthesis parts) name) parameters before after → kind ≡ kind_or_incomplete (with_name scope name (function (signature_of result parameters)) storage) → kind ≡ kind_of_result scope storage result parts name
-kind_behind scope storage result parts name parameters before after kind new g is =
-    is ∙ sym (ap (kind_by_parameters scope storage result name) g.judged) ∙ sym (may_be scope storage result name (parameters_of true scope (behind_word t.OpenParenthesis parts) name) new)
+-- the parameters leave the scope as it is
+pub kind_behind : (scope behind : Scope) (storage : Storage) (result : PlainType) (parts : PlainTrees) (name : PlainToken) (parameters : List Parameter) (before after : List ℕ → Bool) (kind : TypeKind) → may_be_function storage result (scope.file_names name.text) ≡ true → Gives (parameters_of true scope (behind_word t.OpenParenthesis parts) name) parameters before after → behind ≡ scope → kind ≡ kind_or_incomplete (with_name behind name (function (signature_of result parameters)) storage) → kind ≡ kind_of_result scope storage result parts name
+kind_behind scope behind storage result parts name parameters before after kind new g same is =
+    is ∙ ap (λ s. kind_or_incomplete (with_name s name (function (signature_of result parameters)) storage)) same ∙ sym (ap (kind_by_parameters scope storage result name) g.judged) ∙ sym (may_be scope storage result name (parameters_of true scope (behind_word t.OpenParenthesis parts) name) new)
 
 pub kind_without : (scope : Scope) (storage : Storage) (result : PlainType) (parts : PlainTrees) (name : PlainToken) (kind : TypeKind) (token : PlainToken) → may_be_function storage result (scope.file_names name.text) ≡ true → parameters_of true scope (behind_word t.OpenParenthesis parts) name ≡ refused kind token → Incomplete ≡ kind_of_result scope storage result parts name
 kind_without scope storage result parts name kind token new is =

@@ -243,7 +243,7 @@ fn named_function(
     Ok(d)
 }
 
-#[tactic(auto, using(plain_scope::specs::JudgementLaws::gives_then, plain_scope::specs::JudgementLaws::refused_first, plain_declarations::specs::Sequences::refused_behind))]
+#[tactic(auto, using(crate::specs::Functions::with_result_gives, crate::specs::Functions::with_result_refused, plain_scope::specs::JudgementLaws::refused_first))]
 fn function_with_result(
     alloc: Global,
     scope: &mut Scope,
