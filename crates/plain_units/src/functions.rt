@@ -19,8 +19,12 @@ use c_tree::{Kind, Tree};
 use c_types::CType;
 use cond_formula::NoMemory;
 use core_meaning::{Definition, Item, TypeKind};
-use plain_declarations::{Parameter, declared_parameters, enter_parameter, node_parts, starred, three_parts};
-use plain_scope::{ElabError, Scope, Signature, Sort, Used, copied, first_token, is_void, refused, unless};
+use plain_declarations::{
+    Parameter, declared_parameters, enter_parameter, node_parts, starred, three_parts,
+};
+use plain_scope::{
+    ElabError, Scope, Signature, Sort, Used, copied, first_token, is_void, refused, unless,
+};
 use plain_statements::statement_items;
 use std::alloc::Global;
 
