@@ -29,7 +29,11 @@ fn tree_of(alloc: Global, tokens: &[Token]) -> Result<Tree, ParseError> {
 }
 
 /// What `parse` says of so many parentheses around a number.
-fn of_parentheses(alloc: Global, count: usize, closed: bool) -> Result<Result<u32, ParseError>, NoMemory> {
+fn of_parentheses(
+    alloc: Global,
+    count: usize,
+    closed: bool,
+) -> Result<Result<u32, ParseError>, NoMemory> {
     let mut text = String::from_str(alloc, "int main(void) { return")?;
     for _ in 0..count {
         text.push('(')?;
@@ -54,7 +58,11 @@ fn trees_are_at_most_512_high(rt: HostRuntime) -> Result<(), Fail> {
 }
 
 /// What `parse` says of a declaration in so many blocks within the body of a function.
-fn in_blocks(alloc: Global, declaration: &str, count: usize) -> Result<Result<u32, ParseError>, NoMemory> {
+fn in_blocks(
+    alloc: Global,
+    declaration: &str,
+    count: usize,
+) -> Result<Result<u32, ParseError>, NoMemory> {
     let mut text = String::from_str(alloc, "int main(void) {")?;
     for _ in 0..count {
         text.push('{')?;
@@ -73,7 +81,10 @@ fn a_struct_by_its_name_is_two_high(rt: HostRuntime) -> Result<(), Fail> {
     let alloc = rt.alloc();
     assert_eq!(rt; in_blocks(alloc, "int x;", 507)?, Ok(512));
     assert_eq!(rt; in_blocks(alloc, "struct S x;", 506)?, Ok(512));
-    assert_eq!(rt; in_blocks(alloc, "struct S x;", 507)?, Err(ParseError::TooHigh));
+    assert_eq!(rt;
+        in_blocks(alloc, "struct S x;", 507)?,
+        Err(ParseError::TooHigh)
+    );
     Ok(())
 }
 

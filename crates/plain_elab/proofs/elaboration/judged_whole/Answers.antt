@@ -58,8 +58,7 @@ returns c =
     let judged = rw c.in_ok-units.was at (c.judged.ensures c.in_ok-numbers.objects) in
     let again = rw c.in_ok-units.was at (c.judged.ensures 0) in
     let alike : listed us false ≡ listed (map (plain_unit 0) c.in_ok-units.units.items) false =
-    c.judgings_list_alike.ensures no_numbers N 0 0 trees first (plain_judged 0 (c.in_ok-units.units, c.in_ok-units.structs)) [] [] judged_once again false in
-    (
+    c.judgings_list_alike.ensures no_numbers N 0 0 trees first (plain_judged 0 (c.in_ok-units.units, c.in_ok-units.structs)) [] [] judged_once again false in (
       whole_given trees first (plain_judged c.in_ok-numbers.objects (c.in_ok-units.units, c.in_ok-units.structs)) N c.in_ok-numbers.objects judged_once numbers count judged,
       count ∙ ap length alike,
     )
