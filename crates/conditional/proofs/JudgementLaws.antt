@@ -1,10 +1,10 @@
 -- What is shown of judgements.
-use Rattle.std.proofs.Common.{◌≡◌, ℕ, Bool, true, false, ◌||◌, List, [], ◌∷◌, ◌++◌, Some, IsTrue, refl, ap, ◌∙◌, append-nil}
+use Rattle.std.proofs.Common.{◌≡◌, ℕ, Bool, true, false, not, if◌then◌else◌, ◌&&◌, ◌||◌, List, [], ◌∷◌, ◌++◌, Some, IsTrue, refl, ap, ◌∙◌, append-nil}
 use Rattle.cond_formula.specs.Conditions.{Condition, value}
 use Rattle.conditional.specs.declared.lists.CondList.{CondList}
 use Rattle.conditional.specs.declared.outcomes.Outcomes.{Outcomes}
-use Rattle.conditional.specs.Entries.{listed, alternatives, seen, under, first, some_holds, Places}
-use Rattle.conditional.specs.Judgements.{Checked, fine, refused, Shows, Judges}
+use Rattle.conditional.specs.Entries.{listed, alternatives, seen, under, first, some_holds, Places, PlacesUnder}
+use Rattle.conditional.specs.Judgements.{Checked, fine, refused, Shows, Judges, JudgesUnder}
 use Rattle.conditional.proofs.ValueLaws.{none_carry}
 
 -- what is shown for sure is shown under less
@@ -138,3 +138,75 @@ pub nothing_shown : {T R P Q : Type 0} (form : T → P) (reason : R → Q) (on :
     some_holds on (alternatives form all.fine) ≡ false → seen on (listed reason all.refused) ≡ [] → Shows form reason on false v all
 nothing_shown form reason on (fine w) all none empty = record { shown = record { not_refused = empty; held = λ t. cc; carry = none_carry on w (alternatives form all.fine) none } }
 nothing_shown form reason on (refused why) all none empty = record { shown = record { only = rw empty (λ other found. cc); held = λ t. cc } }
+
+-- ---- another judgement under a condition
+
+none_under : {Q : Type 0} (t : Bool) (more old new : List Q) → new ≡ old ++ under t more → old ≡ [] → (IsTrue t → more ≡ []) → new ≡ []
+none_under {Q} true more old new is none h = is ∙ ap (λ (l : List Q). l ++ more) none ∙ h refl
+none_under false more old new is none h = is ∙ append-nil old ∙ none
+
+only_under : {Q : Type 0} (t : Bool) (why : Q) (more old : List Q) → ((other : Q) → first old ≡ Some other → other ≡ why) → (IsTrue t → (other : Q) → first more ≡ Some other → other ≡ why) →
+    (other : Q) → first (old ++ under t more) ≡ Some other → other ≡ why
+only_under true why more [] only h other found = h refl other found
+only_under false why more [] only h other found = cc
+only_under t why more (x ∷ rest) only h other found = only other found
+
+first_under : {Q : Type 0} (b t k : Bool) (why : Q) (more old : List Q) → ((other : Q) → first old ≡ Some other → other ≡ why) → (IsTrue b → first old ≡ Some why) →
+    (IsTrue t → IsTrue k → first more ≡ Some why) → IsTrue (b || (t && k)) → first (old ++ under t more) ≡ Some why
+first_under true t k why more [] only held h s = let e = held refl in cc
+first_under false true k why more [] only held h s = h refl s
+first_under false false k why more [] only held h s = cc
+first_under b t k why more (x ∷ rest) only held h s = ap Some (only x refl)
+
+held_under : (n o b t k m : Bool) → n ≡ (o || (t && m)) → (IsTrue b → IsTrue o) → (IsTrue t → IsTrue k → IsTrue m) → IsTrue (b || (t && k)) → IsTrue n
+held_under n o true t k m is held h s = rw is (left o (t && m) (held refl)) where
+  left : (s t : Bool) → IsTrue s → IsTrue (s || t)
+  left true t h = refl
+  left false t h = cc
+held_under n o false true k m is held h s = rw is (right o m (h refl s)) where
+  right : (s t : Bool) → IsTrue t → IsTrue (s || t)
+  right true t h = refl
+  right false t h = h
+held_under n o false false k m is held h s = cc
+
+pub judged_under : {T R P Q : Type 0} (form : T → P) (reason : R → Q) (on : ℕ → Bool) (when : Condition) (more old new : Outcomes T R) →
+    PlacesUnder on when (alternatives form more.fine) (alternatives form old.fine) (alternatives form new.fine) →
+    seen on (listed reason new.refused) ≡ seen on (listed reason old.refused) ++ under (value on when) (seen on (listed reason more.refused)) →
+    JudgesUnder form reason on when more old new
+judged_under {T} {R} {P} {Q} form reason on when more old new placed is = record {
+  shows = λ b k v. elim v as (λ v. Shows form reason on b v old → (IsTrue (value on when) → Shows form reason on k v more) → Shows form reason on (b || (value on when && k)) v new) [
+    | fine w ↦ λ s h. record {
+      shown = record {
+        not_refused = none_under (value on when) (seen on (listed reason more.refused)) (seen on (listed reason old.refused)) (seen on (listed reason new.refused)) is s.shown.not_refused (λ t. (h t).shown.not_refused);
+        held = held_under (some_holds on (alternatives form new.fine)) (some_holds on (alternatives form old.fine)) b (value on when) k (some_holds on (alternatives form more.fine)) placed.held s.shown.held (λ t. (h t).shown.held);
+        carry = placed.carry w s.shown.carry (λ t. (h t).shown.carry);
+      };
+    }
+    | refused why ↦ λ s h. record {
+      shown = record {
+        only = rw is (only_under (value on when) why (seen on (listed reason more.refused)) (seen on (listed reason old.refused)) s.shown.only (λ t. (h t).shown.only));
+        held = rw is (first_under b (value on when) k why (seen on (listed reason more.refused)) (seen on (listed reason old.refused)) s.shown.only s.shown.held (λ t. (h t).shown.held));
+      };
+    }
+  ];
+}
+
+pub judgement_chosen : {T R P Q : Type 0} (form : T → P) (reason : R → Q) (on : ℕ → Bool) (when elsewhere : Condition) (chosen otherwise empty mid new : Outcomes T R) → value on elsewhere ≡ not (value on when) →
+    ((v : Checked P Q) → Shows form reason on false v empty) → JudgesUnder form reason on when chosen empty mid → JudgesUnder form reason on elsewhere otherwise mid new →
+    (p q : Checked P Q) → Shows form reason on true p chosen → Shows form reason on true q otherwise → Shows form reason on true (if value on when then p else q) new
+judgement_chosen {T} {R} {P} {Q} form reason on when elsewhere chosen otherwise empty mid new opposite nothing first second p q sp sq = by_test (value on when) refl where
+  shown : (v : Checked P Q) → (IsTrue (value on when) → Shows form reason on true v chosen) → (IsTrue (value on elsewhere) → Shows form reason on true v otherwise) →
+      Shows form reason on ((false || (value on when && true)) || (value on elsewhere && true)) v new
+  shown v h k = second.shows _ true v (first.shows false true v (nothing v) h) k
+  never : {A : Type 0} (b : Bool) → b ≡ false → IsTrue b → A
+  never true off t = cc
+  never false off t = cc
+  covered : (t e : Bool) → e ≡ not t → IsTrue ((false || (t && true)) || (e && true))
+  covered true e is = refl
+  covered false true is = refl
+  covered false false is = cc
+  by_test : (t : Bool) → value on when ≡ t → Shows form reason on true (if t then p else q) new
+  by_test true is =
+      weaken form reason on _ true p new (λ t. covered (value on when) (value on elsewhere) opposite) (shown p (λ t. sp) (never (value on elsewhere) (opposite ∙ ap not is)))
+  by_test false off =
+      weaken form reason on _ true q new (λ t. covered (value on when) (value on elsewhere) opposite) (shown q (never (value on when) off) (λ t. sq))

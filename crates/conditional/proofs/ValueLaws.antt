@@ -3,7 +3,7 @@ use Rattle.std.proofs.Common.{◌≡◌, ℕ, zero, suc, ◌+◌, ◌<◌, ◌�
 use Rattle.std.specs.Prelude.{slice_get, remove, option_map}
 use Rattle.std.proofs.lemmas.List.{drop_all, map-append}
 use Rattle.std.proofs.Math.Bool.{or_assoc, or_comm, or-false}
-use Rattle.cond_formula.specs.Conditions.{Condition, value, condition_of, IsDisjunction}
+use Rattle.cond_formula.specs.Conditions.{Condition, Always, value, condition_of, IsDisjunction}
 use Rattle.conditional.specs.declared.entries.Guarded.{Guarded}
 use Rattle.conditional.specs.Entries.{Entry, entry_of, entries_of, some_holds, Carry, Stands, Sees, Places, PlacesUnder}
 use Rattle.conditional.proofs.ListLaws.{item_of}
@@ -163,6 +163,9 @@ both_true true true is next = next refl refl
 both_true true false is next = cc
 both_true false k is next = cc
 
+pub placed_start : {P : Type 0} (on : ℕ → Bool) (k : Bool) (more now : List (Entry P)) → PlacedSoFar on k more more now now
+placed_start on k more now = record { held = refl; carry = λ v carry also. carry }
+
 pub placed_step : {T P : Type 0} (form : T → P) (on : ℕ → Bool) (k : Bool) (here : Condition) (xs : List (Guarded T)) (x : Guarded T) (i : ℕ) (what : P) (old now new : List (Entry P)) →
     i < length xs → x ≡ get_or xs i x → value on here ≡ (value on (condition_of x.when) && k) → what ≡ form x.what →
     PlacedSoFar on k (entries_of form xs) (entries_of form (drop i xs)) old now → Places on here what now new →
@@ -179,16 +182,22 @@ placed_step form on k here xs x i what old now new within is same_here same_what
           both_true (value on (condition_of x.when)) k (rw (← same_here) s) (λ t u. same_what ∙ carry_item form on v xs x i e (more u) t));
     }
 
+pub placed_all : {T P : Type 0} (form : T → P) (on : ℕ → Bool) (k : Bool) (xs : List (Guarded T)) (i : ℕ) (old now : List (Entry P)) → length xs ≤ i →
+    PlacedSoFar on k (entries_of form xs) (entries_of form (drop i xs)) old now → PlacedSoFar on k (entries_of form xs) [] old now
+placed_all form on k xs i old now past so_far =
+    let e = drop_all i xs past in
+    let held' = rw e at so_far.held in
+    record { held = held'; carry = so_far.carry }
+
 pub placed_end : {T P : Type 0} (form : T → P) (on : ℕ → Bool) (when : Condition) (xs : List (Guarded T)) (i : ℕ) (old now : List (Entry P)) → length xs ≤ i →
     PlacedSoFar on (value on when) (entries_of form xs) (entries_of form (drop i xs)) old now → PlacesUnder on when (entries_of form xs) old now
 placed_end form on when xs i old now past so_far =
-    let e = drop_all i xs past in
-    let held' = rw e at so_far.held in
-    record { held = sym (no_more (some_holds on now) (value on when)) ∙ held'; carry = so_far.carry } where
-      no_more : (n k : Bool) → (n || (k && false)) ≡ n
-      no_more true k = refl
-      no_more false true = refl
-      no_more false false = refl
+    let all = placed_all form on (value on when) xs i old now past so_far in
+    record { held = sym (no_more (some_holds on now) (value on when)) ∙ all.held; carry = all.carry } where
+  no_more : (n k : Bool) → (n || (k && false)) ≡ n
+  no_more true k = refl
+  no_more false true = refl
+  no_more false false = refl
 
 -- how far a function is applied to the alternatives
 pub record MappedSoFar {P Q : Type 0} (on : ℕ → Bool) (gives : P → Q) (all rest : List (Entry P)) (now : List (Entry Q)) : Type 0 where
@@ -222,3 +231,8 @@ image_end form gives on xs i now past so_far o s =
       by_option : some_holds on now ≡ some_holds on (entries_of form xs) → (o : Option _) → Sees on o (entries_of form xs) → Sees on (option_map gives o) now
       by_option held None s = held ∙ s
       by_option held (Some v) s = record { held = rw held s.held; carry = so_far.carry v s.carry }
+
+-- all alternatives are placed
+pub copied : {P : Type 0} (on : ℕ → Bool) (xs empty new : List (Entry P)) → some_holds on empty ≡ false → PlacedSoFar on true xs [] empty new → (o : Option P) → Sees on o xs → Sees on o new
+copied on xs empty new none so_far o s =
+    sees_placed on Always xs empty new (record { held = sym (or-false (some_holds on new)) ∙ so_far.held; carry = so_far.carry }) refl none o s

@@ -1,5 +1,5 @@
 -- Judgements, which come to a value or to a refusal, under conditions.
-use Rattle.std.specs.Prelude.{◌≡◌, ℕ, Bool, true, ◌||◌, List, [], ◌∷◌, Some, Result, Ok, Err, IsTrue, ⊤}
+use Rattle.std.specs.Prelude.{◌≡◌, ℕ, Bool, true, ◌&&◌, ◌||◌, List, [], ◌∷◌, Some, Result, Ok, Err, IsTrue, ⊤}
 use Rattle.cond_formula.specs.Conditions.{Condition, value}
 use Rattle.conditional.specs.Entries.{Entry, listed, alternatives, seen, first, some_holds, Carry, Stands}
 use Rattle.conditional.specs.declared.outcomes.Outcomes.{Outcomes}
@@ -40,6 +40,11 @@ pub record Shows {T R P Q : Type 0} (form : T → P) (reason : R → Q) (on : �
 -- One more outcome is shown where its condition is true, if nothing else is shown there.
 pub record Judges {T R P Q : Type 0} (form : T → P) (reason : R → Q) (on : ℕ → Bool) (when : Condition) (what : Checked P Q) (old new : Outcomes T R) : Type 0 where
   pub shows : (b : Bool) (outcome : Checked P Q) → Shows form reason on b outcome old → (IsTrue (value on when) → what ≡ outcome) → Shows form reason on (b || value on when) outcome new
+
+-- What another judgement shows is shown where the condition is true, if nothing else is shown there.
+pub record JudgesUnder {T R P Q : Type 0} (form : T → P) (reason : R → Q) (on : ℕ → Bool) (when : Condition) (more old new : Outcomes T R) : Type 0 where
+  pub shows : (b k : Bool) (outcome : Checked P Q) → Shows form reason on b outcome old → (IsTrue (value on when) → Shows form reason on k outcome more) →
+      Shows form reason on (b || (value on when && k)) outcome new
 
 -- ---- operators
 

@@ -1,10 +1,10 @@
 //! What comes of a judgement in each configuration.
 
-ghost use Rattle.std.specs.Prelude.{◌≡◌, ℕ, Bool, false, true, List, ◌++◌, IsTrue, IfOk};
+ghost use Rattle.std.specs.Prelude.{◌≡◌, ℕ, Bool, false, true, List, ◌++◌, if◌then◌else◌, IsTrue, IfOk};
 ghost use Rattle.cond_formula.specs.Features.{has};
 ghost use Rattle.cond_formula.specs.Conditions.{condition_of, value};
 ghost use Rattle.conditional.specs.Entries.{listed, seen};
-ghost use Rattle.conditional.specs.Judgements.{Checked, fine, checked, Judges, Shows};
+ghost use Rattle.conditional.specs.Judgements.{Checked, fine, checked, Judges, JudgesUnder, Shows};
 
 use crate::lists::CondList;
 use crate::plain::Plain;
@@ -77,6 +77,36 @@ impl<T: Plain, R: Plain> Outcomes<T, R> {
         }
         self.place(alloc, when, what)?;
         Ok(())
+    }
+
+    /// The outcomes of another judgement too, where the condition holds. They are one with what is shown there already.
+    pub fn place_under(
+        &mut self,
+        alloc: Global,
+        when: &Formula,
+        other: &Outcomes<T, R>,
+    ) -> Result<(), NoMemory>
+        ensures { IfOk result (λ _. (on : ℕ → Bool) → JudgesUnder T.form R.form on (condition_of when.now) other.now self.old self.new) }
+    {
+        self.fine.place_under(alloc, when, &other.fine)?;
+        self.refused.append_under(alloc, when, &other.refused)?;
+        Ok(())
+    }
+
+    /// One judgement where the condition holds, and the other elsewhere.
+    pub fn choose(
+        alloc: Global,
+        when: &Formula,
+        chosen: &Outcomes<T, R>,
+        otherwise: &Outcomes<T, R>,
+    ) -> Result<Outcomes<T, R>, NoMemory>
+        ensures { IfOk result (λ all. (on : ℕ → Bool) (p q : Checked T.Form R.Form) → Shows T.form R.form on true p chosen.now → Shows T.form R.form on true q otherwise.now → Shows T.form R.form on true (if value on (condition_of when.now) then p else q) all) }
+    {
+        let mut choice = Outcomes::nothing(alloc);
+        choice.place_under(alloc, when, chosen)?;
+        let elsewhere = Formula::not(alloc, when.try_clone(alloc)?)?;
+        choice.place_under(alloc, &elsewhere, otherwise)?;
+        Ok(choice)
     }
 
     /// The same after an earlier judgement, whose refusals come first.
