@@ -84,33 +84,49 @@ row_at_once {A} form reason on gives xs ys x outcome when old new is each judged
       judged'.shows k (gives a b) s (λ t. given_at (gives x.what) outcome on b ys each sy.held sy.carry ∙ ap (λ (a : A). gives a b) (is_x t));
 }
 
-pub pairs_start : {P T R C Q : Type 0} (form : T → C) (reason : R → Q) (on : ℕ → Bool) (v : Checked C Q) (xs : List (Entry P)) (all : Outcomes T R) →
+pub alternatives_start : {P T R C Q : Type 0} (form : T → C) (reason : R → Q) (on : ℕ → Bool) (v : Checked C Q) (xs : List (Entry P)) (all : Outcomes T R) →
     IsTrue (some_holds on xs) → Shows form reason on false v all → Shows form reason on (not (some_holds on xs)) v all
-pairs_start form reason on v xs all held s = weaken form reason on false _ v all (other (some_holds on xs) held) s where
+alternatives_start form reason on v xs all held s = weaken form reason on false _ v all (other (some_holds on xs) held) s where
   other : (b : Bool) → IsTrue b → IsTrue (not b) → IsTrue false
   other true h t = t
   other false h t = h
 
-pairs_tests : (x r : Bool) → IsTrue (not r) → IsTrue (not (x || r) || x)
-pairs_tests true r s = refl
-pairs_tests false true s = cc
-pairs_tests false false s = refl
+alternative_tests : (x r : Bool) → IsTrue (not r) → IsTrue (not (x || r) || x)
+alternative_tests true r s = refl
+alternative_tests false true s = cc
+alternative_tests false false s = refl
 
-pub pairs_step : {A B T R C Q S : Type 0} (form_a : S → A) (form : T → C) (reason : R → Q) (on : ℕ → Bool) (gives : A → B → Checked C Q) (xs : List (Guarded S)) (x : Guarded S) (ys : List (Entry B)) (i : ℕ) (old new : Outcomes T R) →
+-- one step through the alternatives of which one carries the value that is judged
+pub alternative_step : {T R C Q S A : Type 0} (form_a : S → A) (form : T → C) (reason : R → Q) (on : ℕ → Bool) (v : Checked C Q) (xs : List (Guarded S)) (x : Guarded S) (i : ℕ) (old new : Outcomes T R) →
+    drop i xs ≡ x ∷ drop (i + 1) xs → ((k : Bool) → Shows form reason on k v old → Shows form reason on (k || value on (condition_of x.when)) v new) →
+    Shows form reason on (not (some_holds on (entries_of form_a (drop i xs)))) v old →
+    Shows form reason on (not (some_holds on (entries_of form_a (drop (i + 1) xs)))) v new
+alternative_step form_a form reason on v xs x i old new e step s =
+    let s' = rw e at s in
+    weaken form reason on _ _ v new (alternative_tests (value on (condition_of x.when)) (some_holds on (entries_of form_a (drop (i + 1) xs)))) (step _ s')
+
+pub pair_step : {A B T R C Q S : Type 0} (form_a : S → A) (form : T → C) (reason : R → Q) (on : ℕ → Bool) (gives : A → B → Checked C Q) (xs : List (Guarded S)) (x : Guarded S) (ys : List (Entry B)) (i : ℕ) (old new : Outcomes T R) →
     i < length xs → x ≡ get_or xs i x → JudgesRow form reason on gives (entries_of form_a xs) ys (entry_of form_a x) old new →
     (a : A) (b : B) → Stands on a (entries_of form_a xs) → Stands on b ys →
     Shows form reason on (not (some_holds on (entries_of form_a (drop i xs)))) (gives a b) old →
     Shows form reason on (not (some_holds on (entries_of form_a (drop (i + 1) xs)))) (gives a b) new
-pairs_step form_a form reason on gives xs x ys i old new within is row a b sx sy s =
+pair_step form_a form reason on gives xs x ys i old new within is row a b sx sy s =
     let e = item_of xs x i within is in
-    let s' = rw e at s in
-    weaken form reason on _ _ (gives a b) new
-    (pairs_tests (value on (condition_of x.when)) (some_holds on (entries_of form_a (drop (i + 1) xs))))
-    (row.shows a b _ sx sy (carry_item form_a on a xs x i e sx.carry) s')
+    alternative_step form_a form reason on (gives a b) xs x i old new e (λ k t. row.shows a b k sx sy (carry_item form_a on a xs x i e sx.carry) t) s
 
-pub pairs_end : {T R C Q S A : Type 0} (form_a : S → A) (form : T → C) (reason : R → Q) (on : ℕ → Bool) (v : Checked C Q) (xs : List (Guarded S)) (i : ℕ) (all : Outcomes T R) → length xs ≤ i →
+pub judged_step : {A T R C Q S : Type 0} (form_a : S → A) (form : T → C) (reason : R → Q) (on : ℕ → Bool) (gives : A → Checked C Q) (xs : List (Guarded S)) (x : Guarded S) (i : ℕ) (outcome : Checked C Q) (when : Condition) (old new : Outcomes T R) →
+    i < length xs → x ≡ get_or xs i x → when ≡ condition_of x.when → outcome ≡ gives (form_a x.what) → Judges form reason on when outcome old new →
+    (a : A) → Stands on a (entries_of form_a xs) →
+    Shows form reason on (not (some_holds on (entries_of form_a (drop i xs)))) (gives a) old →
+    Shows form reason on (not (some_holds on (entries_of form_a (drop (i + 1) xs)))) (gives a) new
+judged_step form_a form reason on gives xs x i outcome when old new within is same given judged a sx s =
+    let e = item_of xs x i within is in
+    let judged' = rw same at judged in
+    alternative_step form_a form reason on (gives a) xs x i old new e (λ k t. judged'.shows k (gives a) t (λ h. given ∙ ap gives (carry_item form_a on a xs x i e sx.carry h))) s
+
+pub alternatives_end : {T R C Q S A : Type 0} (form_a : S → A) (form : T → C) (reason : R → Q) (on : ℕ → Bool) (v : Checked C Q) (xs : List (Guarded S)) (i : ℕ) (all : Outcomes T R) → length xs ≤ i →
     Shows form reason on (not (some_holds on (entries_of form_a (drop i xs)))) v all → Shows form reason on true v all
-pairs_end form_a form reason on v xs i all past s =
+alternatives_end form_a form reason on v xs i all past s =
     let e = drop_all i xs past in
     let s' = rw e at s in s'
 
@@ -126,3 +142,10 @@ both_judged form_a form_b form reason on gives x y all later result judged secon
     after_value form reason on true (gives v w) x.refused later result first sx.shown.not_refused
     (after_value form reason on true (gives v w) y.refused all later second sy.shown.not_refused
     (judged.shows v w (record { held = sx.shown.held refl; carry = sx.shown.carry }) (record { held = sy.shown.held refl; carry = sy.shown.carry })))
+
+pub one_judged : {S T R A C Q : Type 0} (form_a : S → A) (form : T → C) (reason : R → Q) (on : ℕ → Bool) (gives : A → Checked C Q) (x : Outcomes S R) (all result : Outcomes T R) →
+    ((a : A) → Stands on a (alternatives form_a x.fine) → Shows form reason on true (gives a) all) → IsAfter reason on x.refused all result →
+    (a : Checked A Q) → Shows form_a reason on true a x → Shows form reason on true (bind a gives) result
+one_judged form_a form reason on gives x all result judged first (refused why) sx = after_refusal form reason on x.refused all result why first (sx.shown.held refl)
+one_judged form_a form reason on gives x all result judged first (fine v) sx =
+    after_value form reason on true (gives v) x.refused all result first sx.shown.not_refused (judged v (record { held = sx.shown.held refl; carry = sx.shown.carry }))

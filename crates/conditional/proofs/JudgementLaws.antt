@@ -5,7 +5,7 @@ use Rattle.conditional.specs.declared.lists.CondList.{CondList}
 use Rattle.conditional.specs.declared.outcomes.Outcomes.{Outcomes}
 use Rattle.conditional.specs.Entries.{listed, alternatives, seen, under, first, some_holds, Places, PlacesUnder}
 use Rattle.conditional.specs.Judgements.{Checked, fine, refused, Shows, Judges, JudgesUnder}
-use Rattle.conditional.proofs.ValueLaws.{none_carry}
+use Rattle.conditional.proofs.ValueLaws.{none_carry, never, or_right}
 
 -- what is shown for sure is shown under less
 pub weaken : {T R P Q : Type 0} (form : T → P) (reason : R → Q) (on : ℕ → Bool) (b less : Bool) (v : Checked P Q) (all : Outcomes T R) → (IsTrue less → IsTrue b) →
@@ -163,10 +163,7 @@ held_under n o true t k m is held h s = rw is (left o (t && m) (held refl)) wher
   left : (s t : Bool) → IsTrue s → IsTrue (s || t)
   left true t h = refl
   left false t h = cc
-held_under n o false true k m is held h s = rw is (right o m (h refl s)) where
-  right : (s t : Bool) → IsTrue t → IsTrue (s || t)
-  right true t h = refl
-  right false t h = h
+held_under n o false true k m is held h s = rw is (or_right o m (h refl s))
 held_under n o false false k m is held h s = cc
 
 pub judged_under : {T R P Q : Type 0} (form : T → P) (reason : R → Q) (on : ℕ → Bool) (when : Condition) (more old new : Outcomes T R) →
@@ -198,9 +195,6 @@ judgement_chosen {T} {R} {P} {Q} form reason on when elsewhere chosen otherwise 
   shown : (v : Checked P Q) → (IsTrue (value on when) → Shows form reason on true v chosen) → (IsTrue (value on elsewhere) → Shows form reason on true v otherwise) →
       Shows form reason on ((false || (value on when && true)) || (value on elsewhere && true)) v new
   shown v h k = second.shows _ true v (first.shows false true v (nothing v) h) k
-  never : {A : Type 0} (b : Bool) → b ≡ false → IsTrue b → A
-  never true off t = cc
-  never false off t = cc
   covered : (t e : Bool) → e ≡ not t → IsTrue ((false || (t && true)) || (e && true))
   covered true e is = refl
   covered false true is = refl

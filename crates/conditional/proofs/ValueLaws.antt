@@ -80,15 +80,16 @@ none_carry on v (x ∷ xs) none = by_test (value on x.when) none (none_carry on 
   by_test true none later = cc
   by_test false none later = (λ s. cc, later none)
 
+pub or_right : (s t : Bool) → IsTrue t → IsTrue (s || t)
+or_right true t is = refl
+or_right false t is = is
+
 pub placed_on_nothing : {P : Type 0} (on : ℕ → Bool) (when : Condition) (what : P) (old new : List (Entry P)) → some_holds on old ≡ false → IsTrue (value on when) → Places on when what old new →
     Stands on what new
 placed_on_nothing on when what old new none t placed = record {
-  held = rw placed.held (right (some_holds on old) (value on when) t);
+  held = rw placed.held (or_right (some_holds on old) (value on when) t);
   carry = placed.carry what (none_carry on what old none) (λ s. refl);
-} where
-  right : (s t : Bool) → IsTrue t → IsTrue (s || t)
-  right true t is = refl
-  right false t is = is
+}
 
 held_kept : (n o k m : Bool) → n ≡ (o || (k && m)) → k ≡ false → n ≡ o
 held_kept n true k m is off = is
@@ -100,7 +101,8 @@ held_placed n true k m is on' none = cc
 held_placed n false true m is on' none = is
 held_placed n false false m is on' none = cc
 
-never : {A : Type 0} (k : Bool) → k ≡ false → IsTrue k → A
+-- from a test that is both
+pub never : {A : Type 0} (k : Bool) → k ≡ false → IsTrue k → A
 never true off t = cc
 never false off t = cc
 

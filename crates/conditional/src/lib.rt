@@ -4,6 +4,7 @@
 
 mod crossing;
 mod entries;
+mod judging;
 mod lists;
 mod outcomes;
 mod plain;
@@ -11,7 +12,8 @@ mod values;
 
 pub use crossing::crossed;
 pub use entries::{Guarded, when_some_hold};
+pub use judging::judged;
 pub use lists::CondList;
 pub use outcomes::Outcomes;
-pub use plain::{Function, Operator, Plain};
+pub use plain::{Function, Judgement, Operator, Plain};
 pub use values::CondValue;

@@ -28,6 +28,14 @@ pub trait Function<A: Plain, B: Plain> {
         ensures { IfOk result (λ b. answers self.now a.now b) };
 }
 
+/// A judgement of one value, as it is in one configuration; it may refuse the value.
+pub trait Judgement<A: Plain, C: Plain, R: Plain> {
+    ghost answers: { Self → A → Result C R → Type 0 };
+
+    fn judge(&self, alloc: Global, a: &A) -> Result<Result<C, R>, NoMemory>
+        ensures { IfOk result (λ r. answers self.now a.now r) };
+}
+
 /// An operator on two values, as it is in one configuration; it may refuse them.
 pub trait Operator<A: Plain, B: Plain, C: Plain, R: Plain> {
     ghost answers: { Self → A → B → Result C R → Type 0 };
