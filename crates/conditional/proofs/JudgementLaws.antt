@@ -195,10 +195,12 @@ judgement_chosen {T} {R} {P} {Q} form reason on when elsewhere chosen otherwise 
   shown : (v : Checked P Q) → (IsTrue (value on when) → Shows form reason on true v chosen) → (IsTrue (value on elsewhere) → Shows form reason on true v otherwise) →
       Shows form reason on ((false || (value on when && true)) || (value on elsewhere && true)) v new
   shown v h k = second.shows _ true v (first.shows false true v (nothing v) h) k
+
   covered : (t e : Bool) → e ≡ not t → IsTrue ((false || (t && true)) || (e && true))
   covered true e is = refl
   covered false true is = refl
   covered false false is = cc
+
   by_test : (t : Bool) → value on when ≡ t → Shows form reason on true (if t then p else q) new
   by_test true is =
       weaken form reason on _ true p new (λ t. covered (value on when) (value on elsewhere) opposite) (shown p (λ t. sp) (never (value on elsewhere) (opposite ∙ ap not is)))

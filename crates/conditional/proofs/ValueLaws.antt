@@ -196,10 +196,10 @@ pub placed_end : {T P : Type 0} (form : T → P) (on : ℕ → Bool) (when : Con
 placed_end form on when xs i old now past so_far =
     let all = placed_all form on (value on when) xs i old now past so_far in
     record { held = sym (no_more (some_holds on now) (value on when)) ∙ all.held; carry = all.carry } where
-  no_more : (n k : Bool) → (n || (k && false)) ≡ n
-  no_more true k = refl
-  no_more false true = refl
-  no_more false false = refl
+      no_more : (n k : Bool) → (n || (k && false)) ≡ n
+      no_more true k = refl
+      no_more false true = refl
+      no_more false false = refl
 
 -- how far a function is applied to the alternatives
 pub record MappedSoFar {P Q : Type 0} (on : ℕ → Bool) (gives : P → Q) (all rest : List (Entry P)) (now : List (Entry Q)) : Type 0 where

@@ -130,11 +130,7 @@ impl<T: Plain> CondValue<T> {
 
     /// The same value in each configuration that the oracle admits, without the alternatives of which it knows that they
     /// hold in none.
-    pub fn pruned<O: Oracle>(
-        &self,
-        alloc: Global,
-        oracle: &mut O,
-    ) -> Result<CondValue<T>, NoMemory>
+    pub fn pruned<O: Oracle>(&self, alloc: Global, oracle: &mut O) -> Result<CondValue<T>, NoMemory>
         ensures kept { O.admits oracle.new ≡ O.admits oracle.old }
         ensures same { IfOk result (λ x. (c : List Bool) → IsTrue (value (has c) (O.admits oracle.old)) → (o : Option T.Form) → Sees (has c) o (alternatives T.form self.now) → Sees (has c) o (alternatives T.form x)) }
     {
