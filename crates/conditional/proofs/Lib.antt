@@ -1,0 +1,4 @@
+pub mod ListLaws
+pub mod ValueLaws
+pub mod JudgementLaws
+pub mod CrossingLaws
