@@ -2,7 +2,9 @@
 # Runs the whole gate from nothing on a clone of what is committed, and prints what it costs: by
 # crate the processor seconds of its proof, of the second proof that its must-fail edits begin with,
 # of the edits and of its tests, and the sums for 1,000 lines of src. Ends with 1 where the gate is
-# not green or a bar is missed. Takes as long as the gate; nothing else should run meanwhile.
+# not green or a bar is missed. Takes as long as the gate; nothing else should run meanwhile. What is
+# shown by crate is sampled each second, and leaves out what copies of the prover took that lived for
+# less; the sum of all is exact.
 #
 #   bench/gate.sh           the gate from nothing
 #   bench/gate.sh --kept    with what earlier runs on this machine have passed taken over
