@@ -4,10 +4,10 @@ use Rattle.c_types.specs.Types.{PlainType}
 use Rattle.core_meaning.specs.Program.{PlainStatement, PlainItems, PlainProgram}
 use Rattle.run_pairs.specs.Correspondences.{Correspondence}
 use Rattle.run_pairs.specs.Alike
-use Rattle.run_pairs.specs.Alike.{Uses, with_use, AlikeStatements, AlikeItems}
+use Rattle.run_pairs.specs.Alike.{Uses, Replacement, with_use, AlikeStatements, AlikeItems}
 use Rattle.run_pairs.specs.Extraction.{Nothing}
 
-module _ (p p' : PlainProgram) (functions : ℕ → Option ℕ) (arity : ℕ → ℕ) (first : Correspondence) (Stands : List PlainType → List PlainType → Uses → List PlainStatement → List PlainStatement → Type 0)
+module _ (p p' : PlainProgram) (functions : ℕ → Option ℕ) (arity : ℕ → ℕ) (first : Correspondence) (Stands : Replacement)
     (types types' : List PlainType) (selects : Bool) where
   mutual
     pub statements_to : (uses : Uses) (l r : Bool) (x y : PlainStatement) → AlikeStatements p p' functions arity first Nothing types types' selects uses l r x y → AlikeStatements p p' functions arity first Stands types types' selects uses l r x y
@@ -25,3 +25,4 @@ module _ (p p' : PlainProgram) (functions : ℕ → Option ℕ) (arity : ℕ →
     items_to _ _ _ x y (Alike.locals uses l r j k u v a b e d h m) = Alike.locals uses l r j k u v a b e d h (items_to (with_use uses j k) l r a b m)
     items_to _ _ _ x y (Alike.statement_items uses l r s t a b h m) = Alike.statement_items uses l r s t a b (statements_to uses l r s t h) (items_to uses l r a b m)
     items_to _ _ _ x y (Alike.selected uses l r ss ts a b e h m) = absurd h
+    items_to _ _ _ x y (Alike.initialised uses l r j k u tt' a b e same d h m) = absurd h

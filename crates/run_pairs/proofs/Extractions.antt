@@ -9,15 +9,15 @@ use Rattle.core_meaning.specs.Memory.{Object, unwritten, fresh, with_new, with_a
 use Rattle.core_meaning.specs.Outcomes.{State, Outcome, Comes, Piece, after, followed_by, ◌>>=◌, give, given, set_memory, without_temporaries}
 use Rattle.core_meaning.specs.Meaning.{as_value, Ending, falls, Frame, with_slot, Job, make, write_to, end_object, values_of, called_function, called, call_value, then_item, items_ending, enter, enter_function, meaning}
 use Rattle.run_pairs.specs.Correspondences.{Correspondence, Grown, holding, HeldAside, HoldsAside, RelatedMemories, Setting, Related, RelatedOutcomes, RelatedPieces, statement_setting, RelatedEndings}
-use Rattle.run_pairs.specs.Alike.{Uses, BothGiven, RelatedFrames, before_items, AlikePrograms}
-use Rattle.run_pairs.specs.Extraction.{Entry, variable, array, arguments_of, slot_of, Extracted}
+use Rattle.run_pairs.specs.Alike.{Uses, AreDistinct, in_block, at_declaration, Replacement, BothGiven, RelatedFrames, before_items, AlikePrograms}
+use Rattle.run_pairs.specs.Extraction.{Entry, variable, array, arguments_of, slot_of, Extracted, Extracts}
 use Rattle.std.specs.Prelude.{⊤}
 use Rattle.run_pairs.proofs.MemoryPairs.{some_same}
-use Rattle.run_pairs.proofs.Pieces.{same_grown, grown_on, after_nothing, outcomes_right}
+use Rattle.run_pairs.proofs.Pieces.{same_grown, grown_on, after_nothing, pieces_to, outcomes_right}
 use Rattle.run_pairs.proofs.Private.{held_with, put, written_new, related_put, related_ended}
 use Rattle.run_pairs.proofs.Embedding.{items_to}
 use Rattle.run_pairs.proofs.Expressions.{frames_grow}
-use Rattle.run_pairs.proofs.Statements.{EndingPair, both_fall, both_break, both_continue, both_return, ending_pair, LaterRelated, SelectedRelated, items_alike}
+use Rattle.run_pairs.proofs.Statements.{EndingPair, both_fall, both_break, both_continue, both_return, ending_pair, LaterRelated, SelectedRelated, only_falls, items_alike}
 
 -- ---- what is passed
 
@@ -146,8 +146,8 @@ module _ (p' : PlainProgram) (later' : Job → Piece Ending) (first_cut : Bool) 
 -- ---- the call
 
 module _ (p p' : PlainProgram) (functions : ℕ → Option ℕ) (arity : ℕ → ℕ) (first : Correspondence) where
-  abbrev pub Stands : List PlainType → List PlainType → Uses → List PlainStatement → List PlainStatement → Type 0
-  Stands types types' uses ss ts = Extracted p p' functions arity first types types' uses ss ts
+  abbrev pub Stands : Replacement
+  Stands types types' uses r selection ts = Extracts p p' functions arity first types types' uses r selection ts
 
   -- what the call of a function with a body comes to, by what its body does
   abbrev after_body : List ℕ → Outcome Ending → Outcome Ending
@@ -200,8 +200,11 @@ module _ (p p' : PlainProgram) (functions : ℕ → Option ℕ) (arity : ℕ →
       put_together of (Some a) (Some b) o e h y q f k =
           subst (λ y. BothGiven (λ a q. (o : ℕ) × (c a ≡ Some o) × HoldsAside held q (of o)) (Some a) y) (sym f) (o, h ∙ e, k)
 
-    pub selected_after : (n m : ℕ) → LaterRelated p p' functions arity first Stands alike first_cut (meaning p n) (meaning p' m) → SelectedRelated p p' functions arity first Stands alike first_cut (meaning p n) (meaning p' (suc m))
-    selected_after n m laters held c g types types' uses distinct ss tt' x frame frame' fr ts us = record {
+    extracted_after : (n m : ℕ) → LaterRelated p p' functions arity first Stands alike first_cut (meaning p n) (meaning p' m) →
+        (held : HeldAside) (c : Correspondence) → Grown first c → (types types' : List PlainType) (uses : Uses) → AreDistinct uses → (ss tt' : List PlainStatement) → Extracted p p' functions arity first types types' uses ss tt' →
+        (frame frame' : Frame) → RelatedFrames types types' uses held c frame frame' → (ts us : List ℕ) →
+        RelatedPieces (statement_setting first_cut held ts us) (RelatedEndings false false) c (items_ending p (meaning p n) frame (before_items ss no_item)) (items_ending p' (meaning p' (suc m)) frame' (before_items tt' no_item))
+    extracted_after n m laters held c g types types' uses distinct ss tt' x frame frame' fr ts us = record {
       in_states = λ d grown s s' st.
           let later' = meaning p' (suc m) in
           let fr' = frames_grow types types' uses held c d grown frame frame' fr in
@@ -257,3 +260,8 @@ module _ (p p' : PlainProgram) (functions : ℕ → Option ℕ) (arity : ℕ →
           (λ d₁ g₁ y z t t' r st'. falls_value d₁ inside t t' st' y z (ending_pair false false d₁ y z r))
           (original s) entered_at inner))));
     }
+
+    pub selected_after : (n m : ℕ) → LaterRelated p p' functions arity first Stands alike first_cut (meaning p n) (meaning p' m) → SelectedRelated p p' functions arity first Stands alike first_cut (meaning p n) (meaning p' (suc m))
+    selected_after n m laters held c g types types' uses distinct r (in_block ss) tt' x frame frame' fr object t declared ts us =
+        pieces_to (λ d g' y z e. only_falls false r d y z (ending_pair false false d y z e)) (extracted_after n m laters held c g types types' uses distinct ss tt' x frame frame' fr ts us)
+    selected_after n m laters held c g types types' uses distinct r (at_declaration j u) tt' x frame frame' fr object t declared ts us = absurd x

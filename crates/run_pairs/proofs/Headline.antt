@@ -1,20 +1,21 @@
 -- An extraction keeps what runs do.
 use Rattle.std.proofs.Common.{◌≡◌, ℕ, zero, suc, ◌+◌, ◌≤◌, Bool, true, false, ℤ, pos, List, [], map, refl, sym, ◌∙◌, ap, subst, Option, None, arith}
-use Rattle.c_types.specs.Types.{int}
+use Rattle.c_types.specs.Types.{PlainType, int}
 use Rattle.c_types.specs.Integers.{converted}
-use Rattle.core_meaning.specs.Program.{no_item, PlainProgram}
+use Rattle.core_meaning.specs.Program.{PlainStatement, no_item, PlainProgram}
 use Rattle.core_meaning.specs.Values.{number, pointer, Value, nothing, scalar, whole}
 use Rattle.core_meaning.specs.Outcomes.{State, Outcome, Comes, Exits, Stops, Fails, followed_by, give, without_temporaries}
-use Rattle.core_meaning.specs.Meaning.{Ending, falls, breaks, continues, returns, body_of, called, called_function, then_item, items_ending, job_ending, meaning}
+use Rattle.core_meaning.specs.Meaning.{Frame, Ending, falls, breaks, continues, returns, body_of, called, called_function, then_item, items_ending, job_ending, meaning}
 use Rattle.core_meaning.specs.Run.{Answer, Ended, Running, Undefined, answer_at, answer_of, first_state, run}
 use Rattle.core_meaning.specs.Growth.{Extends, IsDefined, IsReachedBy, LargerBoundReaches, outcome_output, output_of}
-use Rattle.run_pairs.specs.Correspondences.{Correspondence, Related, RelatedOutcomes, RelatedEndings, statement_setting}
-use Rattle.run_pairs.specs.Alike.{before_items, AlikePrograms, RelatedJobs}
+use Rattle.run_pairs.specs.Correspondences.{Correspondence, HeldAside, Related, RelatedPieces, RelatedOutcomes, RelatedEndings, statement_setting}
+use Rattle.run_pairs.specs.Alike.{Uses, RelatedFrames, in_block, at_declaration, before_items, AlikePrograms, RelatedJobs}
+use Rattle.run_pairs.specs.Extraction.{Extracted}
 use Rattle.run_pairs.specs.Starts.{first_objects_of}
 use Rattle.run_pairs.specs.Laws.{KeepsRunsWithMoreCalls, KeepsRunsWithFewerCalls, ExtractionRuns, RenamingRuns}
-use Rattle.run_pairs.proofs.Pieces.{same_grown, after_nothing, second_only}
+use Rattle.run_pairs.proofs.Pieces.{same_grown, after_nothing, second_only, pieces_to}
 use Rattle.run_pairs.proofs.Expressions.{frames_grow}
-use Rattle.run_pairs.proofs.Statements.{SelectedRelated, EndingPair, both_fall, both_break, both_continue, both_return, ending_pair}
+use Rattle.run_pairs.proofs.Statements.{SelectedRelated, only_falls, EndingPair, both_fall, both_break, both_continue, both_return, ending_pair}
 use Rattle.run_pairs.proofs.Operations.{numbers, pointers, ValuePair, nothings, scalars, wholes, value_pair}
 use Rattle.run_pairs.proofs.Starts.{starts_related}
 use Rattle.run_pairs.proofs.Jobs.{LaterAt, first_laters, second_laters, job_alike}
@@ -22,8 +23,10 @@ use Rattle.run_pairs.proofs.Extractions.{Stands, all_passed, passed_values, seco
 
 module _ (p p' : PlainProgram) (functions : ℕ → Option ℕ) (arity : ℕ → ℕ) (first : Correspondence) (alike : AlikePrograms p p' functions arity first (Stands p p' functions arity first)) where
   -- where the result has nothing left of its bound
-  selected_stops : (n : ℕ) → SelectedRelated p p' functions arity first (Stands p p' functions arity first) alike false (meaning p n) (meaning p' 0)
-  selected_stops n held c g types types' uses distinct ss tt' x frame frame' fr ts us = record {
+  extracted_stops : (n : ℕ) (held : HeldAside) (c : Correspondence) → (types types' : List PlainType) (uses : Uses) → (ss tt' : List PlainStatement) → Extracted p p' functions arity first types types' uses ss tt' →
+      (frame frame' : Frame) → RelatedFrames types types' uses held c frame frame' → (ts us : List ℕ) →
+      RelatedPieces (statement_setting false held ts us) (RelatedEndings false false) c (items_ending p (meaning p n) frame (before_items ss no_item)) (items_ending p' (meaning p' 0) frame' (before_items tt' no_item))
+  extracted_stops n held c types types' uses ss tt' x frame frame' fr ts us = record {
     in_states = λ d grown s s' st.
         let later' = meaning p' 0 in
         let fr' = frames_grow types types' uses held c d grown frame frame' fr in
@@ -42,6 +45,11 @@ module _ (p p' : PlainProgram) (functions : ℕ → Option ℕ) (arity : ℕ →
         (second_only (statement_setting false held ts us) (RelatedEndings false false) d false refl [] original (outcome_output original, refl));
   }
 
+  selected_stops : (n : ℕ) → SelectedRelated p p' functions arity first (Stands p p' functions arity first) alike false (meaning p n) (meaning p' 0)
+  selected_stops n held c g types types' uses distinct r (in_block ss) tt' x frame frame' fr object t declared ts us =
+      pieces_to (λ d g' y z e. only_falls false r d y z (ending_pair false false d y z e)) (extracted_stops n held c types types' uses ss tt' x frame frame' fr ts us)
+  selected_stops n held c g types types' uses distinct r (at_declaration j u) tt' x frame frame' fr object t declared ts us = absurd x
+
   pub first_at : (n m : ℕ) → n + n ≤ m → LaterAt p p' functions arity first (Stands p p' functions arity first) alike true n m
   first_at n m less = first_laters p p' functions arity first (Stands p p' functions arity first) alike true refl (selected_after p p' functions arity first alike true) n m less
 
@@ -54,7 +62,7 @@ module _ (p p' : PlainProgram) (functions : ℕ → Option ℕ) (arity : ℕ →
 
 -- ---- answers
 
-abbrev Main : Bool → Correspondence → Outcome Ending → Outcome Ending → Type 0
+abbrev pub Main : Bool → Correspondence → Outcome Ending → Outcome Ending → Type 0
 Main cut c o o' = RelatedOutcomes (statement_setting cut (λ k. None) [] []) (RelatedEndings false true) c o o'
 
 same_answer : (c : Correspondence) (out : List ℕ) (x y : Ending) → EndingPair false true c x y → IsDefined (answer_at x out) → (z : ℤ) × (answer_at x out ≡ Ended out z) × (answer_at y out ≡ Ended out z)
@@ -83,7 +91,7 @@ same_output (Exits status out) = refl
 same_output (Stops out) = refl
 same_output (Fails out) = refl
 
-first_reached : (c : Correspondence) (o o' : Outcome Ending) → Main true c o o' → IsDefined (answer_of o) → IsDefined (answer_of o') → IsReachedBy (answer_of o) (answer_of o')
+pub first_reached : (c : Correspondence) (o o' : Outcome Ending) → Main true c o o' → IsDefined (answer_of o) → IsDefined (answer_of o') → IsReachedBy (answer_of o) (answer_of o')
 first_reached c (Fails out) o' h d d' = absurd d
 first_reached c (Comes x s out) (Comes y s' out') h d d' =
     let a = same_answer h.1.now out x y (ending_pair false true h.1.now x y h.1.ends.results) d in
@@ -100,7 +108,7 @@ first_reached c (Exits status out) (Comes y s' out') h d d' = absurd h
 first_reached c (Exits status out) (Stops out') h d d' = absurd h
 first_reached c (Exits status out) (Fails out') h d d' = absurd h
 
-second_reached : (c : Correspondence) (o o' : Outcome Ending) → Main false c o o' → IsDefined (answer_of o) → IsReachedBy (answer_of o') (answer_of o)
+pub second_reached : (c : Correspondence) (o o' : Outcome Ending) → Main false c o o' → IsDefined (answer_of o) → IsReachedBy (answer_of o') (answer_of o)
 second_reached c (Fails out) o' h d = absurd d
 second_reached c (Comes x s out) (Comes y s' out') h d =
     let a = same_answer h.1.now out x y (ending_pair false true h.1.now x y h.1.ends.results) d in
@@ -117,7 +125,7 @@ second_reached c (Stops out) (Comes y s' out') h d = absurd h
 second_reached c (Stops out) (Exits status out') h d = absurd h
 second_reached c (Stops out) (Fails out') h d = absurd h
 
-reached_defined : (a b : Answer) → IsReachedBy a b → IsDefined a
+pub reached_defined : (a b : Answer) → IsReachedBy a b → IsDefined a
 reached_defined (Ended out status) b h = tt
 reached_defined (Running out) b h = tt
 reached_defined (Undefined out) b h = h

@@ -3,13 +3,13 @@ use Rattle.std.proofs.Common.{◌≡◌, ℕ, zero, suc, ◌+◌, ◌<◌, ◌�
 use Rattle.std.proofs.lemmas.Option.{none-some}
 use Rattle.std.proofs.lemmas.Bool.{true≢false, cases_order, eq-eqb, ne_eqb, lt-ltb, le-ltb}
 use Rattle.c_types.specs.Types.{PlainType}
-use Rattle.core_meaning.specs.Program.{PlainStatement, PlainItems, PlainFunction, defined, built_in, PlainProgram}
+use Rattle.core_meaning.specs.Program.{PlainItems, PlainFunction, defined, built_in, PlainProgram}
 use Rattle.core_meaning.specs.Values.{at, Value}
 use Rattle.core_meaning.specs.Outcomes.{Piece}
 use Rattle.core_meaning.specs.Meaning.{Ending, Frame, with_slot, Job, body_of, turn, enter, enter_function, after_turn, job_ending, meaning}
 use Rattle.core_meaning.specs.Growth.{outcome_output}
 use Rattle.run_pairs.specs.Correspondences.{Correspondence, Grown, WhereGiven, HeldAside, Setting, RelatedPieces, RelatedValueLists, statement_setting, RelatedEndings}
-use Rattle.run_pairs.specs.Alike.{Use, Uses, direct, through, elements, unused, AreDistinct, with_use, RelatedFrames, AlikeItems, RelatedJobs, parameter_uses, AlikeFunctions, AlikePrograms}
+use Rattle.run_pairs.specs.Alike.{Use, Uses, direct, through, elements, unused, AreDistinct, with_use, RelatedFrames, AlikeItems, RelatedJobs, Replacement, parameter_uses, AlikeFunctions, AlikePrograms}
 use Rattle.run_pairs.proofs.Pieces.{grown_on, first_only, second_only, pieces_then, pieces_give, pieces_given}
 use Rattle.run_pairs.proofs.MemoryPairs.{values_grow, some_same}
 use Rattle.run_pairs.proofs.Operations.{pieces_undefined, write_related, make_related, end_related}
@@ -88,7 +88,7 @@ no_slots types types' held c = record {
   none_before : (j : ℕ) (u : Use) → parameter_uses 0 j ≡ u → is_used u ≡ true → ⊥
   none_before j u e t = true≢false (sym t ∙ (ap is_used (sym e) ∙ ap (λ b. is_used (cond b (direct j) unused)) (le-ltb j 0 (omega arith))))
 
-module _ (p p' : PlainProgram) (functions : ℕ → Option ℕ) (arity : ℕ → ℕ) (first : Correspondence) (Stands : List PlainType → List PlainType → Uses → List PlainStatement → List PlainStatement → Type 0)
+module _ (p p' : PlainProgram) (functions : ℕ → Option ℕ) (arity : ℕ → ℕ) (first : Correspondence) (Stands : Replacement)
     (alike : AlikePrograms p p' functions arity first Stands) (first_cut : Bool) where
   module _ (later later' : Job → Piece Ending)
       (laters : LaterRelated p p' functions arity first Stands alike first_cut later later') (selecteds : SelectedRelated p p' functions arity first Stands alike first_cut later later')
@@ -160,13 +160,13 @@ module _ (p p' : PlainProgram) (functions : ℕ → Option ℕ) (arity : ℕ →
   SelectedAt n m = SelectedRelated p p' functions arity first Stands alike first_cut (meaning p n) (meaning p' m)
 
   -- the original is cut off, and the result goes on; or the other way round
-  first_stops : first_cut ≡ true → (m : ℕ) → LaterAt 0 m
+  pub first_stops : first_cut ≡ true → (m : ℕ) → LaterAt 0 m
   first_stops e m held r c g job job' h ts us = record {
     in_states = λ d grown s s' st.
         first_only (statement_setting first_cut held ts us) (RelatedEndings false r) d true e [] (meaning p' m job' s') (outcome_output (meaning p' m job' s'), refl);
   }
 
-  second_stops : first_cut ≡ false → (n : ℕ) → LaterAt n 0
+  pub second_stops : first_cut ≡ false → (n : ℕ) → LaterAt n 0
   second_stops e n held r c g job job' h ts us = record {
     in_states = λ d grown s s' st.
         second_only (statement_setting first_cut held ts us) (RelatedEndings false r) d false e [] (meaning p n job s) (outcome_output (meaning p n job s), refl);

@@ -184,7 +184,7 @@ by_steps_related : (c : Correspondence) (parts parts' : Cells) (x y : Option Sca
 by_steps_related c parts parts' x y None h k = k
 by_steps_related c parts parts' x y (Some steps) h k = h.at_path steps
 
-cells_with_related : (c : Correspondence) (cells cells' : Cells) (path : Path) (v v' : Value) → RelatedCells c cells cells' → RelatedValues c v v' → WhereGiven (RelatedCells c) (cells_with cells path v) (cells_with cells' path v')
+pub cells_with_related : (c : Correspondence) (cells cells' : Cells) (path : Path) (v v' : Value) → RelatedCells c cells cells' → RelatedValues c v v' → WhereGiven (RelatedCells c) (cells_with cells path v) (cells_with cells' path v')
 cells_with_related c cells cells' path nothing v' h k = tt
 cells_with_related c cells cells' path (scalar v) nothing h k = absurd k
 cells_with_related c cells cells' path (scalar v) (whole b) h k = absurd k

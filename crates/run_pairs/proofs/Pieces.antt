@@ -91,7 +91,7 @@ output_after before (Stops out) = refl
 output_after before (Fails out) = refl
 
 -- the original's is cut off, and whatever is like this stays so
-cut_first : {A B : Type 0} (cut : Bool) (End : Correspondence → A → State → B → State → Type 0) (c : Correspondence) (b : Bool) → cut ≡ b → (out : List ℕ) (o : Outcome B) → FirstCut b out (outcome_output o) → Outcomes cut End c (Stops out) o
+pub cut_first : {A B : Type 0} (cut : Bool) (End : Correspondence → A → State → B → State → Type 0) (c : Correspondence) (b : Bool) → cut ≡ b → (out : List ℕ) (o : Outcome B) → FirstCut b out (outcome_output o) → Outcomes cut End c (Stops out) o
 cut_first cut End c true e out (Comes y s' out') h = subst (λ b. FirstCut b out out') (sym e) h
 cut_first cut End c true e out (Exits status out') h = subst (λ b. FirstCut b out out') (sym e) h
 cut_first cut End c true e out (Fails out') h = subst (λ b. FirstCut b out out') (sym e) h
@@ -119,7 +119,7 @@ second_more : (b : Bool) (out longer more : List ℕ) → SecondCut b longer out
 second_more true out longer more h = absurd h
 second_more false out longer more h = extends_more out longer more h
 
-ends_back : {A B : Type 0} (cut : Bool) (End : Correspondence → A → State → B → State → Type 0) (b c : Correspondence) → Grown b c → (o : Outcome A) (o' : Outcome B) → Outcomes cut End c o o' → Outcomes cut End b o o'
+pub ends_back : {A B : Type 0} (cut : Bool) (End : Correspondence → A → State → B → State → Type 0) (b c : Correspondence) → Grown b c → (o : Outcome A) (o' : Outcome B) → Outcomes cut End c o o' → Outcomes cut End b o o'
 ends_back cut End b c g (Fails out) o' h = tt
 ends_back cut End b c g (Comes x s out) (Comes y s' out') h = let m = h.1 in (h.0, record { now = m.now; grown = grown_on g m.grown; ends = m.ends })
 ends_back cut End b c g (Comes x s out) (Stops out') h = h

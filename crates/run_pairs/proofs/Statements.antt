@@ -5,15 +5,15 @@ use Rattle.std.proofs.lemmas.Bool.{cond-true, cond-false, true≢false, cases_eq
 use Rattle.std.specs.List.{list_any}
 use Rattle.std.specs.Prelude.{is_some}
 use Rattle.std.specs.Prelude.{⊤}
-use Rattle.c_types.specs.Types.{PlainType, pointer_to}
+use Rattle.c_types.specs.Types.{PlainType, pointer_to, void}
 use Rattle.core_meaning.specs.Program.{PlainExpression, PlainPart, PlainStatement, PlainItems, no_item, PlainFunction, defined, built_in, PlainProgram}
 use Rattle.core_meaning.specs.Values.{Path, at, Scalar, Cells, Value, onward, type_at, is_inside, is_scalar}
 use Rattle.core_meaning.specs.Memory.{zeros, zero_of}
-use Rattle.core_meaning.specs.Outcomes.{State, Piece, followed_by, ◌>>=◌, full}
-use Rattle.core_meaning.specs.Meaning.{Ending, falls, breaks, continues, returns, Frame, with_slot, Job, body_of, turn, used, truth_from, cells_filled, fill_missing, called_built_in, called_function, value_of, write_parts, initialise, asks, then_item, ending_of, items_ending}
+use Rattle.core_meaning.specs.Outcomes.{State, Piece, followed_by, ◌>>=◌, give, full}
+use Rattle.core_meaning.specs.Meaning.{Ending, falls, breaks, continues, returns, Frame, with_slot, Job, body_of, turn, used, truth_from, cells_filled, fill_missing, called_built_in, called_function, value_of, write_parts, initialise, asks, then_item, ending_of, items_ending, end_object}
 use Rattle.run_pairs.specs.Correspondences.{Correspondence, Grown, WhereGiven, RelatedScalars, RelatedCells, RelatedValues, RelatedObjects, HeldAside, Setting, RelatedPieces, RelatedValueLists, expression_setting, statement_setting, RelatedEndings}
 use Rattle.run_pairs.specs.Alike
-use Rattle.run_pairs.specs.Alike.{Use, Uses, direct, through, elements, unused, AreDistinct, with_use, BothGiven, RelatedFrames, AlikeParts, before_items, AlikeStatements, AlikeItems, RelatedTurns, RelatedCalls, RelatedJobs, AlikeBodies, AlikeFunctions, AlikePrograms}
+use Rattle.run_pairs.specs.Alike.{Use, Uses, direct, through, elements, unused, AreDistinct, with_use, BothGiven, RelatedFrames, AlikeParts, before_items, Selection, in_block, at_declaration, Replacement, AlikeStatements, AlikeItems, RelatedTurns, RelatedCalls, RelatedJobs, AlikeBodies, AlikeFunctions, AlikePrograms}
 use Rattle.run_pairs.proofs.Pieces.{same_grown, grown_on, pieces_then, pieces_give, pieces_given, pieces_choice, pieces_to, pieces_equal, after_nothing, followed_twice, followed_same}
 use Rattle.run_pairs.proofs.MemoryPairs.{values_grow, some_same, related_with_object}
 use Rattle.run_pairs.proofs.Operations.{pieces_undefined, Same, used_related, truth_from_related, write_related, make_related, end_related}
@@ -136,7 +136,13 @@ outside_pair l r c x y (both_break e) = absurd (true≢false (sym e))
 outside_pair l r c x y (both_continue e) = absurd (true≢false (sym e))
 outside_pair l r c x y (both_return v w e h) = (e, h)
 
-only_falls : (l r : Bool) (c : Correspondence) (x y : Ending) → EndingPair false false c x y → RelatedEndings l r c x y
+falls_anywhere : (l r : Bool) (c : Correspondence) (x y : Ending) → EndingPair false false c x y → EndingPair l r c x y
+falls_anywhere l r c x y both_fall = both_fall
+falls_anywhere l r c x y (both_break e) = absurd (true≢false (sym e))
+falls_anywhere l r c x y (both_continue e) = absurd (true≢false (sym e))
+falls_anywhere l r c x y (both_return v w e h) = absurd (true≢false (sym e))
+
+pub only_falls : (l r : Bool) (c : Correspondence) (x y : Ending) → EndingPair false false c x y → RelatedEndings l r c x y
 only_falls l r c x y both_fall = tt
 only_falls l r c x y (both_break e) = absurd (true≢false (sym e))
 only_falls l r c x y (both_continue e) = absurd (true≢false (sym e))
@@ -158,41 +164,76 @@ items_before p later frame (x ∷ ss) rest s =
     followed_same (ending_of p later frame x s) _ _ (λ e t. then_later p later e (items_ending p later frame (before_items ss rest)) (items_ending p later frame (before_items ss no_item)) (items_ending p later frame rest) (items_before p later frame ss rest) t) ∙
     sym (followed_twice (ending_of p later frame x s) _ _)
 
+-- ---- what is selected
+
+-- how it ends; this object, of this type, is the one that is initialised
+abbrev pub selection_ending : (p : PlainProgram) → (Job → Piece Ending) → Frame → ℕ → PlainType → Selection → Piece Ending
+selection_ending p later frame object t (in_block ss) = items_ending p later frame (before_items ss no_item)
+selection_ending p later frame object t (at_declaration j x) = initialise p later frame object t x >>= (λ done. give falls)
+
+abbrev pub IsDeclared : Frame → ℕ → Selection → Type 0
+IsDeclared frame object (in_block ss) = ⊤
+IsDeclared frame object (at_declaration j x) = frame.objects j ≡ Some object
+
+module _ (p : PlainProgram) (later : Job → Piece Ending) where
+  -- what follows an initialiser
+  initialised_then : (frame : Frame) (object : ℕ) (t : PlainType) (x : List PlainPart) (rest : Piece Ending) (end : Ending → Piece Ending) (s : State) →
+      (initialise p later frame object t x >>= (λ done. rest >>= end)) s ≡ (initialise p later frame object t x >>= (λ done. give falls) >>= (λ e. then_item p later e rest >>= end)) s
+  initialised_then frame object t x rest end s =
+      sym (followed_twice (initialise p later frame object t x s) (λ done. give falls) (λ e. then_item p later e rest >>= end) ∙
+      followed_same (initialise p later frame object t x s) _ _ (λ done now. after_nothing (followed_by (rest now) end)))
+
+  -- what follows a declaration alone
+  declared_then : (frame : Frame) (object : ℕ) (t : PlainType) (tt' : List PlainStatement) (rest : PlainItems) (end : Ending → Piece Ending) (s : State) →
+      (initialise p later frame object t [] >>= (λ done. items_ending p later frame (before_items tt' rest) >>= end)) s
+      ≡ (items_ending p later frame (before_items tt' no_item) >>= (λ e. then_item p later e (items_ending p later frame rest) >>= end)) s
+  declared_then frame object t tt' rest end s =
+      after_nothing (followed_by (items_ending p later frame (before_items tt' rest) s) end) ∙
+      (ap (λ o. followed_by o end) (items_before p later frame tt' rest s) ∙
+      followed_twice (items_ending p later frame (before_items tt' no_item) s) (λ e. then_item p later e (items_ending p later frame rest)) end)
+
 -- ---- statements
 
-module _ (p p' : PlainProgram) (functions : ℕ → Option ℕ) (arity : ℕ → ℕ) (first : Correspondence) (Stands : List PlainType → List PlainType → Uses → List PlainStatement → List PlainStatement → Type 0)
+module _ (p p' : PlainProgram) (functions : ℕ → Option ℕ) (arity : ℕ → ℕ) (first : Correspondence) (Stands : Replacement)
     (alike : AlikePrograms p p' functions arity first Stands) (first_cut : Bool) (later later' : Job → Piece Ending) where
   abbrev pub LaterRelated : Type 0
   LaterRelated = (held : HeldAside) (r : Bool) (c : Correspondence) → Grown first c → (job job' : Job) → RelatedJobs p p' functions arity first Stands held r c job job' →
       (ts us : List ℕ) → RelatedPieces (statement_setting first_cut held ts us) (RelatedEndings false r) c (later job) (later' job')
 
-  -- what selected statements come to, and what stands for them
+  -- what is selected comes to, and what stands for it
   abbrev pub SelectedRelated : Type 0
-  SelectedRelated = (held : HeldAside) (c : Correspondence) → Grown first c → (types types' : List PlainType) (uses : Uses) → AreDistinct uses → (ss tt' : List PlainStatement) → Stands types types' uses ss tt' →
-      (frame frame' : Frame) → RelatedFrames types types' uses held c frame frame' → (ts us : List ℕ) →
-      RelatedPieces (statement_setting first_cut held ts us) (RelatedEndings false false) c
-      (items_ending p later frame (before_items ss no_item)) (items_ending p' later' frame' (before_items tt' no_item))
+  SelectedRelated = (held : HeldAside) (c : Correspondence) → Grown first c → (types types' : List PlainType) (uses : Uses) → AreDistinct uses → (r : Bool) (selection : Selection) (tt' : List PlainStatement) → Stands types types' uses r selection tt' →
+      (frame frame' : Frame) → RelatedFrames types types' uses held c frame frame' → (object : ℕ) (t : PlainType) → IsDeclared frame object selection → (ts us : List ℕ) →
+      RelatedPieces (statement_setting first_cut held ts us) (RelatedEndings false r) c
+      (selection_ending p later frame object t selection) (items_ending p' later' frame' (before_items tt' no_item))
 
   module _ (laters : LaterRelated) where
     -- ---- calls
 
-    called_alike : (held : HeldAside) (c : Correspondence) → Grown first c → (f g : ℕ) → functions f ≡ Some g → (vs ws : List Value) → RelatedValueLists c vs ws → length vs ≡ arity f →
-        (x y : Option PlainFunction) → WhereGiven (AlikeFunctions p p' functions arity first Stands (arity f)) x y →
-        RelatedPieces (expression_setting first_cut held) RelatedValues c (called_function p later x f vs) (called_function p' later' y g ws)
-    called_alike held c grown f g e vs ws h n None y k = pieces_undefined _
-    called_alike held c grown f g e vs ws h n (Some x) None k = absurd k
-    called_alike held c grown f g e vs ws h n (Some (built_in b)) (Some (built_in b')) k =
-        subst (λ b'. RelatedPieces (expression_setting first_cut held) RelatedValues c (called_built_in p b vs) (called_built_in p' b' ws)) k
-        (built_in_related p p' alike.same_structs (expression_setting first_cut held) c b vs ws h)
-    called_alike held c grown f g e vs ws h n (Some (defined types body)) (Some (defined types' body')) k =
-        pieces_then (inside_related p p' alike.same_structs first_cut held (RelatedEndings false true) c (later (body_of f vs)) (later' (body_of g ws))
-        (laters held true c grown (body_of f vs) (body_of g ws) (record { returning = refl; same_function = e; values = h; count = n })))
-        (λ d g' x y r. call_value_related p p' alike.same_structs (expression_setting first_cut held) d x y r)
-    called_alike held c grown f g e vs ws h n (Some (built_in b)) (Some (defined types' body')) k = absurd k
-    called_alike held c grown f g e vs ws h n (Some (defined types body)) (Some (built_in b')) k = absurd k
+    module _ (w : Setting) (jobs : (c : Correspondence) → Grown first c → (job job' : Job) → RelatedJobs p p' functions arity first Stands w.held true c job job' → RelatedPieces w (RelatedEndings false true) c (later job) (later' job')) where
+      called_alike : (c : Correspondence) → Grown first c → (f g : ℕ) → functions f ≡ Some g → (vs ws : List Value) → RelatedValueLists c vs ws → length vs ≡ arity f →
+          (x y : Option PlainFunction) → WhereGiven (AlikeFunctions p p' functions arity first Stands (arity f)) x y →
+          RelatedPieces w RelatedValues c (called_function p later x f vs) (called_function p' later' y g ws)
+      called_alike c grown f g e vs ws h n None y k = pieces_undefined _
+      called_alike c grown f g e vs ws h n (Some x) None k = absurd k
+      called_alike c grown f g e vs ws h n (Some (built_in b)) (Some (built_in b')) k =
+          subst (λ b'. RelatedPieces w RelatedValues c (called_built_in p b vs) (called_built_in p' b' ws)) k (built_in_related p p' alike.same_structs w c b vs ws h)
+      called_alike c grown f g e vs ws h n (Some (defined types body)) (Some (defined types' body')) k =
+          pieces_then (jobs c grown (body_of f vs) (body_of g ws) (record { returning = refl; same_function = e; values = h; count = n }))
+          (λ d g' x y r. call_value_related p p' alike.same_structs w d x y r)
+      called_alike c grown f g e vs ws h n (Some (built_in b)) (Some (defined types' body')) k = absurd k
+      called_alike c grown f g e vs ws h n (Some (defined types body)) (Some (built_in b')) k = absurd k
+
+      calls_in : CallsRelated p p' functions arity first alike.same_structs w later later'
+      calls_in c grown f g e vs ws h n = called_alike c grown f g e vs ws h n (slice_get p.functions f) (slice_get p'.functions g) (alike.alike_functions f g e)
 
     pub calls_alike : (held : HeldAside) → CallsRelated p p' functions arity first alike.same_structs (expression_setting first_cut held) later later'
-    calls_alike held c grown f g e vs ws h n = called_alike held c grown f g e vs ws h n (slice_get p.functions f) (slice_get p'.functions g) (alike.alike_functions f g e)
+    calls_alike held =
+        calls_in (expression_setting first_cut held) (λ c g job job' h. inside_related p p' alike.same_structs first_cut held (RelatedEndings false true) c (later job) (later' job') (laters held true c g job job' h))
+
+    -- where no temporary object is made
+    pub calls_apart : (held : HeldAside) (ts us : List ℕ) → CallsRelated p p' functions arity first alike.same_structs (statement_setting first_cut held ts us) later later'
+    calls_apart held ts us = calls_in (statement_setting first_cut held ts us) (λ c g job job' h. laters held true c g job job' h ts us)
 
     module _ (selects : Bool) (selecteds : selects ≡ true → SelectedRelated) (held : HeldAside) (types types' : List PlainType) where
       -- full expressions among statements
@@ -326,5 +367,14 @@ module _ (p p' : PlainProgram) (functions : ℕ → Option ℕ) (arity : ℕ →
               then_item_pair l r d z z' (ending_pair l r d z z' w) _ _ (items_alike uses l r a b m distinct d (grown_on g g') frame frame' (frames_grow types types' uses held c d g' frame frame' fr)))
           items_alike _ _ _ x y (Alike.selected uses l r ss tt' a b e h m) distinct c g frame frame' fr =
               pieces_equal _ _ _ _ (items_before p later frame ss a) (items_before p' later' frame' tt' b)
-              (pieces_then (pieces_to (λ d g' x y e. only_falls l r d x y (ending_pair false false d x y e)) (selecteds e held c g types types' uses distinct ss tt' h frame frame' fr ts us)) (λ d g' z z' w.
+              (pieces_then (pieces_to (λ d g' x y e. outside_pair l r d x y (ending_pair false r d x y e)) (selecteds e held c g types types' uses distinct r (in_block ss) tt' h frame frame' fr 0 void tt ts us)) (λ d g' z z' w.
               then_item_pair l r d z z' (ending_pair l r d z z' w) _ _ (items_alike uses l r a b m distinct d (grown_on g g') frame frame' (frames_grow types types' uses held c d g' frame frame' fr))))
+          items_alike _ _ _ x y (Alike.initialised uses l r j k u tt' a b e same distinct' h m) distinct c g frame frame' fr =
+              pieces_then (pieces_given (slice_get frame.types j) (slice_get frame'.types k) (λ d g'. subst (λ x. WhereGiven ◌≡◌ (slice_get x j) (slice_get frame'.types k)) (sym fr.these_types) (subst (λ x. WhereGiven ◌≡◌ (slice_get types j) (slice_get x k)) (sym fr.those_types) same))) (λ d g' t t' equal.
+              pieces_then (make_related p p' alike.same_structs around d t t' equal) (λ d₂ g₂ i i' n.
+              let to : Grown c d₂ = grown_on g' g₂ in
+              let fr' = frames_with types types' uses held d₂ j k distinct' i i' n frame frame' (frames_grow types types' uses held c d₂ to frame frame' fr) in
+              pieces_equal _ _ _ _ (initialised_then p later (with_slot frame j i) i t u (items_ending p later (with_slot frame j i) a) (end_object p i)) (declared_then p' later' (with_slot frame' k i') i' t' tt' b (end_object p' i'))
+              (pieces_then (selecteds e held d₂ (grown_on g to) types types' (with_use uses j k) distinct' false (at_declaration j u) tt' h (with_slot frame j i) (with_slot frame' k i') fr' i t (cond-true (eqb j j) (Some i) (frame.objects j) (eq-eqb j j refl)) ts us) (λ d₃ g₃ y y' q.
+              pieces_then (then_item_pair l r d₃ y y' (falls_anywhere l r d₃ y y' (ending_pair false false d₃ y y' q)) _ _ (items_alike (with_use uses j k) l r a b m distinct' d₃ (grown_on g (grown_on to g₃)) (with_slot frame j i) (with_slot frame' k i') (frames_grow types types' (with_use uses j k) held d₂ d₃ g₃ (with_slot frame j i) (with_slot frame' k i') fr'))) (λ d₄ g₄ z z' w.
+              end_related p p' alike.same_structs around (RelatedEndings l r) d₄ i i' (g₄.keeps i i' (g₃.keeps i i' n)) z z' (λ d₅ g₅. endings_grow l r d₄ d₅ g₅ z z' w))))))

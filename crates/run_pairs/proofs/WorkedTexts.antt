@@ -1,17 +1,16 @@
 -- The pair that numbers its texts anew is an extraction.
 use Rattle.std.proofs.Common.{◌≡◌, ℕ, zero, suc, true, pos, List, [], ◌∷◌, refl, sym, ◌∙◌, ap, subst, codes, Option, Some, None, slice_get, arith}
 use Rattle.std.proofs.lemmas.Option.{none-some}
-use Rattle.c_types.specs.Types.{PlainType}
-use Rattle.core_meaning.specs.Program.{call, global, read, no_argument, PlainStatement, evaluate, no_item}
+use Rattle.core_meaning.specs.Program.{call, global, read, no_argument, evaluate, no_item}
 use Rattle.run_pairs.specs.Correspondences.{Correspondence, WhereGiven}
 use Rattle.run_pairs.specs.Alike
-use Rattle.run_pairs.specs.Alike.{Use, Uses, direct, through, elements, unused, parameter_uses, AreDistinct, AlikeFunctions, AlikeBodies}
-use Rattle.run_pairs.specs.Extraction.{Extracted}
+use Rattle.run_pairs.specs.Alike.{Use, Uses, direct, through, elements, unused, parameter_uses, AreDistinct, AlikeFunctions, AlikeBodies, Replacement, in_block}
+use Rattle.run_pairs.specs.Extraction.{Extracts}
 use Rattle.run_pairs.specs.Starts.{first_objects_of}
 use Rattle.run_pairs.specs.WorkedPairs.{one, does, gives, plain_number, puts_text, texts_in_order, texts_turned, WorkedTexts}
 use Rattle.run_pairs.proofs.MemoryPairs.{some_same}
 use Rattle.run_pairs.proofs.Statements.{direct_of}
-use Rattle.run_pairs.proofs.WorkedPair.{functions, arity, through_of, elements_of}
+use Rattle.run_pairs.proofs.WorkedPair.{through_of, elements_of}
 
 abbrev texts : ℕ → Option ℕ
 texts zero = Some 0
@@ -22,8 +21,17 @@ texts (suc (suc (suc k))) = None
 abbrev first : Correspondence
 first = first_objects_of texts_in_order texts
 
-abbrev Stands : List PlainType → List PlainType → Uses → List PlainStatement → List PlainStatement → Type 0
-Stands types types' uses ss ts = Extracted texts_in_order texts_turned functions arity first types types' uses ss ts
+abbrev functions : ℕ → Option ℕ
+functions zero = Some 1
+functions (suc zero) = Some 2
+functions (suc (suc k)) = None
+
+abbrev arity : ℕ → ℕ
+arity zero = 0
+arity (suc k) = 1
+
+abbrev Stands : Replacement
+Stands types types' uses r selection ts = Extracts texts_in_order texts_turned functions arity first types types' uses r selection ts
 
 abbrev Same : ℕ → ℕ → Type 0
 Same j k = (text : List ℕ) × (slice_get texts_in_order.literals j ≡ Some text) × (slice_get texts_turned.literals k ≡ Some text)
@@ -44,7 +52,7 @@ back (suc (suc (suc j))) k e = absurd (none-some _ e)
 abbrev no_uses : Uses
 no_uses k = unused
 
-selection : Stands [] [] (parameter_uses 0) (evaluate (puts_text 1 2) ∷ []) (evaluate (call 0 no_argument) ∷ [])
+selection : Stands [] [] (parameter_uses 0) true (in_block (evaluate (puts_text 1 2) ∷ [])) (evaluate (call 0 no_argument) ∷ [])
 selection = record {
   callee = 0;
   entries = [];

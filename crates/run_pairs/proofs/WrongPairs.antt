@@ -1,20 +1,8 @@
--- A worked inlining keeps its runs, and wrong pairs are told apart, by computing their runs.
-use Rattle.std.proofs.Common.{◌≡◌, ℕ, zero, suc, pos, List, [], ◌∷◌, refl, ap, arith}
-use Rattle.core_meaning.specs.Run.{Answer, Ended, run}
+-- Wrong pairs are told apart, by computing their runs.
+use Rattle.std.proofs.Common.{◌≡◌, ℕ, pos, [], ◌∷◌, ap, arith}
+use Rattle.core_meaning.specs.Run.{Answer, Ended}
 use Rattle.run_pairs.specs.Laws.{KeepsRunsWithMoreCalls, KeepsRunsWithFewerCalls, ExtractionRuns}
-use Rattle.run_pairs.specs.WorkedPairs.{with_call, without_call, WorkedInlining, writes_its_variable, writes_a_copy, uses_a_global, uses_its_parameter, reads_once, reads_twice, stops_early, goes_on, WrongPairs}
-
--- ---- the worked inlining
-
-inlined_ends : (input : List ℕ) (n : ℕ) → run without_call input n ≡ Ended [] (pos 42)
-inlined_ends input n = refl
-
-call_ends : (input : List ℕ) (n : ℕ) → run with_call input (suc n) ≡ Ended [] (pos 42)
-call_ends input n = refl
-
-pub worked_inlining_lem : WorkedInlining
-worked_inlining_lem input zero d = ((tt, ([], refl)), refl)
-worked_inlining_lem input (suc n) d = (refl, refl)
+use Rattle.run_pairs.specs.WorkedPairs.{writes_its_variable, writes_a_copy, uses_a_global, uses_its_parameter, reads_once, reads_twice, stops_early, goes_on, WrongPairs}
 
 -- ---- wrong pairs
 

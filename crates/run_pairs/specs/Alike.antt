@@ -116,9 +116,18 @@ pub record RelatedFrames (types types' : List PlainType) (uses : Uses) (held : H
   pub passed_arrays : (j k : ℕ) → uses j ≡ elements k →
       BothGiven (λ a b. (o : ℕ) × (c a ≡ Some o) × HoldsAside held b (pointer (at o (part 0 ∷ [])))) (frame.objects j) (frame'.objects k)
 
--- ---- statements, with what may stand for selected statements
+-- ---- statements, with what may stand for selected ones
 
-module _ (p p' : PlainProgram) (functions : ℕ → Option ℕ) (arity : ℕ → ℕ) (first : Correspondence) (Stands : List PlainType → List PlainType → Uses → List PlainStatement → List PlainStatement → Type 0) where
+-- what is selected: statements of a block, or the initialiser of the object in a slot, which was just made
+pub data Selection : Type 0 where
+  in_block : List PlainStatement → Selection
+  at_declaration : ℕ → List PlainPart → Selection
+
+-- which statements stand for what is selected, with the slots that are in scope, and whether they may return
+abbrev pub Replacement : Type 1
+Replacement = List PlainType → List PlainType → Uses → Bool → Selection → List PlainStatement → Type 0
+
+module _ (p p' : PlainProgram) (functions : ℕ → Option ℕ) (arity : ℕ → ℕ) (first : Correspondence) (Stands : Replacement) where
   abbrev Expressions : Uses → PlainExpression → PlainExpression → Type 0
   Expressions uses a b = AlikeExpressions p p' functions arity first false uses a b
 
@@ -156,8 +165,14 @@ module _ (p p' : PlainProgram) (functions : ℕ → Option ℕ) (arity : ℕ →
           AlikeStatements types types' selects uses l r s t → AlikeItems types types' selects uses l r a b →
           AlikeItems types types' selects uses l r (statement_item s a) (statement_item t b)
       selected : (uses : Uses) (l r : Bool) (ss ts : List PlainStatement) (a b : PlainItems) → selects ≡ true →
-          Stands types types' uses ss ts → AlikeItems types types' selects uses l r a b →
+          Stands types types' uses r (in_block ss) ts → AlikeItems types types' selects uses l r a b →
           AlikeItems types types' selects uses l r (before_items ss a) (before_items ts b)
+      -- the object is declared alone, and statements stand for its initialiser
+      initialised : (uses : Uses) (l r : Bool) (j k : ℕ) (x : List PlainPart) (ts : List PlainStatement) (a b : PlainItems) → selects ≡ true →
+          WhereGiven ◌≡◌ (slice_get types j) (slice_get types' k) → AreDistinct (with_use uses j k) →
+          Stands types types' (with_use uses j k) false (at_declaration j x) ts →
+          AlikeItems types types' selects (with_use uses j k) l r a b →
+          AlikeItems types types' selects uses l r (local j x a) (local k [] (before_items ts b))
 
   -- ---- what costs one
 

@@ -4,11 +4,11 @@ use Rattle.c_types.specs.Types.{PlainType}
 use Rattle.core_meaning.specs.Values.{is_scalar}
 use Rattle.core_meaning.specs.Program.{address, first_element, slot, call, PlainArguments, no_argument, argument, PlainStatement, evaluate, PlainItems, no_item, defined, PlainProgram}
 use Rattle.run_pairs.specs.Correspondences.{Correspondence}
-use Rattle.run_pairs.specs.Alike.{Uses, direct, through, elements, AreDistinct, before_items, AlikeItems}
+use Rattle.run_pairs.specs.Alike.{Uses, direct, through, elements, AreDistinct, before_items, in_block, at_declaration, Replacement, AlikeItems}
 
 -- nothing else stands for statements
-abbrev pub Nothing : List PlainType → List PlainType → Uses → List PlainStatement → List PlainStatement → Type 0
-Nothing types types' uses ss ts = ⊥
+abbrev pub Nothing : Replacement
+Nothing types types' uses r selection ts = ⊥
 
 -- what is passed: a variable, or an array, by its slot in the result
 pub data Entry : Type 0 where
@@ -41,3 +41,7 @@ pub record Extracted (p p' : PlainProgram) (functions : ℕ → Option ℕ) (ari
   pub passed : (j k : ℕ) → inner j ≡ through k → (i : ℕ) × (uses j ≡ direct i) × (slice_get entries k ≡ Some (variable i))
   pub passed_array : (j k : ℕ) → inner j ≡ elements k → (i : ℕ) × (uses j ≡ direct i) × (slice_get entries k ≡ Some (array i))
   pub items : AlikeItems p p' functions arity first Nothing types inner_types false inner false false (before_items ss no_item) body
+
+abbrev pub Extracts : (p p' : PlainProgram) (functions : ℕ → Option ℕ) (arity : ℕ → ℕ) (first : Correspondence) → Replacement
+Extracts p p' functions arity first types types' uses r (in_block ss) ts = Extracted p p' functions arity first types types' uses ss ts
+Extracts p p' functions arity first types types' uses r (at_declaration j x) ts = ⊥

@@ -7,7 +7,7 @@ use Rattle.core_meaning.specs.declared.expressions.Operation.TheVariants.{Number
 use Rattle.core_meaning.specs.declared.program.BuiltIn.TheVariants.{Putchar, Getchar, Puts}
 use Rattle.core_meaning.specs.Values.{part, at, number, pointer}
 use Rattle.core_meaning.specs.Program.{PlainExpression, constant, read, address, first_element, assign, binary, call, slot, global, literal, target, PlainArguments, no_argument, argument, block, evaluate, selection, return_value, PlainItems, no_item, local, statement_item, PlainFunction, defined, built_in, PlainGlobal, PlainProgram}
-use Rattle.run_pairs.specs.Laws.{IsExtraction, KeepsRunsWithMoreCalls, KeepsRunsWithFewerCalls}
+use Rattle.run_pairs.specs.Laws.{IsExtraction, IsInlining, KeepsRunsWithMoreCalls, KeepsRunsWithFewerCalls}
 
 -- ---- short forms
 
@@ -40,17 +40,19 @@ sum a b = binary (Numbers Add Int) a b
 -- int main(void) { int k = 66; putchar(65); putchar(k); return 0; }
 abbrev pub before : PlainProgram
 before = program (
-    defined (int ∷ []) (variable_with 0 (plain_number 66) (does (call 1 (one (plain_number 65))) (does (call 1 (one (value_of_slot 0))) (gives (plain_number 0)))))
-    ∷ built_in Putchar ∷ []
-    ) [] 0
+    built_in Putchar
+    ∷ defined (int ∷ []) (variable_with 0 (plain_number 66) (does (call 0 (one (plain_number 65))) (does (call 0 (one (value_of_slot 0))) (gives (plain_number 0)))))
+    ∷ []
+    ) [] 1
 
 -- static void f(int *k) { putchar(65); putchar((*k)); } int main(void) { int k = 66; f(&k); return 0; }
 abbrev pub behind : PlainProgram
 behind = program (
-    defined (pointer_to int ∷ []) (does (call 2 (one (plain_number 65))) (does (call 2 (one (read (target (value_of_slot 0))))) no_item))
-    ∷ defined (int ∷ []) (variable_with 0 (plain_number 66) (does (call 0 (one (address (slot 0)))) (gives (plain_number 0))))
-    ∷ built_in Putchar ∷ []
-    ) [] 1
+    built_in Putchar
+    ∷ defined (pointer_to int ∷ []) (does (call 0 (one (plain_number 65))) (does (call 0 (one (read (target (value_of_slot 0))))) no_item))
+    ∷ defined (int ∷ []) (variable_with 0 (plain_number 66) (does (call 1 (one (address (slot 0)))) (gives (plain_number 0))))
+    ∷ []
+    ) [] 2
 
 abbrev pub WorkedPair : Type 0
 WorkedPair = IsExtraction before behind
@@ -122,7 +124,7 @@ without_call = program (
     ) [] 1
 
 abbrev pub WorkedInlining : Type 0
-WorkedInlining = KeepsRunsWithFewerCalls with_call without_call
+WorkedInlining = IsInlining with_call without_call
 
 -- ---- a written variable that is passed by value
 
