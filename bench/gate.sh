@@ -33,13 +33,26 @@ stage() {
   esac
 }
 
+# Whether a process is one that the gate began.
+is_begun_by_gate() {
+  local pid=$1 stat rest
+  while [ "$pid" -gt 1 ]; do
+    [ "$pid" = "$gate" ] && return 0
+    read -r stat 2>/dev/null <"/proc/$pid/stat" || return 1
+    rest=(${stat##*) })
+    pid=${rest[1]}
+  done
+  return 1
+}
+
 # Adds up the processor time of each process of the prover, as often as it can be read.
 declare -A spent task
 sample() {
   local pid stat rest words folder crate
-  for pid in $(pgrep -x "rattle|antt-kernel"); do
+  for pid in $(pgrep -x "rattle|antt-kernel" 2>/dev/null); do
     read -r stat 2>/dev/null <"/proc/$pid/stat" || continue
     if [ -z "${task[$pid]-}" ]; then
+      is_begun_by_gate "$pid" || continue
       mapfile -d '' -t words 2>/dev/null <"/proc/$pid/cmdline" || continue
       folder=$(readlink "/proc/$pid/cwd")
       crate=$(printf '%s\n' "${words[@]}" | sed -n '/^--crate-name$/{n;p;q}')
@@ -70,7 +83,7 @@ for pid in "${!spent[@]}"; do
 done >"$room/spent"
 while read -r crate; do
   printf '%s lines %d\n' "$crate" "$(cat "$room/clone/crates/$crate"/src/*.rt | wc -l)"
-done < <(sed -n 's/^\([a-z0-9_]*\).*:.*/\1/p' "$room/clone/crates.txt") >>"$room/spent"
+done < <(sed -n 's/^\([a-z][a-z0-9_]*\):.*/\1/p' "$room/clone/crates.txt") >>"$room/spent"
 
 awk -v ticks="$ticks" -v dearest="$MOST_PROOF" -v bar="$MOST_FOR_1000_LINES" '
   $2 == "lines" { lines[$1] = $3; all_lines += $3; next }
