@@ -1,7 +1,7 @@
 #!/usr/bin/env bash
 # Measures `morpheus run` on nested loops with calls, on an array of 100,000 elements, on calls within
-# calls, and on units of 25,000 to 100,000 statements, beside the same programs built by `gcc -O0`, and prints a table.
-# The outputs are compared. Needs GNU time, awk and gcc. Ends with 1 where a bar is missed or the
+# calls, on units of 25,000 to 100,000 statements, and on units with long lists and long texts, beside the same programs built by
+# `gcc -O0`, and prints a table. The outputs are compared. Needs GNU time, awk and gcc. Ends with 1 where a bar is missed or the
 # two disagree.
 set -eu
 
@@ -89,6 +89,43 @@ statements() {
     }'
 }
 
+# So many parts in each kind of list: declarators at file scope, in a struct and in a block, and items of each.
+lists() {
+  awk -v most="$1" '
+    function names(name,  i) { for (i = 1; i <= most; i++) printf("%s%s%d", (i > 1 ? ", " : "int "), name, i); print ";" }
+    function items(name,  i) { for (i = 1; i <= most; i++) print "int " name i ";" }
+    BEGIN {
+      names("listed")
+      items("item")
+      print "struct by_list {"; names("member"); print "};"
+      print "struct by_items {"; items("member"); print "};"
+      print "int main(void) {"; names("local"); items("inner"); print "return 0; }"
+    }'
+}
+
+# Structs that are defined and used, so many of them.
+structs() {
+  awk -v most="$1" 'BEGIN {
+    for (i = 1; i <= most; i++) print "struct s" i " { int member; }; struct s" i " object" i ";"
+    print "int main(void) { return 0; }" }'
+}
+
+# Texts of so many bytes: alone, as a member, and as many texts together.
+texts() {
+  awk -v most="$1" '
+    function text(size,  t) { t = "x"; while (length(t) < size - 1) t = t t; return "\"" substr(t, 1, size - 1) "\"" }
+    BEGIN {
+      print "char alone[" most "] = " text(most) ";"
+      print "struct s { int number; char text[" most "]; };"
+      print "struct s inside = { 1, " text(most) " };"
+      print "struct line { char text[4096]; };"
+      printf "struct line many[" most / 4096 "] = { "
+      for (i = 0; i < most / 4096; i++) printf("%s{ %s }", (i > 0 ? ",\n" : ""), text(4096))
+      print "};"
+      print "int main(void) { return 0; }"
+    }'
+}
+
 # The lowest seconds of three runs, and the largest peak in MiB; the output stays in the file `output`.
 best() {
   for _ in 1 2 3; do
@@ -145,4 +182,22 @@ first=$ours
 statements 100000 >m.c
 row '100,000 statements, each run once' 100000
 grew 'From 25,000 to 100,000 statements' "$first" "$ours" 6
+lists 5000 >m.c
+row 'lists of 5,000 parts' 30000
+first=$ours
+lists 20000 >m.c
+row 'lists of 20,000 parts' 120000
+grew 'From lists of 5,000 to 20,000 parts' "$first" "$ours" 6
+structs 2500 >m.c
+row '2,500 structs' 2500
+first=$ours
+structs 10000 >m.c
+row '10,000 structs' 10000
+grew 'From 2,500 to 10,000 structs' "$first" "$ours" 6
+texts 65536 >m.c
+row 'texts of 3 times 64 KiB' 196608
+first=$ours
+texts 262144 >m.c
+row 'texts of 3 times 256 KiB' 786432
+grew 'From texts of 64 to 256 KiB' "$first" "$ours" 6
 exit "$failed"

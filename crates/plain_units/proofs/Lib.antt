@@ -1,1 +1,3 @@
 pub mod NameLaws
+pub mod TypeLists
+pub mod Declarators

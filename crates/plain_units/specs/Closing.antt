@@ -1,11 +1,11 @@
 -- What a unit leaves for linking.
-use Rattle.std.proofs.Common.{◌≡◌, ℕ, Bool, false, true, ◌||◌, List, [], ◌∷◌, map, refl, sym, ap, ◌∙◌}
+use Rattle.std.proofs.Common.{◌≡◌, ℕ, Bool, false, ◌||◌, List, [], ◌∷◌, map, sym, ap, ◌∙◌}
 use Rattle.std.proofs.Math.Path.{fun_ext}
 use Rattle.std.specs.Prelude.{Vec, Some}
 use Rattle.std.specs.HashMap.{HashMap}
 use Rattle.std.specs.declared.alloc.Global.{Global}
 use Rattle.c_tree.specs.Trees.{PlainTree, PlainTrees, leaf, node}
-use Rattle.core_meaning.specs.Checking.{Checked, fine, give}
+use Rattle.core_meaning.specs.Checking.{Checked, give}
 use Rattle.core_meaning.specs.Entities as spec
 use Rattle.core_meaning.specs.UnitNames.{UnitState, unit_start, judged_to_end, judged_unit}
 use Rattle.core_meaning.specs.Linking.{Units, closed, uses_in}

@@ -5,7 +5,7 @@ use Rattle.std.proofs.Math.Path.{fun_ext}
 use Rattle.c_text.specs.Token.{PlainToken}
 use Rattle.c_types.specs.Types.{PlainType, array_of}
 use Rattle.c_tree.specs.declared.kinds.Kind.TheVariants as k
-use Rattle.c_tree.specs.Trees.{PlainTree, PlainTrees, leaf, node, none, more}
+use Rattle.c_tree.specs.Trees.{PlainTree, PlainTrees, node, none, more}
 use Rattle.core_meaning.specs.declared.refusals.TypeKind.TheVariants.{BadOperand, BadConstant}
 use Rattle.core_meaning.specs.Program.{PlainExpression, PlainPlace, null_constant, address, first_element, global, literal}
 use Rattle.core_meaning.specs.Values.{Path, Scalar, number}

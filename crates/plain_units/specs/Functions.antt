@@ -1,7 +1,6 @@
 -- Steps in declaring and defining functions.
-use Rattle.std.proofs.Common.{◌≡◌, ℕ, Bool, ◌||◌, ◌&&◌, List, [], ◌∷◌, ◌++◌, map, refl, sym, ap, subst, ◌∙◌, true, false}
-use Rattle.std.specs.Prelude.{Option, Some, None}
-use Rattle.std.specs.Str.{bytes_eq}
+use Rattle.std.proofs.Common.{◌≡◌, ℕ, Bool, ◌||◌, ◌&&◌, List, [], ◌∷◌, map, refl, sym, ap, ◌∙◌, true, false}
+use Rattle.std.specs.Prelude.{Option, Some}
 use Rattle.c_text.specs.Token.{PlainToken}
 use Rattle.c_types.specs.Types.{PlainType}
 use Rattle.c_tree.specs.declared.kinds.Kind.{Kind}
@@ -10,7 +9,7 @@ use Rattle.c_tree.specs.declared.terminals.Terminal.TheVariants as t
 use Rattle.c_tree.specs.Trees.{PlainTree, PlainTrees, leaf, node, none, more}
 use Rattle.core_meaning.specs.declared.refusals.TypeKind.{TypeKind}
 use Rattle.core_meaning.specs.declared.refusals.TypeKind.TheVariants.{Incomplete, Redeclared}
-use Rattle.core_meaning.specs.Checking.{Entity, local_entity, local_of_function, file_entity, struct_entity, member_entity, own_entity, Binding, Checked, fine, refused, broken, ◌>>=◌, give, unless_so, declares, numbered, numbered_binding, in_function, or_broken}
+use Rattle.core_meaning.specs.Checking.{Entity, local_entity, local_of_function, file_entity, struct_entity, member_entity, own_entity, Binding, Checked, refused, broken, ◌>>=◌, give, unless_so, declares, numbered, numbered_binding, in_function}
 use Rattle.core_meaning.specs.Linking.{is_use_of, uses_in}
 use Rattle.core_meaning.specs.Entities.{Scope, Signature, function}
 use Rattle.core_meaning.specs.Program.{no_item}

@@ -1,5 +1,5 @@
 -- Steps in judging the items of a unit.
-use Rattle.std.proofs.Common.{◌≡◌, ℕ, Bool, true, false, ◌||◌, suc, ◌+◌, ◌<◌, ◌≤◌, List, [], ◌∷◌, length, get_or, drop, refl, sym, ap, arith, ◌∙◌, drop-cons}
+use Rattle.std.proofs.Common.{◌≡◌, ℕ, Bool, true, false, ◌||◌, ◌+◌, ◌<◌, ◌≤◌, List, length, get_or, drop, refl, sym, ap, ◌∙◌}
 use Rattle.std.proofs.Math.ListN.{drop_of_length-le}
 use Rattle.std.specs.Prelude.{Option, Some, None}
 use Rattle.c_text.specs.Token.{PlainToken}
@@ -18,7 +18,7 @@ use Rattle.plain_scope.specs.JudgementLaws.{gives_nothing_used, refused_first}
 use Rattle.plain_scope.specs.declared.errors.ElabError.{ElabError}
 use Rattle.plain_declarations.specs.Sequences.{bind_nothing, gives_as, gives_of, refused_of}
 use Rattle.plain_declarations.specs.Locals.{base_gives, base_refused}
-use Rattle.plain_units.specs.Leading.{Leads, leads_with, leads_to, leads_refused}
+use Rattle.plain_units.specs.Leading.{front, Leads, leads_with, leads_to, leads_refused}
 use Rattle.plain_units.specs.Functions.{in_function_gives, in_function_refused}
 
 -- `struct NAME ;`
@@ -116,9 +116,7 @@ items_left globals rest unit = judged_file_items globals unit rest
 
 pub items_next : (globals : ℕ) (unit : UnitState) (parts : List Tree) (tree : Tree) (n : ℕ) → n < length parts → tree ≡ get_or parts n tree → judged_file_items globals unit (plain_trees (drop n parts)) ≡ (judged_item globals unit (plain_tree tree) (plain_trees (drop (n + 1) parts)) >>= items_left globals (plain_trees (drop (n + 1) parts)))
 items_next globals unit parts tree n inside is =
-    let next : suc n ≡ n + 1 = omega arith in
-    let front : drop n parts ≡ tree ∷ drop (n + 1) parts = drop-cons parts n tree inside ∙ ap (λ t. t ∷ drop (suc n) parts) (sym is) ∙ ap (λ m. tree ∷ drop m parts) next in
-    ap (λ l. judged_file_items globals unit (plain_trees l)) front
+    ap (λ l. judged_file_items globals unit (plain_trees l)) (front parts tree n inside is)
 
 -- ---- steps of items
 

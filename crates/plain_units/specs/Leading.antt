@@ -1,5 +1,5 @@
 -- How far a judgement of a list has come, where each part is judged behind what the earlier ones gave.
-use Rattle.std.proofs.Common.{◌≡◌, ℕ, Bool, true, false, ◌||◌, List, [], ◌++◌, refl, sym, ap, ◌∙◌}
+use Rattle.std.proofs.Common.{◌≡◌, ℕ, suc, ◌+◌, ◌<◌, Bool, true, false, ◌||◌, List, [], ◌∷◌, ◌++◌, length, get_or, drop, refl, sym, ap, arith, ◌∙◌, drop-cons}
 use Rattle.core_meaning.specs.Checking.{Binding, Checked, with_bindings, ◌>>=◌}
 use Rattle.core_meaning.specs.Linking.{uses_in}
 use Rattle.plain_scope.specs.declared.errors.ElabError.{ElabError}
@@ -14,6 +14,12 @@ pub record Leads {A : Type 0} (whole left : Checked A) (before between : List �
   pub bindings : List Binding
   pub judged : whole ≡ with_bindings bindings left
   pub used : (name : List ℕ) → between name ≡ (before name || uses_in bindings name)
+
+-- what is left of a list begins with the element there
+pub front : {A : Type 0} (list : List A) (x : A) (n : ℕ) → n < length list → x ≡ get_or list n x → drop n list ≡ x ∷ drop (n + 1) list
+front list x n inside is =
+    let next : suc n ≡ n + 1 = omega arith in
+    drop-cons list n x inside ∙ ap (λ y. y ∷ drop (suc n) list) (sym is) ∙ ap (λ m. x ∷ drop m list) next
 
 or_assoc : (a b c : Bool) → ((a || b) || c) ≡ (a || (b || c))
 or_assoc true b c = refl

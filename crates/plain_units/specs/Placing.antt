@@ -1,14 +1,14 @@
--- Steps in declaring objects of file scope, and members of structs.
-use Rattle.std.proofs.Common.{◌≡◌, ℕ, Bool, List, refl, ap, ◌∙◌}
-use Rattle.std.specs.Prelude.{Option, Some, None, is_some}
+-- Steps in declaring objects of file scope.
+use Rattle.std.proofs.Common.{◌≡◌, ℕ, Bool, List}
+use Rattle.std.specs.Prelude.{Option, is_some}
 use Rattle.c_text.specs.Token.{PlainToken}
 use Rattle.c_types.specs.Types.{PlainType}
 use Rattle.c_tree.specs.declared.kinds.Kind.{Kind}
-use Rattle.c_tree.specs.Trees.{PlainTree, PlainTrees, none, more}
-use Rattle.core_meaning.specs.Checking.{file_entity, Checked, ◌>>=◌, give, declares, broken}
+use Rattle.c_tree.specs.Trees.{PlainTree, PlainTrees}
+use Rattle.core_meaning.specs.Checking.{file_entity, Checked, ◌>>=◌, give}
 use Rattle.core_meaning.specs.Entities.{Scope, variable}
 use Rattle.core_meaning.specs.Declarations.{object_type}
-use Rattle.core_meaning.specs.UnitNames.{UnitState, Storage, Members, with_scope, with_name, judged_global, defined_object, declared_object, one_member, members_from}
+use Rattle.core_meaning.specs.UnitNames.{UnitState, Storage, with_scope, with_name, judged_global, defined_object, declared_object}
 use Rattle.plain_scope.specs.Judgements.{Gives, RefusedAs}
 use Rattle.plain_scope.specs.JudgementLaws.{gives_then, refused_first}
 use Rattle.plain_scope.specs.declared.errors.ElabError.{ElabError}
@@ -60,12 +60,3 @@ pub placing_refused : (globals : ℕ) (unit : UnitState) (storage : Storage) (ty
 placing_refused globals unit storage ty kind parts name initialiser rest whole before between error typed r =
     member_refused (file_entity name.text) (λ u. typed_object globals unit storage ty kind parts name initialiser rest) error
     (refused_behind (object_type unit.scope ty kind parts name initialiser) (λ w. placed_object globals unit storage w name initialiser rest) whole before between error typed r)
-
--- a member, and those behind the comma
-abbrev pub member_then : Scope → ℕ → Members → PlainType → PlainTree → PlainTrees → Checked Members
-member_then scope number known ty tree rest = do
-  first ← one_member scope number known ty tree
-  members_from scope number first ty rest
-
-pub several_members : (scope : Scope) (number : ℕ) (known : Members) (ty : PlainType) (list others : PlainTrees) (tree comma : PlainTree) → list ≡ more tree (more comma others) → members_from scope number known ty list ≡ member_then scope number known ty tree others
-several_members scope number known ty list others tree comma is = ap (members_from scope number known ty) is

@@ -1,12 +1,12 @@
 -- Objects that are too big at the end of their unit.
-use Rattle.std.proofs.Common.{◌≡◌, ℕ, Bool, List, refl, sym, ap, ◌∙◌}
+use Rattle.std.proofs.Common.{◌≡◌, ℕ, Bool, List, refl, ap}
 use Rattle.std.specs.Prelude.{Option, Some, None}
 use Rattle.c_text.specs.Token.{PlainToken}
 use Rattle.c_tree.specs.declared.kinds.Kind.{Kind}
 use Rattle.c_tree.specs.declared.kinds.Kind.TheVariants as k
-use Rattle.c_tree.specs.Trees.{PlainTree, PlainTrees, leaf, node, none, more}
+use Rattle.c_tree.specs.Trees.{PlainTree, PlainTrees, leaf, node, more}
 use Rattle.core_meaning.specs.declared.refusals.TypeKind.TheVariants.{BadConstant}
-use Rattle.core_meaning.specs.Checking.{Checked, ◌>>=◌, give}
+use Rattle.core_meaning.specs.Checking.{◌>>=◌, give}
 use Rattle.core_meaning.specs.Entities.{Scope}
 use Rattle.core_meaning.specs.UnitNames.{UnitState, too_big_declarator, too_big_among, too_big_declared, too_big_in_item, too_big_in, unless_too_big, judged_file_items, judged_to_end}
 use Rattle.plain_scope.specs.Judgements.{Gives, Refuses, RefusedAs}

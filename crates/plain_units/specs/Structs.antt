@@ -1,7 +1,7 @@
 -- Steps in defining structs.
-use Rattle.std.proofs.Common.{◌≡◌, ℕ, zero, suc, ◌+◌, ◌<◌, ◌≤◌, Bool, true, List, [], ◌∷◌, length, map, set, get_or, drop, refl, sym, ap, arith, ◌∙◌, drop-cons, add-one}
+use Rattle.std.proofs.Common.{◌≡◌, ℕ, zero, suc, ◌+◌, ◌<◌, ◌≤◌, Bool, true, List, [], ◌∷◌, length, map, set, get_or, drop, refl, sym, ap, arith, ◌∙◌}
 use Rattle.std.proofs.Math.ListN.{drop_of_length-le}
-use Rattle.std.specs.Prelude.{not, Option, Some, None, slice_get}
+use Rattle.std.specs.Prelude.{not, Some}
 use Rattle.c_text.specs.Token.{PlainToken}
 use Rattle.c_tree.specs.declared.trees.Tree.{Tree}
 use Rattle.c_tree.specs.Trees.{PlainTree, PlainTrees, leaf, node, none, more, plain_tree, plain_trees}
@@ -16,7 +16,7 @@ use Rattle.plain_scope.specs.JudgementLaws.{gives_nothing_used, refused_first}
 use Rattle.plain_scope.specs.declared.errors.ElabError.{ElabError}
 use Rattle.plain_declarations.specs.Sequences.{bind_nothing, gives_of, refused_of, gives_as}
 use Rattle.plain_units.specs.Binding.{bind_assoc, regrouped, then_same}
-use Rattle.plain_units.specs.Leading.{Leads, leads_with, leads_to, leads_refused}
+use Rattle.plain_units.specs.Leading.{front, Leads, leads_with, leads_to, leads_refused}
 
 -- ---- members
 
@@ -75,9 +75,7 @@ all_step scope number known (node kind (more (node words_kind words) (more (node
 
 pub all_next : (scope : Scope) (number : ℕ) (known : Members) (parts : List Tree) (tree : Tree) (n : ℕ) → n < length parts → tree ≡ get_or parts n tree → all_members scope number known (plain_trees (drop n parts)) ≡ (member_declaration scope number known (plain_tree tree) >>= members_left number (plain_trees (drop (n + 1) parts)))
 all_next scope number known parts tree n inside is =
-    let next : suc n ≡ n + 1 = omega arith in
-    let front : drop n parts ≡ tree ∷ drop (n + 1) parts = drop-cons parts n tree inside ∙ ap (λ t. t ∷ drop (suc n) parts) (sym is) ∙ ap (λ m. tree ∷ drop m parts) next in
-    ap (λ l. all_members scope number known (plain_trees l)) front ∙ all_step scope number known (plain_tree tree) (plain_trees (drop (n + 1) parts))
+    ap (λ l. all_members scope number known (plain_trees l)) (front parts tree n inside is) ∙ all_step scope number known (plain_tree tree) (plain_trees (drop (n + 1) parts))
 
 -- ---- structs that are completed
 

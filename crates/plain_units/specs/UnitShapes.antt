@@ -1,5 +1,5 @@
 -- The parts of items.
-use Rattle.std.proofs.Common.{◌≡◌, ℕ, Bool, List, refl, sym, ap, ◌∙◌}
+use Rattle.std.proofs.Common.{◌≡◌, ℕ, List, refl}
 use Rattle.c_tree.specs.declared.kinds.Kind.TheVariants as k
 use Rattle.c_tree.specs.Trees.{PlainTrees, leaf, node, none, more}
 use Rattle.core_meaning.specs.UnitNames.{completes}

@@ -130,7 +130,7 @@ pub fn judge_global(
 ) -> Result<(), ElabError>
     ensures { Answers (spec.judged_global (plain_storage storage) initialised (plain_scope scope.now) (plain_type ty.now) (plain_token name.now) (plain_trees rest.now)) (λ u. tt) result }
 {
-    if may_be_incomplete(storage, initialised, scope, ty, rest) && !scope.is_complete(ty) {
+    if !scope.is_complete(ty) && may_be_incomplete(storage, initialised, scope, ty, rest) {
         Ok(())
     } else {
         judge_object(scope, ty, name)?;

@@ -1,12 +1,13 @@
 //! The declarators of a declaration at file scope (6.7).
-ghost use Rattle.std.specs.Prelude.{ℕ, None, Some, option_map};
+ghost use Rattle.std.specs.Prelude.{◌≡◌, ℕ, IfOk, option_map};
 ghost use Rattle.c_text.specs.Token.{plain_token};
 ghost use Rattle.c_types.specs.Types.{plain_type};
 ghost use Rattle.c_tree.specs.Trees.{node, plain_tree, plain_trees};
 ghost use Rattle.core_meaning.specs.UnitNames as spec;
 ghost use Rattle.plain_scope.specs.Judgements.{Judges};
 ghost use Rattle.plain_units.specs.PlainStates.{plain_state, plain_storage};
-ghost use Rattle.plain_units.specs.Declarators.{declared_by_kind, declared_then, initialised_then};
+ghost use Rattle.plain_declarations.specs.Locals.{first_size};
+ghost use Rattle.plain_units.specs.Declarators.{declared_by_kind, declared_first};
 
 use crate::definitions::Unit;
 use crate::functions::declare_function;
@@ -148,74 +149,40 @@ fn declare_one(
     }
 }
 
-/// A declarator, and those behind it.
-#[cycle(declarators)]
-fn declare_then(
+/// The first declarator of a list with its initialiser, and what stands behind the declaration in the unit. How many trees
+/// of the list they are.
+fn declare_first(
     alloc: Global,
     unit: &mut Unit,
     used: &mut Used,
     storage: Storage,
     base: &CType,
-    tree: &Tree,
-    initialiser: Option<&Tree>,
-    others: &[Tree],
+    list: &[Tree],
     rest: &[Tree],
-) -> Result<(), ElabError>
-    ensures { (globals : ℕ) → Judges (declared_then globals (plain_state globals unit.old) (plain_storage storage) (plain_type base.now) (plain_tree tree.now) (option_map (λ t. plain_tree t.now) initialiser.entry) (plain_trees others.now) (plain_trees rest.now)) (λ u. plain_state globals unit.new) used.old used.new result }
+) -> Result<usize, ElabError>
+    ensures judged { (globals : ℕ) → Judges (declared_first globals (plain_state globals unit.old) (plain_storage storage) (plain_type base.now) (plain_trees list.now) (plain_trees rest.now)) (λ u. plain_state globals unit.new) used.old used.new result }
+    ensures size { IfOk result (λ size. size ≡ first_size (plain_trees list.now)) }
 {
-    declare_one(alloc, unit, used, storage, base, tree, initialiser, rest)?;
-    declare_from(alloc, unit, used, storage, base, others, rest)?;
-    Ok(())
-}
-
-/// A declarator with its initialiser, and those behind the comma.
-#[cycle(declarators)]
-fn initialised_then(
-    alloc: Global,
-    unit: &mut Unit,
-    used: &mut Used,
-    storage: Storage,
-    base: &CType,
-    tree: &Tree,
-    initialiser: &Tree,
-    others: &[Tree],
-    rest: &[Tree],
-) -> Result<(), ElabError>
-    ensures { (globals : ℕ) → Judges (initialised_then globals (plain_state globals unit.old) (plain_storage storage) (plain_type base.now) (plain_tree tree.now) (plain_tree initialiser.now) (plain_trees others.now) (plain_trees rest.now)) (λ u. plain_state globals unit.new) used.old used.new result }
-{
-    match others.split_first() {
-        None => {
-            declare_one(
-                alloc,
-                unit,
-                used,
-                storage,
-                base,
-                tree,
-                Some(initialiser),
-                rest,
-            )?;
-            Ok(())
-        }
-        Some((_, others)) => {
-            declare_then(
-                alloc,
-                unit,
-                used,
-                storage,
-                base,
-                tree,
-                Some(initialiser),
-                others,
-                rest,
-            )?;
-            Ok(())
-        }
+    let Some((tree, behind)) = list.split_first() else {
+        return Err(ElabError::Memory);
+    };
+    let Some((sign, signed)) = behind.split_first() else {
+        declare_one(alloc, unit, used, storage, base, tree, None, rest)?;
+        return Ok(1);
+    };
+    let Some((next, _)) = signed.split_first() else {
+        return Err(ElabError::Memory);
+    };
+    if is_word(sign, Terminal::Assign) {
+        declare_one(alloc, unit, used, storage, base, tree, Some(next), rest)?;
+        Ok(3)
+    } else {
+        declare_one(alloc, unit, used, storage, base, tree, None, rest)?;
+        Ok(1)
     }
 }
 
-/// The declarators of a declaration, with what stands behind it in the unit.
-#[cycle(declarators)]
+/// The declarators of a declaration, one after the other, with what stands behind it in the unit.
 pub fn declare_from(
     alloc: Global,
     unit: &mut Unit,
@@ -227,21 +194,14 @@ pub fn declare_from(
 ) -> Result<(), ElabError>
     ensures { (globals : ℕ) → Judges (spec.declared_from globals (plain_state globals unit.old) (plain_storage storage) (plain_type base.now) (plain_trees list.now) (plain_trees rest.now)) (λ u. plain_state globals unit.new) used.old used.new result }
 {
-    let Some((tree, behind)) = list.split_first() else {
-        return Err(ElabError::Memory);
-    };
-    let Some((sign, signed)) = behind.split_first() else {
-        declare_one(alloc, unit, used, storage, base, tree, None, rest)?;
-        return Ok(());
-    };
-    let Some((next, others)) = signed.split_first() else {
-        return Err(ElabError::Memory);
-    };
-    if is_word(sign, Terminal::Assign) {
-        initialised_then(alloc, unit, used, storage, base, tree, next, others, rest)?;
-        Ok(())
-    } else {
-        declare_then(alloc, unit, used, storage, base, tree, None, signed, rest)?;
-        Ok(())
+    let mut place = 0;
+    while place < list.len() {
+        let (_, left) = list.split_at(place);
+        let size = declare_first(alloc, unit, used, storage, base, left, rest)?;
+        if left.len() <= size {
+            return Ok(());
+        }
+        place += size + 1;
     }
+    Err(ElabError::Memory)
 }

@@ -9,7 +9,6 @@ ghost use Rattle.plain_scope.specs.PlainScope.{plain_scope, entry_of};
 ghost use Rattle.plain_scope.specs.Judgements.{Answers, Judges};
 ghost use Rattle.plain_units.specs.PlainStates.{plain_members};
 ghost use Rattle.plain_units.specs.Members.{complete_member, typed_member};
-ghost use Rattle.plain_units.specs.Placing.{member_then};
 
 use c_text::Token;
 use c_tree::{Kind, Tree};
@@ -173,28 +172,7 @@ fn one_member(
     }
 }
 
-/// A member, and those behind the comma.
-#[cycle(members)]
-#[tactic(auto, using(plain_scope::specs::JudgementLaws::gives_then, plain_scope::specs::JudgementLaws::refused_first, plain_declarations::specs::Sequences::refused_behind))]
-fn member_then(
-    alloc: Global,
-    scope: &Scope,
-    used: &mut Used,
-    number: u32,
-    known: &mut Members,
-    base: &CType,
-    tree: &Tree,
-    rest: &[Tree],
-) -> Result<(), ElabError>
-    ensures { Judges (member_then (plain_scope scope.now) number (plain_members known.old) (plain_type base.now) (plain_tree tree.now) (plain_trees rest.now)) (λ u. plain_members known.new) used.old used.new result }
-{
-    one_member(alloc, scope, used, number, known, base, tree)?;
-    members_from(alloc, scope, used, number, known, base, rest)?;
-    Ok(())
-}
-
-/// The members of a list of declarators.
-#[cycle(members)]
+/// The members of a list of declarators, one after the other.
 pub fn members_from(
     alloc: Global,
     scope: &Scope,
@@ -206,17 +184,13 @@ pub fn members_from(
 ) -> Result<(), ElabError>
     ensures { Judges (spec.members_from (plain_scope scope.now) number (plain_members known.old) (plain_type base.now) (plain_trees list.now)) (λ u. plain_members known.new) used.old used.new result }
 {
-    let Some((tree, rest)) = list.split_first() else {
-        return Err(ElabError::Memory);
-    };
-    match rest.split_first() {
-        None => {
-            one_member(alloc, scope, used, number, known, base, tree)?;
-            Ok(())
+    let mut place = 0;
+    while place < list.len() {
+        one_member(alloc, scope, used, number, known, base, &list[place])?;
+        if list.len() - place == 1 {
+            return Ok(());
         }
-        Some((_, others)) => {
-            member_then(alloc, scope, used, number, known, base, tree, others)?;
-            Ok(())
-        }
+        place += 2;
     }
+    Err(ElabError::Memory)
 }

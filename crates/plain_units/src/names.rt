@@ -50,25 +50,18 @@ fn is_function(sort: &Sort) -> bool
     }
 }
 
-fn is_none(types: &[CType]) -> bool
-    ensures { result ≡ spec.same_types [] (map plain_type types.now) }
-{
-    match types.split_first() {
-        Some(_) => false,
-        None => true,
-    }
-}
-
 fn same_types(a: &[CType], b: &[CType]) -> bool
     ensures { result ≡ spec.same_types (map plain_type a.now) (map plain_type b.now) }
 {
-    let Some((first, rest)) = a.split_first() else {
-        return is_none(b);
-    };
-    match b.split_first() {
-        Some((other, others)) => same_type(first, other) && same_types(rest, others),
-        None => false,
+    if a.len() != b.len() {
+        return false;
     }
+    for i in 0..a.len() {
+        if !same_type(&a[i], &b[i]) {
+            return false;
+        }
+    }
+    true
 }
 
 fn same_signature(f: &Signature, g: &Signature) -> bool

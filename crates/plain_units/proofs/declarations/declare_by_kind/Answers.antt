@@ -7,7 +7,8 @@ use Rattle.core_meaning.specs.UnitNames.{UnitState, Storage, declared_function, 
 use Rattle.plain_scope.specs.Judgements.{RefusedAs}
 use Rattle.plain_declarations.specs.Sequences.{refused_of}
 use Rattle.plain_units.specs.PlainStates.{plain_state, plain_storage}
-use Rattle.plain_units.specs.Declarators.{declared_by_kind, for_function, for_object}
+use Rattle.plain_units.specs.Declarators.{declared_by_kind}
+use Rattle.plain_units.proofs.Declarators.{for_function, for_object}
 use Rattle.plain_units.proofs.declarations.declare_by_kind.Goals as goal
 
 pub returns-in_err-declare_in_scope-in-FunctionDeclarator : goal.returns-in_err-declare_in_scope-in-FunctionDeclarator

@@ -8,7 +8,8 @@ use Rattle.core_meaning.specs.UnitNames.{UnitState, Storage, declared_one}
 use Rattle.plain_scope.specs.Judgements.{RefusedAs}
 use Rattle.plain_declarations.specs.Sequences.{refused_of}
 use Rattle.plain_units.specs.PlainStates.{plain_state, plain_storage}
-use Rattle.plain_units.specs.Declarators.{declared_by_kind, named_one}
+use Rattle.plain_units.specs.Declarators.{declared_by_kind}
+use Rattle.plain_units.proofs.Declarators.{named_one}
 use Rattle.plain_units.proofs.declarations.declare_named.Goals as goal
 
 pub returns-in_err-declare_by_kind-in-Some : goal.returns-in_err-declare_by_kind-in-Some

@@ -1,7 +1,6 @@
-use Rattle.std.proofs.Common.{◌≡◌, ℕ, [], ◌∷◌, ◌++◌, map, rules, sym, ap, ◌∙◌}
+use Rattle.std.proofs.Common.{◌≡◌, [], ◌∷◌, ◌++◌, rules, sym, ap, ◌∙◌}
 use Rattle.std.specs.Prelude.{Some, option_map}
 use Rattle.core_meaning.specs.Plain.{plain_constant_part}
-use Rattle.core_meaning.specs.UnitNames.{constant_parts}
 use Rattle.plain_declarations.specs.PlainDeclared.{plain_initial}
 use Rattle.plain_units.specs.Objects.{constant_part_of, parts_pushed}
 use Rattle.plain_units.proofs.definitions.constant_parts.Goals as goal

@@ -1,4 +1,4 @@
-use Rattle.std.proofs.Common.{ℕ, map, rules}
+use Rattle.std.proofs.Common.{map, rules}
 use Rattle.std.specs.Prelude.{Some}
 use Rattle.c_text.specs.Token.{plain_token}
 use Rattle.c_types.specs.Types.{plain_type}

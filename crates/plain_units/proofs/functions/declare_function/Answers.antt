@@ -1,4 +1,4 @@
-use Rattle.std.proofs.Common.{◌≡◌, List, map, rules, ap, sym, subst, ◌∙◌}
+use Rattle.std.proofs.Common.{◌≡◌, List, map, rules, subst}
 use Rattle.std.specs.Prelude.{Option, option_map}
 use Rattle.c_text.specs.Token.{PlainToken, plain_token}
 use Rattle.c_types.specs.Types.{PlainType, plain_type}

@@ -1,4 +1,4 @@
-use Rattle.std.proofs.Common.{◌≡◌, ◌+◌, map, drop, arith, sym, ap, ◌∙◌}
+use Rattle.std.proofs.Common.{◌+◌, map, drop, arith, sym, ap, ◌∙◌}
 use Rattle.core_meaning.specs.Entities.{Scope}
 use Rattle.core_meaning.specs.UnitNames.{with_parameters}
 use Rattle.plain_scope.specs.PlainScope.{plain_scope}

@@ -1,9 +1,8 @@
-use Rattle.std.proofs.Common.{◌≡◌, ℕ, List, map, sym, ap, subst, ◌∙◌, true}
+use Rattle.std.proofs.Common.{◌≡◌, ℕ, List, map, sym, subst, true}
 use Rattle.c_text.specs.Token.{PlainToken, plain_token}
 use Rattle.c_types.specs.Types.{PlainType, plain_type}
-use Rattle.c_tree.specs.Trees.{PlainTrees, plain_trees}
+use Rattle.c_tree.specs.Trees.{plain_trees}
 use Rattle.core_meaning.specs.declared.refusals.TypeKind.{TypeKind}
-use Rattle.core_meaning.specs.Declarations.{Parameter}
 use Rattle.core_meaning.specs.Entities.{Scope, function}
 use Rattle.core_meaning.specs.UnitNames.{Storage, signature_of, with_name, kind_or_incomplete, may_be_function}
 use Rattle.plain_scope.specs.PlainScope.{plain_scope, uses_of}

@@ -1,5 +1,4 @@
 use Rattle.std.proofs.Common.{rules}
-use Rattle.c_types.specs.Types.{plain_type}
 use Rattle.c_tree.specs.Trees.{PlainTrees, plain_trees}
 use Rattle.core_meaning.specs.UnitNames.{UnitState}
 use Rattle.plain_scope.specs.PlainScope.{uses_of}

@@ -1,4 +1,4 @@
-use Rattle.std.proofs.Common.{map, rules}
+use Rattle.std.proofs.Common.{rules}
 use Rattle.c_text.specs.Token.{plain_token}
 use Rattle.c_types.specs.Types.{plain_type}
 use Rattle.c_tree.specs.Trees.{plain_tree, plain_trees}

@@ -1,4 +1,4 @@
-use Rattle.std.proofs.Common.{◌≡◌, ◌+◌, drop, ap, arith, rules}
+use Rattle.std.proofs.Common.{ap, arith, rules}
 use Rattle.c_tree.specs.Trees.{plain_trees}
 use Rattle.core_meaning.specs.Checking.{Checked}
 use Rattle.core_meaning.specs.UnitNames.{UnitState, judged_file_items}

@@ -1,7 +1,6 @@
 use Rattle.std.proofs.Common.{rules}
 use Rattle.c_tree.specs.declared.kinds.Kind.TheVariants as k
-use Rattle.c_tree.specs.Trees.{PlainTree, PlainTrees, node, more, plain_tree, plain_trees}
-use Rattle.core_meaning.specs.Checking.{Checked}
+use Rattle.c_tree.specs.Trees.{PlainTrees, node, plain_tree, plain_trees}
 use Rattle.core_meaning.specs.UnitNames.{UnitState, judged_item, defined_struct}
 use Rattle.plain_scope.specs.PlainScope.{uses_of}
 use Rattle.plain_scope.specs.Judgements.{RefusedAs}

@@ -2,12 +2,12 @@ use Rattle.std.proofs.Common.{◌≡◌, rules}
 use Rattle.std.specs.Prelude.{Option, option_map, is_some}
 use Rattle.c_text.specs.Token.{PlainToken, plain_token}
 use Rattle.c_types.specs.Types.{PlainType, plain_type}
-use Rattle.c_tree.specs.Trees.{PlainTree, PlainTrees, plain_tree, plain_trees}
+use Rattle.c_tree.specs.Trees.{PlainTree, plain_tree, plain_trees}
 use Rattle.core_meaning.specs.Checking.{give}
 use Rattle.core_meaning.specs.Entities.{Scope, variable}
-use Rattle.core_meaning.specs.UnitNames.{UnitState, Storage, with_name, with_scope, judged_global, defined_object}
+use Rattle.core_meaning.specs.UnitNames.{UnitState, Storage, with_name, judged_global}
 use Rattle.plain_scope.specs.PlainScope.{plain_scope, uses_of}
-use Rattle.plain_scope.specs.Judgements.{Gives, RefusedAs}
+use Rattle.plain_scope.specs.Judgements.{RefusedAs}
 use Rattle.plain_units.specs.PlainStates.{plain_state, plain_storage}
 use Rattle.plain_units.specs.Placing.{placed_object, placed_gives, name_refused, judged_refused, definition_refused}
 use Rattle.plain_units.proofs.objects.place_object.Goals as goal

@@ -1,6 +1,6 @@
 use Rattle.std.proofs.Common.{rules}
-use Rattle.c_tree.specs.Trees.{PlainTrees, plain_trees}
-use Rattle.core_meaning.specs.UnitNames.{UnitState, judged_to_end}
+use Rattle.c_tree.specs.Trees.{plain_trees}
+use Rattle.core_meaning.specs.UnitNames.{judged_to_end}
 use Rattle.plain_scope.specs.PlainScope.{uses_of}
 use Rattle.plain_scope.specs.Judgements.{RefusedAs}
 use Rattle.plain_units.specs.PlainStates.{plain_state}
