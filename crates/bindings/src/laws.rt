@@ -1,0 +1,38 @@
+//! Laws of bindings. Each function is its contract, and leans on how units are derived.
+ghost use Rattle.bindings.specs.Laws.{JudgementsBindAlike, UndeclaredIsFirst, DeclaredIsUnrefused, UnitsAreJudged, ProgramsAreJudged};
+
+/// Where a unit is judged well, the judgement binds its identifiers as the bindings of the unit do: each to what the first
+/// identifier of its entity declares. So none is undeclared.
+pub fn judgements_bind_alike()
+    ensures { JudgementsBindAlike }
+{
+    tree_derivations::units_are_derived();
+}
+
+/// A unit that is refused as undeclared has an undeclared identifier, and is refused at the place of the first.
+pub fn undeclared_is_first()
+    ensures { UndeclaredIsFirst }
+{
+    tree_derivations::units_are_derived();
+}
+
+/// So no unit is refused as undeclared in which each identifier is declared; and in a unit that is judged well each is.
+pub fn declared_is_unrefused()
+    ensures { DeclaredIsUnrefused }
+{
+    tree_derivations::units_are_derived();
+}
+
+/// A unit of the grammar, with tokens that are spelt as their kinds say, is judged: it is fine or refused.
+pub fn units_are_judged()
+    ensures { UnitsAreJudged }
+{
+    tree_derivations::units_are_derived();
+}
+
+/// So are the units of a program together.
+pub fn programs_are_judged()
+    ensures { ProgramsAreJudged }
+{
+    tree_derivations::units_are_derived();
+}

@@ -1,0 +1,13 @@
+//! Worked rows. Each function is its contract alone.
+ghost use Rattle.bindings.specs.Rows.{BlocksHide, PrototypesHaveTheirOwn, TagsAreOfFileScope, StructsAreNamedBefore, EarlierParametersAreVisible, InitialisersSeeTheirName, ForIsABlock};
+
+/// Which identifiers units by hand bind, and to what.
+pub fn worked_rows()
+    ensures blocks { BlocksHide }
+    ensures prototypes { PrototypesHaveTheirOwn }
+    ensures tags { TagsAreOfFileScope }
+    ensures structs { StructsAreNamedBefore }
+    ensures parameters { EarlierParametersAreVisible }
+    ensures initialisers { InitialisersSeeTheirName }
+    ensures turns { ForIsABlock }
+{}
