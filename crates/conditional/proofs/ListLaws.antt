@@ -1,9 +1,9 @@
 -- What is seen of conditional lists.
-use Rattle.std.proofs.Common.{◌≡◌, ℕ, suc, ◌+◌, ◌<◌, ◌≤◌, if◌then◌else◌, Bool, true, false, not, ◌&&◌, List, [], ◌∷◌, ◌++◌, map, drop, length, get_or, refl, sym, ap, ◌∙◌, add-one, drop-cons, append_assoc, append-nil}
+use Rattle.std.proofs.Common.{◌≡◌, ℕ, suc, ◌+◌, ◌<◌, ◌≤◌, if◌then◌else◌, Bool, true, false, not, ◌&&◌, ◌||◌, Option, Some, None, List, [], ◌∷◌, ◌++◌, map, drop, length, get_or, refl, sym, ap, ◌∙◌, add-one, drop-cons, append_assoc, append-nil}
 use Rattle.std.proofs.lemmas.List.{drop_all, map-append}
 use Rattle.cond_formula.specs.Conditions.{value, condition_of}
 use Rattle.conditional.specs.declared.entries.Guarded.{Guarded}
-use Rattle.conditional.specs.Entries.{Entry, entry_of, entries_of, seen, under}
+use Rattle.conditional.specs.Entries.{Entry, entry_of, entries_of, seen, under, first, or_later}
 
 pub seen-append : {P : Type 0} (on : ℕ → Bool) (xs ys : List (Entry P)) → seen on (xs ++ ys) ≡ seen on xs ++ seen on ys
 seen-append on [] ys = refl
@@ -92,3 +92,47 @@ chosen_list {P} false elsewhere empty chosen otherwise mid all e none first seco
 pub with_true : (b : Bool) → b ≡ (b && true)
 with_true true = refl
 with_true false = refl
+
+-- ---- the first of what is seen
+
+first-append : {P : Type 0} (xs ys : List P) → first (xs ++ ys) ≡ or_later (first xs) (first ys)
+first-append [] ys = refl
+first-append (x ∷ xs) ys = refl
+
+or_later_assoc : {P : Type 0} (a b c : Option P) → or_later (or_later a b) c ≡ or_later a (or_later b c)
+or_later_assoc None b c = refl
+or_later_assoc (Some x) b c = refl
+
+-- one more entry
+pub first_pushed : {T P : Type 0} (form : T → P) (on : ℕ → Bool) (xs longer : List (Guarded T)) (x : Guarded T) → longer ≡ xs ++ x ∷ [] →
+    first (seen on (entries_of form longer)) ≡ or_later (first (seen on (entries_of form xs))) (first (under (value on (condition_of x.when)) (form x.what ∷ [])))
+first_pushed form on xs longer x is = ap first (seen_push form on xs longer x is) ∙ first-append (seen on (entries_of form xs)) (under (value on (condition_of x.when)) (form x.what ∷ []))
+
+under_either : {P : Type 0} (s t : Bool) (v : P) → first (under (s || t) (v ∷ [])) ≡ or_later (first (under s (v ∷ []))) (first (under t (v ∷ [])))
+under_either true t v = refl
+under_either false t v = refl
+
+-- the last entry holds under a further condition
+pub first_widened : {T P : Type 0} (form : T → P) (on : ℕ → Bool) (a x : Guarded T) (k : Bool) (what : P) (mid old new : List (Guarded T)) →
+    old ≡ mid ++ a ∷ [] → new ≡ mid ++ x ∷ [] → form x.what ≡ form a.what → form a.what ≡ what → value on (condition_of x.when) ≡ (value on (condition_of a.when) || k) →
+    first (seen on (entries_of form new)) ≡ or_later (first (seen on (entries_of form old))) (first (under k (what ∷ [])))
+first_widened {T} {P} form on a x k what mid old new was is same given either =
+    first_pushed form on mid new x is
+    ∙ ap (λ (b : Bool). or_later (first (seen on (entries_of form mid))) (first (under b (form x.what ∷ [])))) either
+    ∙ ap (λ (v : P). or_later (first (seen on (entries_of form mid))) (first (under (value on (condition_of a.when) || k) (v ∷ [])))) same
+    ∙ ap (or_later (first (seen on (entries_of form mid)))) (under_either (value on (condition_of a.when)) k (form a.what))
+    ∙ sym (or_later_assoc (first (seen on (entries_of form mid))) (first (under (value on (condition_of a.when)) (form a.what ∷ []))) (first (under k (form a.what ∷ []))))
+    ∙ ap (λ (v : P). or_later (or_later (first (seen on (entries_of form mid))) (first (under (value on (condition_of a.when)) (form a.what ∷ [])))) (first (under k (v ∷ [])))) given
+    ∙ ap (λ (o : Option P). or_later o (first (under k (what ∷ [])))) (sym (first_pushed form on mid old a was))
+
+-- the first that is seen of an item and what is behind it
+pub first_at : {T P : Type 0} (form : T → P) (on : ℕ → Bool) (xs : List (Guarded T)) (x : Guarded T) (i : ℕ) → i < length xs → x ≡ get_or xs i x →
+    first (seen on (entries_of form (drop i xs))) ≡ (if value on (condition_of x.when) then Some (form x.what) else first (seen on (entries_of form (drop (i + 1) xs))))
+first_at {T} {P} form on xs x i within is = let e = item_of xs x i within is in rw e (by_test (value on (condition_of x.when))) where
+  by_test : (t : Bool) → first (if t then form x.what ∷ seen on (entries_of form (drop (i + 1) xs)) else seen on (entries_of form (drop (i + 1) xs)))
+      ≡ (if t then Some (form x.what) else first (seen on (entries_of form (drop (i + 1) xs))))
+  by_test true = refl
+  by_test false = refl
+
+pub first_of_none : {T P : Type 0} (form : T → P) (on : ℕ → Bool) (xs : List (Guarded T)) (i : ℕ) → length xs ≤ i → first (seen on (entries_of form (drop i xs))) ≡ None
+first_of_none form on xs i past = let e = drop_all i xs past in rw e refl

@@ -5,8 +5,8 @@ use Rattle.std.proofs.lemmas.List.{drop_all, map-append}
 use Rattle.std.proofs.Math.Bool.{or_assoc, or_comm, or-false}
 use Rattle.cond_formula.specs.Conditions.{Condition, Always, value, condition_of, IsDisjunction}
 use Rattle.conditional.specs.declared.entries.Guarded.{Guarded}
-use Rattle.conditional.specs.Entries.{Entry, entry_of, entries_of, some_holds, Carry, Stands, Sees, Places, PlacesUnder}
-use Rattle.conditional.proofs.ListLaws.{item_of}
+use Rattle.conditional.specs.Entries.{Entry, entry_of, entries_of, seen, first, some_holds, Carry, Stands, Sees, Places, PlacesUnder}
+use Rattle.conditional.proofs.ListLaws.{item_of, first_at}
 
 some_holds-append : {P : Type 0} (on : ℕ → Bool) (xs ys : List (Entry P)) → some_holds on (xs ++ ys) ≡ (some_holds on xs || some_holds on ys)
 some_holds-append on [] ys = refl
@@ -238,3 +238,67 @@ image_end form gives on xs i now past so_far o s =
 pub copied : {P : Type 0} (on : ℕ → Bool) (xs empty new : List (Entry P)) → some_holds on empty ≡ false → PlacedSoFar on true xs [] empty new → (o : Option P) → Sees on o xs → Sees on o new
 copied on xs empty new none so_far o s =
     sees_placed on Always xs empty new (record { held = sym (or-false (some_holds on new)) ∙ so_far.held; carry = so_far.carry }) refl none o s
+
+-- ---- the value of the first entry that holds
+
+-- how far it is found: whether an entry held so far, the first that holds of all and of those that are left, and what was placed
+pub record FirstSoFar {P : Type 0} (on : ℕ → Bool) (earlier : Bool) (all rest : Option P) (now : List (Entry P)) : Type 0 where
+  pub held : some_holds on now ≡ earlier
+  pub carry : (v : P) → all ≡ Some v → Carry on v now
+  pub found : earlier ≡ true → all ≡ None → ⊥
+  pub left : earlier ≡ false → rest ≡ all
+
+pub first_start : {P : Type 0} (on : ℕ → Bool) (all : Option P) (now : List (Entry P)) → some_holds on now ≡ false → FirstSoFar on false all all now
+first_start on all now none = record { held = none; carry = λ v is. none_carry on v now none; found = λ e n. cc; left = λ e. refl }
+
+pub first_step : {P : Type 0} (on : ℕ → Bool) (t earlier : Bool) (what : P) (all rest : Option P) (here : Condition) (now new : List (Entry P)) →
+    value on here ≡ (t && not earlier) → Places on here what now new → FirstSoFar on earlier all (if t then Some what else rest) now → FirstSoFar on (earlier || t) all rest new
+first_step on true true what all rest here now new is placed before = record {
+  held = placed.held ∙ ap (λ (b : Bool). b || value on here) before.held;
+  carry = λ v a. placed.carry v (before.carry v a) (never (value on here) is);
+  found = before.found;
+  left = λ e. cc;
+}
+first_step on false true what all rest here now new is placed before = record {
+  held = placed.held ∙ ap (λ (b : Bool). b || value on here) before.held;
+  carry = λ v a. placed.carry v (before.carry v a) (never (value on here) is);
+  found = before.found;
+  left = λ e. cc;
+}
+first_step {P} on true false what all rest here now new is placed before =
+    let here_first = before.left refl in
+    record {
+      held = placed.held ∙ ap (λ (b : Bool). b || value on here) before.held ∙ is;
+      carry = λ v a. placed.carry v (before.carry v a) (λ s. same_some what v (here_first ∙ a));
+      found = λ e n. some_none what (here_first ∙ n);
+      left = λ e. cc;
+    } where
+      same_some : (v w : P) → ◌≡◌ {A = Option P} (Some v) (Some w) → v ≡ w
+      same_some v w e = cc
+
+      some_none : (v : P) → ◌≡◌ {A = Option P} (Some v) None → ⊥
+      some_none v e = cc
+first_step on false false what all rest here now new is placed before = record {
+  held = placed.held ∙ ap (λ (b : Bool). b || value on here) before.held ∙ is;
+  carry = λ v a. placed.carry v (before.carry v a) (never (value on here) is);
+  found = λ e n. cc;
+  left = λ e. before.left refl;
+}
+
+pub first_end : {P : Type 0} (on : ℕ → Bool) (earlier : Bool) (all : Option P) (now : List (Entry P)) → FirstSoFar on earlier all None now → Sees on all now
+first_end on true None now so_far = absurd (so_far.found refl refl)
+first_end on false None now so_far = so_far.held
+first_end on true (Some v) now so_far = record { held = so_far.held; carry = so_far.carry v refl }
+first_end on false (Some v) now so_far = absurd (none_some v (so_far.left refl)) where
+  none_some : {P : Type 0} (v : P) → ◌≡◌ {A = Option P} None (Some v) → ⊥
+  none_some v e = cc
+
+pub first_value_step : {T P : Type 0} (form : T → P) (on : ℕ → Bool) (xs : List (Guarded T)) (x : Guarded T) (i : ℕ) (earlier after here : Condition) (what : P) (all : Option P) (now new : List (Entry P)) →
+    i < length xs → x ≡ get_or xs i x → value on after ≡ (value on earlier || value on (condition_of x.when)) → value on here ≡ (value on (condition_of x.when) && not (value on earlier)) → what ≡ form x.what →
+    Places on here what now new → FirstSoFar on (value on earlier) all (first (seen on (entries_of form (drop i xs)))) now →
+    FirstSoFar on (value on after) all (first (seen on (entries_of form (drop (i + 1) xs)))) new
+first_value_step form on xs x i earlier after here what all now new within is is_after is_here same placed before =
+    let e = first_at form on xs x i within is in
+    let before' = rw e at before in
+    let placed' = rw same at placed in
+    rw is_after (first_step on (value on (condition_of x.when)) (value on earlier) (form x.what) all (first (seen on (entries_of form (drop (i + 1) xs)))) here now new is_here placed' before')

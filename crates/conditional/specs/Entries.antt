@@ -39,6 +39,11 @@ abbrev pub first : {P : Type 0} → List P → Option P
 first [] = None
 first (what ∷ rest) = Some what
 
+-- one value, or another where there is none
+abbrev pub or_later : {P : Type 0} → Option P → Option P → Option P
+or_later None later = later
+or_later (Some what) later = Some what
+
 -- ---- values
 
 -- some entry holds

@@ -8,6 +8,7 @@ mod judging;
 mod lists;
 mod outcomes;
 mod plain;
+mod tokens;
 mod values;
 
 pub use crossing::crossed;

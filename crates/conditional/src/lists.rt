@@ -2,11 +2,12 @@
 
 ghost use Rattle.std.specs.Prelude.{◌≡◌, ℕ, Bool, List, [], ◌∷◌, ◌++◌, map, if◌then◌else◌, IsTrue, IfOk};
 ghost use Rattle.cond_formula.specs.Features.{has};
-ghost use Rattle.cond_formula.specs.Conditions.{condition_of, value};
-ghost use Rattle.conditional.specs.Entries.{listed, seen, under, Maps};
+ghost use Rattle.cond_formula.specs.Conditions.{condition_of, value, IsDisjunction};
+ghost use Rattle.conditional.specs.Entries.{listed, alternatives, seen, under, first, or_later, Sees, Maps};
 
 use crate::entries::{Guarded, both};
 use crate::plain::{Function, Plain};
+use crate::values::CondValue;
 use cond_formula::{Formula, May, NoMemory, Oracle};
 use std::alloc::Global;
 
@@ -32,6 +33,39 @@ impl<T: Plain> CondList<T> {
     {
         self.entries.push(Guarded { when, what })?;
         Ok(())
+    }
+
+    /// One more entry at the end of a list of which the first entry that holds counts: it counts where no other holds. It is
+    /// joined with the last one, if that carries an equal value.
+    pub fn push_otherwise(&mut self, alloc: Global, when: Formula, what: T) -> Result<(), NoMemory>
+        ensures { IfOk result (λ _. (on : ℕ → Bool) → first (seen on (listed T.form self.new)) ≡ or_later (first (seen on (listed T.form self.old))) (first (under (value on (condition_of when)) (T.form what ∷ [])))) }
+    {
+        let Some(last) = self.entries.pop() else {
+            self.push(when, what)?;
+            return Ok(());
+        };
+        if last.what.is_same(&what) {
+            self.entries.push(widened(alloc, last, when)?)?;
+            return Ok(());
+        }
+        self.entries.push(last)?;
+        self.push(when, what)?;
+        Ok(())
+    }
+
+    /// The value of the first entry that holds.
+    pub fn first_value(&self, alloc: Global) -> Result<CondValue<T>, NoMemory>
+        ensures { IfOk result (λ x. (on : ℕ → Bool) → Sees on (first (seen on (listed T.form self.now))) (alternatives T.form x)) }
+    {
+        let mut all = CondValue::nothing(alloc);
+        let mut earlier = Formula::False;
+        for entry in &self.entries {
+            let elsewhere = Formula::not(alloc, earlier.try_clone(alloc)?)?;
+            let here = Formula::and(alloc, entry.when.try_clone(alloc)?, elsewhere)?;
+            all.place(alloc, here, entry.what.try_clone(alloc)?)?;
+            earlier = Formula::or(alloc, earlier, entry.when.try_clone(alloc)?)?;
+        }
+        Ok(all)
     }
 
     /// This list, and then the other.
@@ -128,4 +162,18 @@ impl<T: Plain> CondList<T> {
         self.push(entry.when.try_clone(alloc)?, entry.what.try_clone(alloc)?)?;
         Ok(())
     }
+}
+
+// The entry holds under this condition too.
+fn widened<T: Plain>(
+    alloc: Global,
+    entry: Guarded<T>,
+    when: Formula,
+) -> Result<Guarded<T>, NoMemory>
+    ensures same { IfOk result (λ wider. wider.what ≡ entry.what) }
+    ensures wider { IfOk result (λ wider. IsDisjunction (condition_of entry.when) (condition_of when) (condition_of wider.when)) }
+{
+    let Guarded { when: before, what } = entry;
+    let either = Formula::or(alloc, before, when)?;
+    Ok(Guarded { when: either, what })
 }

@@ -5,7 +5,7 @@ use Rattle.std.proofs.lemmas.Bool.Decides.{nat_tests}
 use Rattle.c_text.specs.Token.{PlainToken}
 use Rattle.c_text.specs.Expressions.{Word, word_of, Expression, spelled, Fits, height, value, HasValue}
 use Rattle.pp_lines.specs.ExpressionReading.{read, at_start, trees, outcome_of, answer, evaluated}
-use Rattle.pp_lines.specs.Laws.{ValuesAreOne, ValuesAreDecided}
+use Rattle.pp_lines.specs.Laws.{ValuesAreOne, ValuesAreDecided, ValuesAreRead}
 use Rattle.pp_lines.specs.ExpressionView.{told}
 use Rattle.pp_lines.specs.declared.expressions.Value.{Value}
 use Rattle.pp_lines.specs.declared.expressions.Value.TheVariants.{Number, Refused}
@@ -89,3 +89,6 @@ tells_refusal tokens v e = (
   λ h z g. let n = refusal_told (evaluated tokens) (sym e ∙ h) in let s = value_had tokens z g in absurd cc,
   λ h. e ∙ ap told (not_valued (evaluated tokens) (λ z g. h z (has_value tokens z g))),
 )
+
+pub values_are_read : ValuesAreRead
+values_are_read tokens = record { number = tells_number tokens _ refl; refused = tells_refusal tokens _ refl }

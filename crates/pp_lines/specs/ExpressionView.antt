@@ -1,5 +1,5 @@
 -- What the reader of expressions holds, in the definitions' terms.
-use Rattle.std.specs.Prelude.{ℕ, ℤ, nat_le, List, [], ◌∷◌, map, reverse, if◌then◌else◌, Option, Some, None, option_map, Vec}
+use Rattle.std.specs.Prelude.{ℕ, ℤ, nat_le, List, [], ◌∷◌, map, reverse, if◌then◌else◌, Option, Some, None, option_map, option_and_then, Vec}
 use Rattle.std.specs.declared.alloc.Global.{Global}
 use Rattle.c_text.specs.Expressions as spec
 use Rattle.c_text.specs.declared.token.TokenKind.{TokenKind}
@@ -15,7 +15,7 @@ use Rattle.pp_lines.specs.declared.expressions.signs.Sign.{Sign}
 use Rattle.pp_lines.specs.declared.expressions.signs.Sign.TheVariants as signs
 use Rattle.pp_lines.specs.declared.expressions.reader.Pending.{Pending}
 use Rattle.pp_lines.specs.declared.expressions.reader.Pending.TheVariants as pendings
-use Rattle.pp_lines.specs.declared.expressions.reader.Reader.{Reader}
+use Rattle.pp_lines.specs.declared.expressions.reader.ExpressionReader.{ExpressionReader}
 
 abbrev pub unary_view : Unary → spec.Unary
 unary_view unaries.Plus = spec.unary_plus
@@ -63,7 +63,7 @@ pending_view (pendings.Parted a b) = reading.parted (outcome_view a) (outcome_vi
 abbrev pub waits_view : Vec Pending Global → List (reading.Pending reading.Outcome)
 waits_view waits = reverse (map pending_view waits.items)
 
-abbrev pub reader_view : Reader → reading.Place reading.Outcome
+abbrev pub reader_view : ExpressionReader → reading.Place reading.Outcome
 reader_view r = record { last = option_map outcome_view r.last; waits = waits_view r.waits }
 
 -- the value of a token as an operand, if it may stand as one
@@ -90,3 +90,7 @@ taker level (p ∷ ps) = if nat_le level (reading.pending_level p) then Some p e
 abbrev pub told : Option ℤ → Value
 told (Some z) = answers.Number z
 told None = answers.Refused
+
+-- what the reader makes of words from a place on, if any expression goes on like this
+abbrev pub read_on : Option (reading.Place reading.Outcome) → List spec.Word → Value
+read_on place words = told (reading.answer (option_and_then (λ p. reading.read reading.outcomes p words) place))

@@ -3,3 +3,4 @@ pub mod ParameterPlaces
 pub mod ExpressionReading
 pub mod ExpressionView
 pub mod Laws
+pub mod Values

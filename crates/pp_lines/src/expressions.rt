@@ -1,9 +1,9 @@
 //! The expressions of `#if` and `#elif` (6.10.1, 6.5), once macros are replaced.
-ghost use Rattle.std.specs.Prelude.{◌≡◌, ◌↔◌, ℤ, map, IfOk, option_map};
+ghost use Rattle.std.specs.Prelude.{◌≡◌, ◌↔◌, ℤ, [], map, Some, IfOk, option_map};
 ghost use Rattle.c_text.specs.Token.{plain_token};
 ghost use Rattle.c_text.specs.Expressions.{HasValue};
 ghost use Rattle.pp_lines.specs.ExpressionReading.{answer};
-ghost use Rattle.pp_lines.specs.ExpressionView.{outcome_view, told};
+ghost use Rattle.pp_lines.specs.ExpressionView.{outcome_view, reader_view, read_on, told};
 
 mod arithmetic;
 mod operands;
@@ -13,6 +13,7 @@ mod reader;
 mod signs;
 
 use crate::expressions::outcomes::{HIGHEST, Outcome};
+pub use crate::expressions::reader::ExpressionReader;
 use crate::expressions::reader::outcome_of;
 use c_text::Token;
 use cond_formula::NoMemory;
@@ -45,6 +46,15 @@ fn value_or_refusal(value: Option<i64>) -> Value
     match value {
         Some(number) => Value::Number(number),
         None => Value::Refused,
+    }
+}
+
+impl ExpressionReader {
+    /// The value of the expression that ends here, or its refusal.
+    pub fn value(self) -> Value
+        ensures { result ≡ read_on (Some (reader_view self)) [] }
+    {
+        value_or_refusal(value_of(self.end()))
     }
 }
 

@@ -13,6 +13,6 @@ mod parameters;
 mod words;
 
 pub use directives::directive;
-pub use expressions::{Value, evaluate};
+pub use expressions::{ExpressionReader, Value, evaluate};
 pub use forms::Directive;
-pub use laws::{values_are_decided, values_are_one};
+pub use laws::{values_are_decided, values_are_one, values_are_read};

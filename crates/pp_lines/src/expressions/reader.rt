@@ -1,5 +1,5 @@
 //! The reader of an expression's tokens. What waits for an operand stands on a stack of its own.
-ghost use Rattle.std.specs.Prelude.{◌≡◌, ◌∷◌, map, reverse, option_map, IfOk};
+ghost use Rattle.std.specs.Prelude.{◌≡◌, ◌∷◌, map, reverse, option_map, IfOk, IsTrue};
 ghost use Rattle.c_text.specs.Token.{plain_token};
 ghost use Rattle.c_text.specs.Expressions.{Word, word_of};
 ghost use Rattle.pp_lines.specs.ExpressionReading as reading;
@@ -53,11 +53,12 @@ impl Pending {
     }
 }
 
-/// The operand before the place, if one stands there, and what waits, the innermost last.
+/// An expression that is read token by token: the operand before the place, if one stands there, and what waits, the innermost
+/// last.
 #[derive(Drop)]
-pub struct Reader {
-    pub last: Option<Outcome>,
-    pub waits: Vec<Pending>,
+pub struct ExpressionReader {
+    pub(crate) last: Option<Outcome>,
+    pub(crate) waits: Vec<Pending>,
 }
 
 /// The innermost that waits, if it takes the operand before a sign of this level.
@@ -73,24 +74,24 @@ fn taker(level: u32, waits: &[Pending]) -> Option<Pending>
 }
 
 /// An operand, once all that holds it this tightly has taken it.
-fn settled(level: u32, mut last: Outcome, mut waits: Vec<Pending>) -> Reader
+fn settled(level: u32, mut last: Outcome, mut waits: Vec<Pending>) -> ExpressionReader
     ensures { reader_view result ≡ reading.settled outcomes level (outcome_view last) (waits_view waits) }
 {
     while let Some(pending) = taker(level, waits.as_slice()) {
         waits.pop();
         last = pending.completed(last);
     }
-    Reader {
+    ExpressionReader {
         last: Some(last),
         waits,
     }
 }
 
-fn wanting(pending: Pending, mut waits: Vec<Pending>) -> Result<Option<Reader>, NoMemory>
+fn wanting(pending: Pending, mut waits: Vec<Pending>) -> Result<Option<ExpressionReader>, NoMemory>
     ensures { IfOk result (λ r. option_map reader_view r ≡ reading.wanting (pending_view pending ∷ waits_view waits)) }
 {
     waits.push(pending)?;
-    Ok(Some(Reader { last: None, waits }))
+    Ok(Some(ExpressionReader { last: None, waits }))
 }
 
 /// What begins to wait at a punctuator that stands where an operand is wanted.
@@ -104,7 +105,7 @@ fn opening(text: &[u8]) -> Option<Pending>
     Some(Pending::Prefixed(operator))
 }
 
-fn at_mark(text: &[u8], waits: Vec<Pending>) -> Result<Option<Reader>, NoMemory>
+fn at_mark(text: &[u8], waits: Vec<Pending>) -> Result<Option<ExpressionReader>, NoMemory>
     ensures { (word : Word) → IfOk result (λ r. option_map reader_view r ≡ reading.at_front outcomes (reading.front_mark text.now) word (waits_view waits)) }
 {
     match opening(text) {
@@ -113,11 +114,11 @@ fn at_mark(text: &[u8], waits: Vec<Pending>) -> Result<Option<Reader>, NoMemory>
     }
 }
 
-fn with_value(value: Option<i64>, waits: Vec<Pending>) -> Option<Reader>
+fn with_value(value: Option<i64>, waits: Vec<Pending>) -> Option<ExpressionReader>
     ensures { option_map reader_view result ≡ with_value value (waits_view waits) }
 {
     match value {
-        Some(value) => Some(Reader {
+        Some(value) => Some(ExpressionReader {
             last: Some(Outcome::of_operand(value)),
             waits,
         }),
@@ -125,7 +126,11 @@ fn with_value(value: Option<i64>, waits: Vec<Pending>) -> Option<Reader>
     }
 }
 
-fn at_front(alloc: Global, token: &Token, waits: Vec<Pending>) -> Result<Option<Reader>, NoMemory>
+fn at_front(
+    alloc: Global,
+    token: &Token,
+    waits: Vec<Pending>,
+) -> Result<Option<ExpressionReader>, NoMemory>
     ensures { IfOk result (λ r. option_map reader_view r ≡ reading.at_front outcomes (reading.front_of token.now.kind token.now.text.items) (word_of (plain_token token.now)) (waits_view waits)) }
 {
     match token.kind {
@@ -137,7 +142,7 @@ fn at_front(alloc: Global, token: &Token, waits: Vec<Pending>) -> Result<Option<
     }
 }
 
-fn at_colon(last: Outcome, mut waits: Vec<Pending>) -> Result<Option<Reader>, NoMemory>
+fn at_colon(last: Outcome, mut waits: Vec<Pending>) -> Result<Option<ExpressionReader>, NoMemory>
     ensures { IfOk result (λ r. option_map reader_view r ≡ reading.at_colon (outcome_view last) (waits_view waits)) }
 {
     match waits.pop() {
@@ -146,11 +151,11 @@ fn at_colon(last: Outcome, mut waits: Vec<Pending>) -> Result<Option<Reader>, No
     }
 }
 
-fn at_close(last: Outcome, mut waits: Vec<Pending>) -> Option<Reader>
+fn at_close(last: Outcome, mut waits: Vec<Pending>) -> Option<ExpressionReader>
     ensures { option_map reader_view result ≡ reading.at_close outcomes (outcome_view last) (waits_view waits) }
 {
     match waits.pop() {
-        Some(Pending::Opened) => Some(Reader {
+        Some(Pending::Opened) => Some(ExpressionReader {
             last: Some(last.in_group()),
             waits,
         }),
@@ -158,7 +163,11 @@ fn at_close(last: Outcome, mut waits: Vec<Pending>) -> Option<Reader>
     }
 }
 
-fn with_sign(sign: Sign, last: Outcome, waits: Vec<Pending>) -> Result<Option<Reader>, NoMemory>
+fn with_sign(
+    sign: Sign,
+    last: Outcome,
+    waits: Vec<Pending>,
+) -> Result<Option<ExpressionReader>, NoMemory>
     ensures { IfOk result (λ r. option_map reader_view r ≡ reading.with_sign outcomes (sign_view sign) (outcome_view last) (waits_view waits)) }
 {
     match sign {
@@ -171,17 +180,17 @@ fn with_sign(sign: Sign, last: Outcome, waits: Vec<Pending>) -> Result<Option<Re
 }
 
 /// A sign behind what is settled.
-fn behind(sign: Sign, reader: Reader) -> Result<Option<Reader>, NoMemory>
+fn behind(sign: Sign, reader: ExpressionReader) -> Result<Option<ExpressionReader>, NoMemory>
     ensures { IfOk result (λ r. option_map reader_view r ≡ reading.behind outcomes (sign_view sign) (reader_view reader)) }
 {
-    let Reader { last, waits } = reader;
+    let ExpressionReader { last, waits } = reader;
     match last {
         Some(last) => with_sign(sign, last, waits),
         None => Ok(None),
     }
 }
 
-fn if_alone(reader: Reader) -> Option<Outcome>
+fn if_alone(reader: ExpressionReader) -> Option<Outcome>
     ensures { option_map outcome_view result ≡ reading.whole (reader_view reader) }
 {
     if reader.waits.is_empty() {
@@ -191,12 +200,78 @@ fn if_alone(reader: Reader) -> Option<Outcome>
     }
 }
 
-impl Reader {
+fn same_last(last: Option<Outcome>, other: Option<Outcome>) -> bool
+    ensures { IsTrue result → last ≡ other }
+{
+    last == other
+}
+
+fn same_unary(operator: Unary, other: Unary) -> bool
+    ensures { IsTrue result → operator ≡ other }
+{
+    operator == other
+}
+
+fn same_binary(operator: Binary, other: Binary) -> bool
+    ensures { IsTrue result → operator ≡ other }
+{
+    operator == other
+}
+
+fn same_pending(pending: Pending, other: Pending) -> bool
+    ensures { IsTrue result → pending ≡ other }
+{
+    match pending {
+        Pending::Opened => matches!(other, Pending::Opened),
+        Pending::Prefixed(operator) => match other {
+            Pending::Prefixed(another) => same_unary(operator, another),
+            _ => false,
+        },
+        Pending::Joined(left, operator) => match other {
+            Pending::Joined(first, another) => left == first && same_binary(operator, another),
+            _ => false,
+        },
+        Pending::Asked(test) => match other {
+            Pending::Asked(another) => test == another,
+            _ => false,
+        },
+        Pending::Parted(test, first) => match other {
+            Pending::Parted(another, second) => test == another && first == second,
+            _ => false,
+        },
+    }
+}
+
+fn same_waits(waits: &[Pending], others: &[Pending]) -> bool
+    ensures { IsTrue result → map pending_view waits.now ≡ map pending_view others.now }
+{
+    if waits.len() != others.len() {
+        return false;
+    }
+    for (i, pending) in waits.iter().enumerate() {
+        if !same_pending(*pending, others[i]) {
+            return false;
+        }
+    }
+    true
+}
+
+impl ExpressionReader {
+    /// Before the first token.
+    pub fn start(alloc: Global) -> ExpressionReader
+        ensures { reader_view result ≡ at_start }
+    {
+        ExpressionReader {
+            last: None,
+            waits: Vec::new(alloc),
+        }
+    }
+
     /// Takes one token more; none where no expression goes on like this.
-    fn take(self, alloc: Global, token: &Token) -> Result<Option<Reader>, NoMemory>
+    pub fn take(self, alloc: Global, token: &Token) -> Result<Option<ExpressionReader>, NoMemory>
         ensures { IfOk result (λ r. option_map reader_view r ≡ reading.next outcomes (reader_view self).last (reader_view self).waits (word_of (plain_token token.now))) }
     {
-        let Reader { last, waits } = self;
+        let ExpressionReader { last, waits } = self;
         match last {
             None => at_front(alloc, token, waits),
             Some(last) => {
@@ -207,14 +282,31 @@ impl Reader {
     }
 
     /// The outcome of the expression, if it ends here.
-    fn end(self) -> Option<Outcome>
+    pub(crate) fn end(self) -> Option<Outcome>
         ensures { option_map outcome_view result ≡ reading.finished outcomes (reader_view self).last (reader_view self).waits }
     {
-        let Reader { last, waits } = self;
+        let ExpressionReader { last, waits } = self;
         match last {
             None => None,
             Some(last) => if_alone(settled(1, last, waits)),
         }
+    }
+
+    /// The same place once more.
+    pub fn try_clone(&self, alloc: Global) -> Result<ExpressionReader, NoMemory>
+        ensures { IfOk result (λ r. reader_view r ≡ reader_view self.now) }
+    {
+        Ok(ExpressionReader {
+            last: self.last,
+            waits: Vec::from_slice(alloc, self.waits.as_slice())?,
+        })
+    }
+
+    /// Whether both are at the same place, so that they read alike whatever comes.
+    pub fn is_same(&self, other: &ExpressionReader) -> bool
+        ensures { IsTrue result → reader_view self.now ≡ reader_view other.now }
+    {
+        same_last(self.last, other.last) && same_waits(&self.waits, &other.waits)
     }
 }
 
@@ -222,10 +314,7 @@ impl Reader {
 pub fn outcome_of(alloc: Global, tokens: &[Token]) -> Result<Option<Outcome>, NoMemory>
     ensures { IfOk result (λ o. option_map outcome_view o ≡ reading.read outcomes at_start (map word_of (map plain_token tokens.now))) }
 {
-    let mut reader = Reader {
-        last: None,
-        waits: Vec::new(alloc),
-    };
+    let mut reader = ExpressionReader::start(alloc);
     for token in tokens {
         match reader.take(alloc, token)? {
             Some(next) => reader = next,

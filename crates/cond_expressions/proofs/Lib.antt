@@ -1,0 +1,4 @@
+pub mod SmallLaws
+pub mod Exclusion
+pub mod SeenLaws
+pub mod Readings

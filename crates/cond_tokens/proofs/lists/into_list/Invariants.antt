@@ -1,0 +1,8 @@
+use Rattle.std.proofs.Common.{◌≡◌, map}
+use Rattle.c_text.specs.Token.{plain_token}
+use Rattle.conditional.specs.Entries.{entry_of}
+use Rattle.cond_tokens.specs.Streams.{plain_entry}
+use Rattle.cond_tokens.proofs.lists.into_list.Given as goal
+
+abbrev pub invariant-loop-entry : goal.invariant-loop-entry
+invariant-loop-entry l = map (entry_of plain_token) l.entries.items ≡ map plain_entry l.yielded

@@ -1,0 +1,172 @@
+//! Expressions whose tokens stand under conditions.
+use c_text::{Origin, Place, Token, TokenKind};
+use cond_expressions::evaluate_all;
+use cond_formula::{Config, Formula, NoMemory, PlainOracle};
+use cond_tokens::CondToken;
+use pp_lines::Value;
+use std::alloc::{AllocError, Global};
+use text_edits::Span;
+
+const NOWHERE: Span = Span { start: 0, end: 0 };
+
+fn kind_of(text: &str) -> TokenKind {
+    let digits = text.bytes().all(|b| b.is_ascii_digit());
+    let letters = text.bytes().all(|b| b.is_ascii_alphabetic());
+    if digits {
+        TokenKind::Number
+    } else if letters {
+        TokenKind::Name
+    } else {
+        TokenKind::Punctuator
+    }
+}
+
+fn token(alloc: Global, text: &str, when: Formula) -> Result<CondToken, NoMemory> {
+    let token = Token {
+        kind: kind_of(text),
+        text: Vec::from_slice(alloc, text.as_bytes())?,
+        joined: false,
+        origin: Origin {
+            file: 0,
+            span: NOWHERE,
+            place: Place::Text,
+            site: NOWHERE,
+            site_file: 0,
+        },
+    };
+    Ok(CondToken { token, when })
+}
+
+/// The condition that is written so: `A`, `B`, `-A` or `-B`.
+fn condition(alloc: Global, text: &str) -> Result<Formula, NoMemory> {
+    match text {
+        "A" => Ok(Formula::Var(0)),
+        "B" => Ok(Formula::Var(1)),
+        "-A" => Formula::not(alloc, Formula::Var(0)),
+        "-B" => Formula::not(alloc, Formula::Var(1)),
+        _ => Ok(Formula::True),
+    }
+}
+
+/// The tokens of a line, with blanks between them and conditions behind an `@`.
+fn tokens(alloc: Global, line: &str) -> Result<Vec<CondToken>, NoMemory> {
+    let mut tokens = Vec::new(alloc);
+    for word in line.split(' ') {
+        match word.split_once('@') {
+            Some((text, when)) => tokens.push(token(alloc, text, condition(alloc, when)?)?)?,
+            None => tokens.push(token(alloc, word, Formula::True)?)?,
+        }
+    }
+    Ok(tokens)
+}
+
+fn value_at(values: &[(Formula, Value)], c: Config) -> Option<Value> {
+    for (when, value) in values {
+        if when.value(c) {
+            return Some(*value);
+        }
+    }
+    None
+}
+
+fn shown(alloc: Global, value: Option<Value>) -> Result<String, AllocError> {
+    match value {
+        Some(Value::Number(number)) => format!(in alloc; " {number}"),
+        Some(Value::Refused) => format!(in alloc; " refused"),
+        None => format!(in alloc; " nothing"),
+    }
+}
+
+fn show_expression<R: Print + AllocGlobal>(rt: &R, line: &str) -> anyhow::Result<()> {
+    let alloc: Global = rt.alloc();
+    let tokens = tokens(alloc, line)?;
+    let values = evaluate_all(alloc, &tokens, &mut PlainOracle)?;
+    let mut text = String::new(alloc);
+    for bits in 0u8..4 {
+        let here = value_at(&values, Config { bits: bits as u128 });
+        text.push_str(&shown(alloc, here)?)?;
+    }
+    println!(rt; "{line}:{text}")?;
+    Ok(())
+}
+
+const EXPRESSIONS: [&str; 8] = [
+    "1@A 2@-A == 1",
+    "1@A 0@-A && 1@B 0@-B",
+    "0@A 1@-A || 1 / 0@B 5@-B",
+    "1@A 0@-A && 1 / 0",
+    "1@A +@A 2",
+    "( 1@A 2@-A ) * 3 +@B 4@B",
+    "1@A ? 2 : 3@-B 3@B",
+    "x@A 7@-A",
+];
+
+pub fn show_expressions<R: Print + AllocGlobal>(rt: &R) -> anyhow::Result<()> {
+    for line in &EXPRESSIONS {
+        show_expression(rt, line)?;
+    }
+    Ok(())
+}
+
+/// The number of the formula's nodes.
+#[cycle(nodes)]
+fn nodes(f: &Formula) -> u64 {
+    match f {
+        Formula::Not(inner) => nodes(inner).saturating_add(1),
+        Formula::And(parts) | Formula::Or(parts) => nodes_of(parts),
+        _ => 1,
+    }
+}
+
+#[cycle(nodes)]
+fn nodes_of(parts: &[Formula]) -> u64 {
+    let mut count: u64 = 1;
+    for part in parts {
+        count = count.saturating_add(nodes(part));
+    }
+    count
+}
+
+/// `defined(F0) && defined(F1) && ..` for so many features, its tests replaced.
+fn chain(alloc: Global, features: u8) -> Result<Vec<CondToken>, NoMemory> {
+    let mut tokens = Vec::new(alloc);
+    for feature in 0..features {
+        if feature > 0 {
+            tokens.push(token(alloc, "&&", Formula::True)?)?;
+        }
+        let off = Formula::not(alloc, Formula::Var(feature))?;
+        tokens.push(token(alloc, "1", Formula::Var(feature))?)?;
+        tokens.push(token(alloc, "0", off)?)?;
+    }
+    Ok(tokens)
+}
+
+pub fn show_chain<R: Print + AllocGlobal>(rt: &R) -> anyhow::Result<()> {
+    let alloc: Global = rt.alloc();
+    let tokens = chain(alloc, 64)?;
+    let values = evaluate_all(alloc, &tokens, &mut PlainOracle)?;
+    let all = value_at(
+        &values,
+        Config {
+            bits: 18_446_744_073_709_551_615,
+        },
+    );
+    let most = value_at(
+        &values,
+        Config {
+            bits: 18_446_744_073_709_551_583,
+        },
+    );
+    let mut count: u64 = 0;
+    for (when, _) in &values {
+        count = count.saturating_add(nodes(when));
+    }
+    let is_small = count < 64 * 64 * 4;
+    let all = shown(alloc, all)?;
+    let most = shown(alloc, most)?;
+    println!(rt;
+        "a chain of 64:{all}{most}, {} alternatives, small: {is_small}",
+        values.len()
+    )?;
+    Ok(())
+}

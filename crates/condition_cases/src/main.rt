@@ -1,0 +1,21 @@
+//! Values, lists, judgements and expressions under conditions, each seen in the four configurations of two features: none,
+//! the first, the second, both.
+#![tactic(auto)]
+
+mod expressions;
+mod numbers;
+mod shown;
+mod values;
+
+fn run<R: Print + AllocGlobal>(rt: &R) -> anyhow::Result<()> {
+    values::show_values(rt)?;
+    values::show_lists(rt)?;
+    values::show_judgements(rt)?;
+    expressions::show_expressions(rt)?;
+    expressions::show_chain(rt)?;
+    Ok(())
+}
+
+fn main(rt: HostRuntime) -> anyhow::Result<()> {
+    run(&rt)
+}

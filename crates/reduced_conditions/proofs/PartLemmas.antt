@@ -1,0 +1,69 @@
+-- What one of several conditions says.
+use Rattle.std.proofs.Common.{◌≡◌, ℕ, zero, suc, ◌<◌, Bool, true, false, not, ◌&&◌, ◌||◌, List, [], ◌∷◌, length, get_or, map, IsTrue, refl, sym, ap, ◌∙◌, arith}
+use Rattle.cond_formula.specs.declared.formulas.Formula.{Formula}
+use Rattle.cond_formula.specs.Conditions.{condition_of, conditions_of, value, all_true, any_true}
+
+left_true : (a b : Bool) → IsTrue (a && b) → IsTrue a
+left_true true b h = refl
+left_true false b h = cc
+
+right_true : (a b : Bool) → IsTrue (a && b) → IsTrue b
+right_true true b h = h
+right_true false b h = cc
+
+or_left : (a b : Bool) → IsTrue a → IsTrue (a || b)
+or_left true b h = refl
+or_left false b h = cc
+
+or_right : (a b : Bool) → IsTrue b → IsTrue (a || b)
+or_right true b h = refl
+or_right false b h = h
+
+-- each part of a conjunction is true where it is
+pub part_of_all : (on : ℕ → Bool) (parts : List Formula) (i : ℕ) (part : Formula) → i < length parts → part ≡ get_or parts i part → IsTrue (all_true on (conditions_of parts)) → IsTrue (value on (condition_of part))
+part_of_all on [] i part within is all = absurd (omega arith)
+part_of_all on (x ∷ parts) zero part within is all = rw is (left_true (value on (condition_of x)) (all_true on (conditions_of parts)) all)
+part_of_all on (x ∷ parts) (suc i) part within is all = part_of_all on parts i part (omega arith) is (right_true (value on (condition_of x)) (all_true on (conditions_of parts)) all)
+
+-- a disjunction is true where one of its parts is
+pub part_of_some : (on : ℕ → Bool) (parts : List Formula) (i : ℕ) (part : Formula) → i < length parts → part ≡ get_or parts i part → IsTrue (value on (condition_of part)) → IsTrue (any_true on (conditions_of parts))
+part_of_some on [] i part within is one = absurd (omega arith)
+part_of_some on (x ∷ parts) zero part within is one = or_left (value on (condition_of x)) (any_true on (conditions_of parts)) (let one' = rw is at one in one')
+part_of_some on (x ∷ parts) (suc i) part within is one = or_right (value on (condition_of x)) (any_true on (conditions_of parts)) (part_of_some on parts i part (omega arith) is one)
+
+-- ---- two conditions of which one says what the other says
+
+pub implied_both : (a b : Bool) → (IsTrue b → IsTrue a) → b ≡ (a && b)
+implied_both a true h = sym (ap (λ (k : Bool). k && true) (h refl))
+implied_both true false h = refl
+implied_both false false h = refl
+
+pub implied_both_left : (a b : Bool) → (IsTrue a → IsTrue b) → a ≡ (a && b)
+implied_both_left true b h = sym (h refl)
+implied_both_left false b h = refl
+
+pub implied_either : (a b : Bool) → (IsTrue b → IsTrue a) → a ≡ (a || b)
+implied_either true b h = refl
+implied_either false true h = h refl
+implied_either false false h = refl
+
+pub implied_either_right : (a b : Bool) → (IsTrue a → IsTrue b) → b ≡ (a || b)
+implied_either_right true b h = h refl
+implied_either_right false b h = refl
+
+pub ruled_out : (a b : Bool) → (IsTrue a → b ≡ false) → false ≡ (a && b)
+ruled_out true b h = sym (h refl)
+ruled_out false b h = refl
+
+pub ruled_out_left : (a b : Bool) → (IsTrue b → a ≡ false) → false ≡ (a && b)
+ruled_out_left a true h = ap (λ (k : Bool). k && true) (sym (h refl))
+ruled_out_left true false h = refl
+ruled_out_left false false h = refl
+
+pub opposite_either : (a b : Bool) → a ≡ not b → true ≡ (a || b)
+opposite_either a true h = ap (λ (k : Bool). k || true) (sym h)
+opposite_either a false h = ap (λ (k : Bool). k || false) (sym h)
+
+pub not_opposite : (a b : Bool) → IsTrue a → a ≡ not b → b ≡ false
+not_opposite a true is h = sym is ∙ h
+not_opposite a false is h = refl

@@ -1,0 +1,10 @@
+//! Connectives that leave out what a part of a condition says already, so that conditions that are combined again and again
+//! stay small.
+#![tactic(auto)]
+
+mod connectives;
+mod parts;
+mod same;
+
+pub use connectives::{both, either, without};
+pub use same::{is_always, is_never, is_same};

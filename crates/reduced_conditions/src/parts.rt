@@ -1,0 +1,68 @@
+//! What the parts of a formula say of another.
+
+ghost use Rattle.std.specs.Prelude.{◌≡◌, ℕ, Bool, false, ◌&&◌, IsTrue};
+ghost use Rattle.cond_formula.specs.Conditions.{condition_of, conditions_of, value, all_true, any_true};
+
+use crate::same::{is_always, is_never, is_opposite, is_same};
+use cond_formula::Formula;
+
+fn has_part(parts: &[Formula], f: &Formula) -> bool
+    ensures all { IsTrue result → (on : ℕ → Bool) → IsTrue (all_true on (conditions_of parts.now)) → IsTrue (value on (condition_of f.now)) }
+    ensures some { IsTrue result → (on : ℕ → Bool) → IsTrue (value on (condition_of f.now)) → IsTrue (any_true on (conditions_of parts.now)) }
+{
+    for part in parts {
+        if is_same(part, f) {
+            return true;
+        }
+    }
+    false
+}
+
+fn has_opposite(parts: &[Formula], f: &Formula) -> bool
+    ensures { IsTrue result → (on : ℕ → Bool) → IsTrue (all_true on (conditions_of parts.now)) → value on (condition_of f.now) ≡ false }
+{
+    for part in parts {
+        if is_opposite(part, f) {
+            return true;
+        }
+    }
+    false
+}
+
+/// Whether the parts of the second formula show that the first is true wherever the second is.
+#[tactic(auto, using(cond_formula::specs::ConditionLaws::formula_kinds))]
+pub fn is_implied(a: &Formula, b: &Formula) -> bool
+    ensures { IsTrue result → (on : ℕ → Bool) → IsTrue (value on (condition_of b.now)) → IsTrue (value on (condition_of a.now)) }
+{
+    if is_always(a) || is_never(b) || is_same(a, b) {
+        return true;
+    }
+    if let Formula::And(parts) = b {
+        return has_part(parts, a);
+    }
+    if let Formula::Or(parts) = a {
+        return has_part(parts, b);
+    }
+    false
+}
+
+/// Whether the parts of the first formula show that the second is false wherever the first is true.
+#[tactic(auto, using(cond_formula::specs::ConditionLaws::formula_kinds))]
+fn rules_out(a: &Formula, b: &Formula) -> bool
+    ensures { IsTrue result → (on : ℕ → Bool) → IsTrue (value on (condition_of a.now)) → value on (condition_of b.now) ≡ false }
+{
+    if let Formula::And(parts) = a {
+        return has_opposite(parts, b);
+    }
+    is_opposite(a, b)
+}
+
+/// Whether the parts of the formulas show that they are nowhere both true.
+pub fn exclude_each_other(a: &Formula, b: &Formula) -> bool
+    ensures { IsTrue result → (on : ℕ → Bool) → (value on (condition_of a.now) && value on (condition_of b.now)) ≡ false }
+{
+    if rules_out(a, b) {
+        return true;
+    }
+    rules_out(b, a)
+}
