@@ -1,0 +1,4 @@
+pub mod MeaningLemmas
+pub mod ClashLemmas
+pub mod TableLemmas
+pub mod FeatureLemmas

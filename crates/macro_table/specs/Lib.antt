@@ -1,0 +1,3 @@
+pub mod PlainDefinitions
+pub mod MacroTables
+pub mod Features
