@@ -1,0 +1,4 @@
+pub mod ChoiceTrees
+pub mod ItemLaws
+pub mod Leaves
+pub mod SpellingLaws

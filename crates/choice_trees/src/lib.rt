@@ -1,0 +1,8 @@
+//! Syntax trees in which parts are alternatives under presence conditions, and the tree that each configuration sees.
+#![tactic(auto)]
+
+mod projecting;
+mod trees;
+
+pub use projecting::project;
+pub use trees::{Choice, Forest, Item};
