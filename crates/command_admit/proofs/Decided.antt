@@ -1,5 +1,5 @@
 -- One least configuration, and one thing that is said of it.
-use Rattle.std.proofs.Common.{◌≡◌, ◌⊎◌, inl, inr, ℕ, ◌<◌, ◌≤◌, Bool, true, false, List, [], ◌∷◌, length, refl, sym, ◌∙◌, ap, subst, arith, IsTrue, codes}
+use Rattle.std.proofs.Common.{◌≡◌, ◌⊎◌, inl, inr, ℕ, ◌<◌, ◌≤◌, Bool, true, false, List, [], ◌∷◌, length, refl, sym, ◌∙◌, ap, subst, arith, IsTrue}
 use Rattle.std.proofs.lemmas.Bool.{cases_lt}
 use mathlib.Core.Path.{fun_ext}
 use Rattle.text_edits.specs.Files.{PlainFile}
@@ -9,13 +9,13 @@ use Rattle.sat_core.specs.Models.{IsLess, AreSame, IsLeastModel, HasNoModel}
 use Rattle.project_file.specs.Projects.{PlainProject, names_on}
 use Rattle.project_file.specs.Faults.{Fault}
 use Rattle.project_file.specs.Laws.{Alike}
-use Rattle.command_promises.specs.Courses.{Saying, Deed, says, Agree, IsDecided}
+use Rattle.command_promises.specs.Courses.{Saying, says, Agree}
 use Rattle.command_promises.specs.Commands.{IsFit, IsDecidedCommand}
 use Rattle.command_promises.proofs.Leading.{one_saying}
 use Rattle.command_promises.proofs.Fitting.{tells_fits}
 use Rattle.command_projects.specs.Faults.{bad_project}
 use Rattle.command_projects.proofs.Decided.{ProjectLaws, project_decided, project_says}
-use Rattle.command_admit.specs.Admit.{Asks, admits, admits_nothing, OfProject, Does, admit}
+use Rattle.command_admit.specs.Admit.{Asks, admits, admits_nothing, OfProject, admit}
 
 apart : (a b : Bool) → a ≡ false → b ≡ true → a ≡ b → ⊥
 apart a b p q e = let f : ◌≡◌ {A = Bool} false true = sym p ∙ (e ∙ q) in absurd cc

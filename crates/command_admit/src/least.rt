@@ -1,8 +1,9 @@
-ghost use Rattle.std.specs.Prelude.{◌≡◌, ◌≤◌, ◌++◌, length, codes, map, IfOk, IsErrOf};
+ghost use Rattle.std.specs.Prelude.{◌≡◌, ◌≤◌, ◌++◌, length, codes, map, IfOk, IsErrOf, MatchOption};
 ghost use Rattle.std.specs.String.{string_bytes};
 ghost use Rattle.cond_formula.specs.Features.{has};
-ghost use Rattle.cond_formula.specs.Conditions.{VarsBelow};
-ghost use Rattle.sat_core.specs.Models.{IsLeastModel};
+ghost use Rattle.cond_formula.specs.Conditions.{Condition, VarsBelow};
+ghost use Rattle.sat_core.specs.Models.{IsLeastModel, HasNoModel};
+ghost use Rattle.verdict_query.specs.Verdicts.{where_admitted, IsVerdict};
 ghost use Rattle.feature_model.specs.ModelView.{admitted};
 ghost use Rattle.project_file.specs.Projects.{names_on};
 ghost use Rattle.project_file.specs.View.{project_view};
@@ -15,10 +16,10 @@ ghost use Rattle.command_admit.specs.Admit as spec;
 use crate::words::asked_project;
 use command_projects::without_project;
 use command_promises::{Said, Stop, usage};
-use cond_formula::Config;
+use cond_formula::{Config, Formula};
 use project_store::{Project, Store, read_project};
-use sat_core::{Answer, solve};
 use std::alloc::{AllocError, Global};
+use verdict_query::{Verdict, ask, equal_conditions_have_one_least_model, fewer_features_suffice};
 
 /// The names of the features that are on.
 fn names_on(alloc: Global, features: &[String], c: Config) -> Result<Vec<String>, AllocError>
@@ -56,23 +57,46 @@ fn admits(alloc: Global, project: &Project, c: Config) -> Result<Said, AllocErro
     Ok(said)
 }
 
-/// Finds the least configuration that the project admits.
+/// The configuration that is answered, if there is one.
+fn configuration_of(verdict: Verdict) -> Result<Option<Config>, AllocError>
+    ensures { (admitted condition : Condition) → IsVerdict admitted condition verdict
+        → IfOk result (λ found. MatchOption found (HasNoModel (where_admitted admitted condition)) (IsLeastModel 128 (where_admitted admitted condition))) }
+{
+    match verdict {
+        Verdict::Least(c) => Ok(Some(c)),
+        Verdict::Never(_) => Ok(None),
+        Verdict::Memory => Err(AllocError),
+    }
+}
+
+/// The least configuration that the project admits, if it admits one.
+fn least_admitted(alloc: Global, project: &Project) -> Result<Option<Config>, AllocError>
+    requires few { length project.now.features.items ≤ 128 }
+    requires below { VarsBelow (length project.now.features.items) (admitted project.now.model) }
+    ensures { IfOk result (λ found. MatchOption found (HasNoModel (admitted project.now.model)) (IsLeastModel (length project.now.features.items) (admitted project.now.model))) }
+{
+    fewer_features_suffice();
+    equal_conditions_have_one_least_model();
+    let verdict = ask(alloc, &project.model, &Formula::True);
+    let found = configuration_of(verdict)?;
+    Ok(found)
+}
+
+/// Says the least configuration that the project admits.
 fn least_of(alloc: Global, project: &Project) -> Result<Said, Stop>
     requires few { length project.now.features.items ≤ 128 }
     requires below { VarsBelow (length project.now.features.items) (admitted project.now.model) }
     ensures { SaysOrEnds (spec.OfProject (project_view project.now)) result }
 {
-    let features = project.features.len() as u8;
-    match solve(alloc, project.model.formula(), features) {
-        Answer::Sat(c) => {
+    match least_admitted(alloc, project)? {
+        Some(c) => {
             let said = admits(alloc, project, c)?;
             Ok(said)
         }
-        Answer::Unsat(_) => {
+        None => {
             let said = Said::tells(alloc, 0, "admits nothing\n")?;
             Ok(said)
         }
-        Answer::Memory => Err(Stop::WantOfMemory),
     }
 }
 

@@ -38,7 +38,7 @@ fn token(alloc: Global, text: &str, when: Formula) -> Result<CondToken, NoMemory
 }
 
 /// The condition that is written so: `A`, `B`, `-A` or `-B`.
-fn condition(alloc: Global, text: &str) -> Result<Formula, NoMemory> {
+pub(crate) fn condition(alloc: Global, text: &str) -> Result<Formula, NoMemory> {
     match text {
         "A" => Ok(Formula::Var(0)),
         "B" => Ok(Formula::Var(1)),
@@ -49,7 +49,7 @@ fn condition(alloc: Global, text: &str) -> Result<Formula, NoMemory> {
 }
 
 /// The tokens of a line, with blanks between them and conditions behind an `@`.
-fn tokens(alloc: Global, line: &str) -> Result<Vec<CondToken>, NoMemory> {
+pub(crate) fn tokens(alloc: Global, line: &str) -> Result<Vec<CondToken>, NoMemory> {
     let mut tokens = Vec::new(alloc);
     for word in line.split(' ') {
         match word.split_once('@') {
@@ -101,7 +101,7 @@ const EXPRESSIONS: [&str; 8] = [
     "x@A 7@-A",
 ];
 
-pub fn show_expressions<R: Print + AllocGlobal>(rt: &R) -> anyhow::Result<()> {
+pub(crate) fn show_expressions<R: Print + AllocGlobal>(rt: &R) -> anyhow::Result<()> {
     for line in &EXPRESSIONS {
         show_expression(rt, line)?;
     }
@@ -141,7 +141,7 @@ fn chain(alloc: Global, features: u8) -> Result<Vec<CondToken>, NoMemory> {
     Ok(tokens)
 }
 
-pub fn show_chain<R: Print + AllocGlobal>(rt: &R) -> anyhow::Result<()> {
+pub(crate) fn show_chain<R: Print + AllocGlobal>(rt: &R) -> anyhow::Result<()> {
     let alloc: Global = rt.alloc();
     let tokens = chain(alloc, 64)?;
     let values = evaluate_all(alloc, &tokens, &mut PlainOracle)?;

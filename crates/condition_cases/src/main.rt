@@ -1,11 +1,13 @@
-//! Values, lists, judgements and expressions under conditions, each seen in the four configurations of two features: none,
+//! Values, lists, judgements, expressions, macros and questions under conditions, each seen in the four configurations of two features: none,
 //! the first, the second, both.
 #![tactic(auto)]
 
 mod expressions;
 mod numbers;
+mod replacements;
 mod shown;
 mod values;
+mod verdicts;
 
 fn run<R: Print + AllocGlobal>(rt: &R) -> anyhow::Result<()> {
     values::show_values(rt)?;
@@ -13,6 +15,8 @@ fn run<R: Print + AllocGlobal>(rt: &R) -> anyhow::Result<()> {
     values::show_judgements(rt)?;
     expressions::show_expressions(rt)?;
     expressions::show_chain(rt)?;
+    replacements::show_replacements(rt)?;
+    verdicts::show_verdicts(rt)?;
     Ok(())
 }
 

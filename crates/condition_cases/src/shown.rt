@@ -22,7 +22,7 @@ fn seen(alloc: Global, entries: &[Guarded<Number>], c: Config) -> Result<String,
 }
 
 /// The values of the entries that hold, for each configuration.
-pub fn entries(alloc: Global, entries: &[Guarded<Number>]) -> Result<String, AllocError> {
+pub(crate) fn entries(alloc: Global, entries: &[Guarded<Number>]) -> Result<String, AllocError> {
     let mut text = String::new(alloc);
     for c in &CONFIGURATIONS {
         let values = seen(alloc, entries, *c)?;
@@ -31,16 +31,19 @@ pub fn entries(alloc: Global, entries: &[Guarded<Number>]) -> Result<String, All
     Ok(text)
 }
 
-pub fn value(alloc: Global, value: &CondValue<Number>) -> Result<String, AllocError> {
+pub(crate) fn value(alloc: Global, value: &CondValue<Number>) -> Result<String, AllocError> {
     entries(alloc, &value.alternatives)
 }
 
-pub fn list(alloc: Global, list: &CondList<Number>) -> Result<String, AllocError> {
+pub(crate) fn list(alloc: Global, list: &CondList<Number>) -> Result<String, AllocError> {
     entries(alloc, &list.entries)
 }
 
 /// In each configuration the first refusal, or else the values.
-pub fn outcomes(alloc: Global, all: &Outcomes<Number, Number>) -> Result<String, AllocError> {
+pub(crate) fn outcomes(
+    alloc: Global,
+    all: &Outcomes<Number, Number>,
+) -> Result<String, AllocError> {
     let mut text = String::new(alloc);
     for c in &CONFIGURATIONS {
         match first_refused(&all.refused, *c) {

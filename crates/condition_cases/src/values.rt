@@ -26,7 +26,7 @@ fn by_second(alloc: Global, on: u32, off: u32) -> Result<CondValue<Number>, NoMe
     CondValue::choose(alloc, &second(), &on, &off)
 }
 
-pub fn show_values<R: Print + AllocGlobal>(rt: &R) -> anyhow::Result<()> {
+pub(crate) fn show_values<R: Print + AllocGlobal>(rt: &R) -> anyhow::Result<()> {
     let alloc: Global = rt.alloc();
     let chosen = by_first(alloc, 7, 6)?;
     println!(rt; "chosen{}", shown::value(alloc, &chosen)?)?;
@@ -52,7 +52,7 @@ fn some_list(alloc: Global) -> Result<CondList<Number>, NoMemory> {
     Ok(list)
 }
 
-pub fn show_lists<R: Print + AllocGlobal>(rt: &R) -> anyhow::Result<()> {
+pub(crate) fn show_lists<R: Print + AllocGlobal>(rt: &R) -> anyhow::Result<()> {
     let alloc: Global = rt.alloc();
     let mut list = some_list(alloc)?;
     println!(rt; "list{}", shown::list(alloc, &list)?)?;
@@ -82,7 +82,7 @@ fn judgement(value: CondValue<Number>, alloc: Global) -> Outcomes<Number, Number
     }
 }
 
-pub fn show_judgements<R: Print + AllocGlobal>(rt: &R) -> anyhow::Result<()> {
+pub(crate) fn show_judgements<R: Print + AllocGlobal>(rt: &R) -> anyhow::Result<()> {
     let alloc: Global = rt.alloc();
     let halved = judged(alloc, &Halving, judgement(by_first(alloc, 7, 6)?, alloc))?;
     println!(rt; "judged{}", shown::outcomes(alloc, &halved)?)?;
