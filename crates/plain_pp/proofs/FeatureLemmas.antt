@@ -8,7 +8,7 @@ use Rattle.std.proofs.lemmas.List.{drop_more, drop_all}
 use Rattle.c_text.specs.Macros.{Table, Meaning, feature}
 use Rattle.c_text.specs.Preprocessing.{Reading, feature_token}
 use Rattle.project_file.specs.Projects.{names_from}
-use Rattle.plain_pp.specs.SourceFiles.{with_names, with_feature}
+use Rattle.plain_pp.specs.Features.{with_names, with_feature}
 
 abbrev on_token : Option Meaning
 on_token = Some (feature feature_token)

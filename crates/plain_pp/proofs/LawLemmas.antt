@@ -6,15 +6,18 @@ use Rattle.c_text.specs.Preprocessing.{Source, project_file, stdio, stdlib, Refu
 use Rattle.c_lexer.specs.Laws.{TextsHaveLines}
 use Rattle.pp_lines.specs.Laws.{ValuesAreDecided}
 use Rattle.plain_pp.specs.Laws.{ProjectsHaveSyntax}
-use Rattle.plain_pp.proofs.Parts.{part_of, lines-are_read}
+use Rattle.file_walks.specs.Laws.{LinesHaveParts}
 
-abbrev break_in : ℕ → ℕ → List PlainLine → Refusal
-break_in file length lines = record { kind = unbalanced; file = file; span = span_of_break length (lines-are_read lines) }
+module _ (have : TextsHaveLines) (parted : LinesHaveParts) (decided : ValuesAreDecided) (s : Sources) where
+  abbrev part_of : List PlainLine → Part
+  part_of lines = (parted lines).part
 
-is-file : (file length : ℕ) (lines : List PlainLine) → IsFile file length lines (part_of lines) (break_in file length lines)
-is-file file length lines = record { is_read = lines-are_read lines; broken_is = refl }
+  abbrev break_in : ℕ → ℕ → List PlainLine → Refusal
+  break_in file length lines = record { kind = unbalanced; file = file; span = span_of_break length (parted lines).is_read }
 
-module _ (have : TextsHaveLines) (decided : ValuesAreDecided) (s : Sources) where
+  is-file : (file length : ℕ) (lines : List PlainLine) → IsFile file length lines (part_of lines) (break_in file length lines)
+  is-file file length lines = record { is_read = (parted lines).is_read; broken_is = refl }
+
   abbrev lines_at : ℕ → List PlainLine
   lines_at number = (have number (file_at s number).bytes).0
 
@@ -46,5 +49,5 @@ module _ (have : TextsHaveLines) (decided : ValuesAreDecided) (s : Sources) wher
     stdlib_is = is-file built_in_file (length built_in_text) (drop 5 built_in);
   }
 
-pub syntax_of : TextsHaveLines → ValuesAreDecided → ProjectsHaveSyntax
-syntax_of have decided s = (the_syntax have decided s, is-syntax have decided s)
+pub syntax_of : TextsHaveLines → LinesHaveParts → ValuesAreDecided → ProjectsHaveSyntax
+syntax_of have parted decided s = (the_syntax have parted decided s, is-syntax have parted decided s)

@@ -1,15 +1,7 @@
-pub mod PathLemmas
 pub mod WalkLemmas
-pub mod SourceLemmas
-pub mod Forms
-pub mod Complete
-pub mod Sound
-pub mod Parts
 pub mod FileLemmas
 pub mod LawLemmas
 pub mod FeatureLemmas
 pub mod UnitLemmas
 pub mod ConditionLemmas
 pub mod TestLemmas
-pub mod Flows
-pub mod Spines

@@ -5,9 +5,9 @@ use Rattle.std.proofs.lemmas.List.Elements.{All-nil, All-cons, All-head, All-tai
 use Rattle.text_edits.specs.declared.files.SourceFile.{SourceFile}
 use Rattle.text_edits.specs.Files.{PlainFile, plain_file}
 use Rattle.c_text.specs.Preprocessing.{Reading, Flow, Sources, Syntax, IsSyntaxOf, outcome_of, refused, read_source, project_file, at_start, most_nested}
-use Rattle.plain_pp.specs.declared.refusals.PpError.{PpError}
-use Rattle.plain_pp.specs.declared.refusals.PpError.TheVariants.{Refused, Memory}
-use Rattle.plain_pp.specs.Refusals.{refusal_view}
+use Rattle.plain_pp.specs.declared.errors.PpError.{PpError}
+use Rattle.plain_pp.specs.declared.errors.PpError.TheVariants.{Refused, Memory}
+use Rattle.unit_files.specs.Refusals.{refusal_view}
 use Rattle.plain_pp.specs.Results.{Says}
 use Rattle.plain_pp.specs.Units.{WhyNone}
 

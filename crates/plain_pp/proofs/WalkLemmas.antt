@@ -5,8 +5,8 @@ use Rattle.c_text.specs.Lines.{PlainLine}
 use Rattle.c_text.specs.Trees.{role_of}
 use Rattle.c_text.specs.Preprocessing.{Reading, Flow, Setting, on, then_read, read_run}
 use Rattle.std.specs.Prelude.{if◌then◌else◌, Some}
-use Rattle.plain_pp.specs.Walk.{Walk, Open, by_role, step, text_read}
-use Rattle.plain_pp.specs.Nests.{Nest, behind, behind_role}
+use Rattle.file_walks.specs.Walk.{Walk, Open, by_role, step, text_read}
+use Rattle.file_walks.specs.Nests.{Nest, behind, behind_role}
 
 pub step-directive : (s : Setting) (w v : Walk) (line : PlainLine) (next : Walk → Flow) → line.directive ≡ true → read_run w.reading w.run ≡ on v.reading → v.run ≡ [] → v.groups ≡ w.groups → by_role s (role_of line.tokens) v line next ≡ step s w line next
 step-directive s w v line next directive flushed empty groups =

@@ -1,13 +1,9 @@
-pub mod Refusals
 pub mod Results
 pub mod Tests
 pub mod Values
-pub mod Inclusions
-pub mod Walk
 pub mod Groups
-pub mod Nests
 pub mod Readings
 pub mod Walking
 pub mod Units
 pub mod Laws
-pub mod SourceFiles
+pub mod Features

@@ -1,5 +1,5 @@
 -- Where a reading stands, and what a call makes of it.
-use Rattle.std.specs.Prelude.{◌≡◌, ◌<◌, ℕ, true, ⊤, List, map, length, Option, Some, None, Result, Ok, Err, is_some, option_map}
+use Rattle.std.specs.Prelude.{◌≡◌, ℕ, true, List, map, length, Option, Some, None, Result, Ok, Err, is_some, option_map}
 use Rattle.std.specs.List.{list_any}
 use Rattle.std.specs.Str.{bytes_eq}
 use Rattle.std.specs.String.{string_bytes}
@@ -7,12 +7,11 @@ use Rattle.c_text.specs.Token.{plain_token}
 use Rattle.c_text.specs.Preprocessing as spec
 use Rattle.c_text.specs.Preprocessing.{Flow, on, refused, Setting}
 use Rattle.plain_macros.specs.PlainTables.{table_of}
-use Rattle.plain_pp.specs.declared.inclusions.Source.{Source}
-use Rattle.plain_pp.specs.declared.inclusions.Source.TheVariants.{ProjectFile, Stdio, Stdlib}
+use Rattle.unit_files.specs.declared.inclusions.Source.{Source}
 use Rattle.plain_pp.specs.declared.readings.Reading.{Reading}
-use Rattle.plain_pp.specs.declared.refusals.PpError.{PpError}
+use Rattle.plain_pp.specs.declared.errors.PpError.{PpError}
 use Rattle.plain_pp.specs.declared.directives.Surroundings.{Surroundings}
-use Rattle.plain_pp.specs.Inclusions.{plain_source}
+use Rattle.unit_files.specs.Inclusions.{plain_source, IsAmong}
 use Rattle.plain_pp.specs.Results.{Says}
 use Rattle.plain_pp.specs.Values.{AreValues}
 
@@ -42,12 +41,6 @@ pub record IsSettingOf (place : Surroundings) (s : Setting) : Type 0 where
   pub headers : s.headers ≡ map string_bytes place.headers.now
   pub name : s.name ≡ place.name.now
   pub deeper : is_some s.deeper ≡ place.may_include
-
--- whether a file stands among so many headers, or is built in
-abbrev pub IsAmong : ℕ → Source → Type 0
-IsAmong count (ProjectFile number) = number < count
-IsAmong count Stdio = ⊤
-IsAmong count Stdlib = ⊤
 
 -- the file may be read from a file with this place
 pub record MayEnter (place : Surroundings) (source : Source) : Type 0 where

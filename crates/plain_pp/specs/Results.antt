@@ -2,9 +2,9 @@
 use Rattle.std.specs.Prelude.{◌≡◌, Bool, Result, Ok, Err, ⊤}
 use Rattle.c_text.specs.Preprocessing as spec
 use Rattle.c_text.specs.Preprocessing.{Condition, holds, fails, Flow, on, Reading}
-use Rattle.plain_pp.specs.declared.refusals.PpError.{PpError}
-use Rattle.plain_pp.specs.declared.refusals.PpError.TheVariants.{Refused, Memory}
-use Rattle.plain_pp.specs.Refusals.{refusal_view}
+use Rattle.plain_pp.specs.declared.errors.PpError.{PpError}
+use Rattle.plain_pp.specs.declared.errors.PpError.TheVariants.{Refused, Memory}
+use Rattle.unit_files.specs.Refusals.{refusal_view}
 
 -- the error is a refusal with this property, or want of memory
 abbrev pub Says : PpError → (spec.Refusal → Type 0) → Type 0

@@ -3,11 +3,7 @@ use Rattle.std.specs.Prelude.{List, ◌++◌, map, Option, Some, None}
 use Rattle.c_text.specs.Token.{PlainToken, plain_token}
 use Rattle.c_text.specs.Macros.{Table}
 use Rattle.c_text.specs.Preprocessing as spec
-use Rattle.plain_pp.specs.declared.defined.Test.{Test}
 use Rattle.plain_pp.specs.declared.defined.Tested.{Tested}
-
-abbrev pub plain_test : Test → spec.Test
-plain_test t = record { name = plain_token t.name.now; length = t.length }
 
 -- tokens before others, if there are any
 abbrev pub with_tokens : List PlainToken → Option (List PlainToken) → Option (List PlainToken)

@@ -3,9 +3,9 @@ use Rattle.std.specs.Prelude.{ℕ, ◌+◌, Bool, List, length, ⊤}
 use Rattle.text_edits.specs.Files.{PlainFile}
 use Rattle.c_text.specs.Preprocessing.{Sources, is_refused, IsPreprocessed}
 use Rattle.project_file.specs.Projects.{PlainProject, names_on}
-use Rattle.plain_pp.specs.declared.refusals.PpError.{PpError}
-use Rattle.plain_pp.specs.declared.refusals.PpError.TheVariants.{Refused, Memory}
-use Rattle.plain_pp.specs.Refusals.{refusal_view}
+use Rattle.plain_pp.specs.declared.errors.PpError.{PpError}
+use Rattle.plain_pp.specs.declared.errors.PpError.TheVariants.{Refused, Memory}
+use Rattle.unit_files.specs.Refusals.{refusal_view}
 
 -- a project's files, headers first, and its features with those that are on
 abbrev pub sources_of : PlainProject → List PlainFile → (ℕ → Bool) → Sources

@@ -1,28 +1,17 @@
 -- What the calls of a walk make of it.
-use Rattle.std.specs.Prelude.{◌≡◌, ℕ, Bool, true, false, map, Option, option_map, Result, Ok, Err}
+use Rattle.std.specs.Prelude.{◌≡◌, Bool, true, false, map, Option, option_map, Result, Ok, Err}
 use Rattle.c_text.specs.Token.{plain_token}
-use Rattle.c_text.specs.Lines.{PlainLine}
-use Rattle.c_text.specs.Trees as trees
 use Rattle.c_text.specs.Preprocessing as spec
 use Rattle.c_text.specs.Preprocessing.{Flow, refused, then_read, Setting, unbalanced, span_of_hash}
 use Rattle.plain_pp.specs.declared.groups.Level.{Level}
 use Rattle.plain_pp.specs.declared.groups.Level.TheVariants.{Reads, Waits}
-use Rattle.plain_pp.specs.declared.inclusions.Source.{Source}
-use Rattle.plain_pp.specs.declared.refusals.PpError.{PpError}
-use Rattle.plain_pp.specs.declared.roles.Role.{Role}
-use Rattle.plain_pp.specs.declared.roles.Role.TheVariants.{Begins, BeginsBranch, BeginsLast, Closes, StandsAlone}
+use Rattle.unit_files.specs.declared.inclusions.Source.{Source}
+use Rattle.plain_pp.specs.declared.errors.PpError.{PpError}
 use Rattle.plain_pp.specs.declared.walk.Walker.{Walker}
-use Rattle.plain_pp.specs.Inclusions.{plain_source}
+use Rattle.unit_files.specs.Inclusions.{plain_source}
 use Rattle.plain_pp.specs.Results.{Says}
 use Rattle.plain_pp.specs.Readings.{entered}
-use Rattle.plain_pp.specs.Walk.{Walk}
-
-abbrev pub plain_role : Role → trees.Role
-plain_role Begins = trees.begins
-plain_role BeginsBranch = trees.begins_branch
-plain_role BeginsLast = trees.begins_last
-plain_role Closes = trees.closes
-plain_role StandsAlone = trees.stands_alone
+use Rattle.file_walks.specs.Walk.{Walk}
 
 -- what is done with a branch by its condition, where none was read before
 abbrev pub level_if : Bool → Level
@@ -31,14 +20,6 @@ level_if false = Waits
 
 abbrev pub plain_walk : spec.Reading → Walker → Walk
 plain_walk r w = record { reading = r; run = map (λ t. plain_token t.now) w.run.items; groups = w.groups }
-
--- the refusal where a file breaks at a line
-abbrev pub break_at : ℕ → PlainLine → spec.Refusal
-break_at file line = record { kind = unbalanced; file = file; span = span_of_hash line.tokens line.span }
-
--- the same at its end
-abbrev pub break_at_end : ℕ → ℕ → spec.Refusal
-break_at_end file length = record { kind = unbalanced; file = file; span = record { start = length; end = length } }
 
 -- the call goes on with this flow, or finds out why it is refused
 abbrev pub Steps : {X : Type 0} → Result X PpError → Flow → Flow → Type 0

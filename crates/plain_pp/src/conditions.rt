@@ -9,18 +9,20 @@ ghost use Rattle.c_text.specs.Preprocessing as spec;
 ghost use Rattle.plain_macros.specs.PlainTables.{table_of};
 ghost use Rattle.plain_macros.specs.PlainReplacements.{plain_replacement, outcome};
 ghost use Rattle.pp_lines.specs.PlainDirectives.{plain_directive};
-ghost use Rattle.plain_pp.specs.Refusals.{plain_refusal};
+ghost use Rattle.unit_files.specs.Refusals.{plain_refusal};
 ghost use Rattle.plain_pp.specs.Results.{Says, Decides};
 ghost use Rattle.plain_pp.specs.Values.{AreValues, number_in};
 
-use crate::bad_tokens::{behind, refused, refused_ignored, refused_token};
 use crate::defined::{is_defined, tests_replaced};
-use crate::refusals::{PpError, PpKind, Refusal, check, earlier, refusal_at};
+use crate::errors::{PpError, check, error_of};
 use c_text::{Line, Token};
 use cond_formula::NoMemory;
 use plain_macros::{Replacement, Table, replaced};
 use pp_lines::{Directive, Value, directive, evaluate};
 use std::alloc::Global;
+use unit_files::{
+    PpKind, Refusal, behind, earlier, refusal_at, refused, refused_ignored, refused_token,
+};
 
 /// What a call of this module answers where nothing else is refused.
 fn unless(found: Option<Refusal>, truth: bool) -> Result<bool, PpError>
@@ -36,7 +38,7 @@ fn by_value(hash: &Token, found: Option<Refusal>, value: Value) -> Result<bool, 
 {
     match value {
         Value::Number(number) => Ok(unless(found, number != 0)?),
-        Value::Refused => Err(refusal_at(PpKind::BadExpression, hash).error()),
+        Value::Refused => Err(error_of(refusal_at(PpKind::BadExpression, hash))),
     }
 }
 
@@ -65,7 +67,7 @@ fn of_replacement(
     match replacement {
         Replacement::Tokens(tokens) => Ok(of_tokens(alloc, hash, found, tokens.as_slice())?),
         Replacement::BadCall(name) => {
-            Err(earlier(found, refusal_at(PpKind::BadCall, &name)).error())
+            Err(error_of(earlier(found, refusal_at(PpKind::BadCall, &name))))
         }
     }
 }
@@ -102,7 +104,7 @@ fn expression(alloc: Global, table: &Table, hash: &Token, tokens: &[Token]) -> R
     let found = refused_token(tokens);
     match tests_replaced(alloc, table, tokens)? {
         Some(tested) => Ok(by_tests(alloc, table, hash, found, tested.as_slice())?),
-        None => Err(refusal_at(PpKind::BadExpression, hash).error()),
+        None => Err(error_of(refusal_at(PpKind::BadExpression, hash))),
     }
 }
 
@@ -137,7 +139,7 @@ fn line_condition(
         Directive::Ifdef(name) => Ok(defined_condition(table, true, &name, behind(tokens, 3))?),
         Directive::Ifndef(name) => Ok(defined_condition(table, false, &name, behind(tokens, 3))?),
         Directive::Else => Ok(unless(refused_ignored(behind(tokens, 2)), true)?),
-        _ => Err(refusal_at(PpKind::BadDirective, hash).error()),
+        _ => Err(error_of(refusal_at(PpKind::BadDirective, hash))),
     }
 }
 

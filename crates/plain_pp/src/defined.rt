@@ -5,20 +5,13 @@ ghost use Rattle.c_text.specs.Token.{PlainToken, plain_token};
 ghost use Rattle.c_text.specs.Macros;
 ghost use Rattle.c_text.specs.Preprocessing as spec;
 ghost use Rattle.plain_macros.specs.PlainTables.{table_of};
-ghost use Rattle.plain_pp.specs.Tests.{plain_test, with_tokens, tested_with};
+ghost use Rattle.plain_pp.specs.Tests.{with_tokens, tested_with};
 
-use crate::bad_tokens::{is_spelled, is_word};
 use c_text::{Token, TokenKind};
 use cond_formula::NoMemory;
 use plain_macros::Table;
 use std::alloc::Global;
-
-/// A test, and how many tokens it has behind `defined`.
-#[derive(Clone, Copy)]
-pub struct Test<'a> {
-    pub name: &'a Token,
-    pub length: usize,
-}
+use unit_files::{is_spelled, test_behind};
 
 /// Tokens of an expression up to a place.
 #[derive(Drop)]
@@ -26,29 +19,6 @@ pub struct Tested {
     pub tokens: Vec<Token>,
     /// How many tokens from there on belong to a test.
     pub more: usize,
-}
-
-fn test_of(name: &Token, length: usize) -> Option<Test<'_>>
-    ensures { option_map plain_test result ≡ spec.test_of (plain_token name.now) length }
-{
-    if is_word(name) {
-        Some(Test { name, length })
-    } else {
-        None
-    }
-}
-
-/// The test behind a `defined`.
-fn test_behind(tokens: &[Token]) -> Option<Test<'_>>
-    ensures { option_map plain_test result ≡ spec.test_at (map plain_token tokens.now) }
-{
-    match tokens {
-        [] => None,
-        [first, name, last, ..] if is_spelled(b"(", first) && is_spelled(b")", last) => {
-            test_of(name, 3)
-        }
-        [name, ..] => test_of(name, 1),
-    }
 }
 
 /// Whether the name stands for something.

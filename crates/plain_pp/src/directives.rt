@@ -11,19 +11,20 @@ ghost use Rattle.c_text.specs.Preprocessing.{on, refused, unless, redefined};
 ghost use Rattle.plain_macros.specs.PlainMeanings.{plain_meaning};
 ghost use Rattle.plain_macros.specs.PlainTables.{table_of};
 ghost use Rattle.pp_lines.specs.PlainDirectives.{plain_directive};
-ghost use Rattle.plain_pp.specs.Inclusions.{plain_source};
-ghost use Rattle.plain_pp.specs.Refusals.{plain_refusal};
+ghost use Rattle.unit_files.specs.Inclusions.{plain_source};
+ghost use Rattle.unit_files.specs.Refusals.{plain_refusal};
 ghost use Rattle.plain_pp.specs.Results.{Says};
 ghost use Rattle.plain_pp.specs.Readings.{plain_reading, Follows, Directs, IsSettingOf, MayEnter};
 
-use crate::bad_tokens::{behind, refused_ignored, refused_token};
-use crate::inclusions::{Source, source_of};
+use crate::errors::{PpError, check, error_of};
 use crate::readings::Reading;
-use crate::refusals::{PpError, PpKind, Refusal, check, refusal_at};
 use c_text::{Line, Macro, Token};
 use plain_macros::Meaning;
 use pp_lines::{Directive, directive};
 use std::alloc::Global;
+use unit_files::{
+    PpKind, Refusal, Source, behind, refusal_at, refused_ignored, refused_token, source_of,
+};
 
 /// What the reading of a file stands on.
 #[derive(Clone, Copy)]
@@ -79,7 +80,7 @@ fn redefine(
             check(found)?;
             Ok(())
         }
-        Some(false) => Err(refusal_at(PpKind::BadMacro, hash).error()),
+        Some(false) => Err(error_of(refusal_at(PpKind::BadMacro, hash))),
     }
 }
 
@@ -101,7 +102,7 @@ fn define(
         (plain_reading reading.new) }
 {
     if is_feature(features, definition.name.as_slice()) {
-        return Err(refusal_at(PpKind::BadMacro, hash).error());
+        return Err(error_of(refusal_at(PpKind::BadMacro, hash)));
     }
     let name = Vec::from_slice(alloc, definition.name.as_slice())?;
     let meaning = Meaning::of(definition);
@@ -132,7 +133,7 @@ fn undefine(
         (plain_reading reading.new) }
 {
     if is_feature(features, name.text.as_slice()) {
-        return Err(refusal_at(PpKind::BadMacro, hash).error());
+        return Err(error_of(refusal_at(PpKind::BadMacro, hash)));
     }
     check(refused_ignored(behind(tokens, 3)))?;
     reading.undefine(name.text.as_slice());
@@ -152,10 +153,10 @@ fn include(
         → Directs result (spec.included s r (plain_token hash.now) (map plain_token names.now) s.deeper (spec.source_of s.headers s.name (map plain_token names.now))) s.deeper r }
 {
     let Some(source) = source_of(alloc, place.headers, place.name, names)? else {
-        return Err(refusal_at(PpKind::NoFile, hash).error());
+        return Err(error_of(refusal_at(PpKind::NoFile, hash)));
     };
     if !place.may_include {
-        return Err(refusal_at(PpKind::IncludeDepth, hash).error());
+        return Err(error_of(refusal_at(PpKind::IncludeDepth, hash)));
     }
     check(refused_token(names))?;
     Ok(Some(source))
@@ -185,10 +186,10 @@ fn directed(
             Ok(None)
         }
         Directive::Include(names) => Ok(include(alloc, place, hash, names.as_slice())?),
-        Directive::BadDefine => Err(refusal_at(PpKind::BadMacro, hash).error()),
-        Directive::Error => Err(refusal_at(PpKind::ErrorDirective, hash).error()),
+        Directive::BadDefine => Err(error_of(refusal_at(PpKind::BadMacro, hash))),
+        Directive::Error => Err(error_of(refusal_at(PpKind::ErrorDirective, hash))),
         Directive::Null => Ok(None),
-        _ => Err(refusal_at(PpKind::BadDirective, hash).error()),
+        _ => Err(error_of(refusal_at(PpKind::BadDirective, hash))),
     }
 }
 

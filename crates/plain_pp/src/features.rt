@@ -2,45 +2,21 @@
 ghost use Rattle.std.specs.Prelude.{◌≡◌, ℕ, map, IfOk, OnOk, if◌then◌else◌};
 ghost use Rattle.std.specs.String.{string_bytes};
 ghost use Rattle.cond_formula.specs.Features.{has};
-ghost use Rattle.c_text.specs.Token.{plain_token};
-ghost use Rattle.c_text.specs.Preprocessing as spec;
 ghost use Rattle.project_file.specs.Projects.{names_on};
 ghost use Rattle.plain_pp.specs.Readings.{plain_reading};
-ghost use Rattle.plain_pp.specs.SourceFiles.{with_feature, started};
+ghost use Rattle.plain_pp.specs.Features.{with_feature, started};
 
 use crate::readings::Reading;
-use crate::sources::built_in_length;
-use c_text::{BUILT_IN_FILE, Origin, Place, Token, TokenKind};
 use cond_formula::{Config, NoMemory};
 use plain_macros::Meaning;
 use std::alloc::Global;
-use text_edits::Span;
+use unit_files::feature_token;
 
 /// Whether the feature with this number is on: none but the first 128 is.
 fn is_on(c: Config, number: usize) -> bool
     ensures { result ≡ has c number }
 {
     number < 128 && c.has(number as u8)
-}
-
-/// The token that replaces a feature that is on. It stands at the end of the built-in file.
-fn feature_token(alloc: Global) -> Result<Token, NoMemory>
-    ensures { IfOk result (λ token. plain_token token ≡ spec.feature_token) }
-{
-    let end = built_in_length();
-    let span = Span { start: end, end };
-    Ok(Token {
-        kind: TokenKind::Number,
-        text: Vec::from_slice(alloc, b"1")?,
-        joined: false,
-        origin: Origin {
-            file: BUILT_IN_FILE,
-            span,
-            place: Place::MacroBody,
-            site: span,
-            site_file: BUILT_IN_FILE,
-        },
-    })
 }
 
 fn add_feature(alloc: Global, reading: &mut Reading, name: &[u8]) -> Result<(), NoMemory>

@@ -1,8 +1,8 @@
 //! The groups of conditional lines that are open.
 ghost use Rattle.std.specs.Prelude.{◌≡◌, [], ◌∷◌, OnOk, map, reverse, Some, None};
 ghost use Rattle.std.specs.Option.{option_map};
-ghost use Rattle.plain_pp.specs.Walk.{plain_group, are_read};
-ghost use Rattle.plain_pp.specs.Groups.{innermost, left};
+ghost use Rattle.plain_pp.specs.Groups.{plain_group, innermost, left};
+ghost use Rattle.file_walks.specs.Walk.{are_read};
 
 use cond_formula::NoMemory;
 use std::alloc::Global;
@@ -39,7 +39,8 @@ pub struct OpenGroups {
 
 impl Model for OpenGroups {
     ghost use Rattle.std.specs.Prelude.{List, map, reverse};
-    ghost use Rattle.plain_pp.specs.Walk.{Open, plain_group};
+    ghost use Rattle.file_walks.specs.Walk.{Open};
+    ghost use Rattle.plain_pp.specs.Groups.{plain_group};
 
     ghost Value = { List Open };
 

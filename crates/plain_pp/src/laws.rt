@@ -2,6 +2,7 @@
 ghost use Rattle.plain_pp.specs.Laws.{ProjectsHaveSyntax, OutcomesAreOne};
 
 use c_lexer::texts_have_lines;
+use file_walks::lines_have_parts;
 use pp_lines::values_are_decided;
 
 /// The law that the expressions and the files of each project can be read; the call does nothing.
@@ -9,6 +10,7 @@ pub fn projects_have_syntax()
     ensures { ProjectsHaveSyntax }
 {
     texts_have_lines();
+    lines_have_parts();
     values_are_decided();
 }
 

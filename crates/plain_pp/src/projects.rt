@@ -8,16 +8,15 @@ ghost use Rattle.project_file.specs.View.{project_view};
 ghost use Rattle.project_store.specs.Reads.{names_of};
 ghost use Rattle.plain_pp.specs.Units.{sources_of, file_of, WhyNone};
 
+use crate::errors::PpError;
 use crate::features::at_start;
-use crate::inclusions::Source;
-use crate::refusals::PpError;
-use crate::sources::Sources;
 use crate::units::read_source;
 use c_text::Token;
 use cond_formula::Config;
 use project_file::Project;
 use std::alloc::Global;
 use text_edits::Files;
+use unit_files::{Source, Sources};
 
 /// How deep files may be nested in a unit.
 const MOST_NESTED: u32 = 16;

@@ -2,18 +2,17 @@
 ghost use Rattle.std.specs.Prelude.{◌≡◌, ◌<◌, ◌≤◌, ◌^◌, ℕ, length, map, nat_lt, IfSome, option_map};
 ghost use Rattle.c_text.specs.Preprocessing as spec;
 ghost use Rattle.c_text.specs.Preprocessing.{IsSyntaxOf};
-ghost use Rattle.plain_pp.specs.Inclusions.{plain_source};
-ghost use Rattle.plain_pp.specs.Readings.{IsAmong, IsSettingOf, Follows, entered, plain_reading};
-ghost use Rattle.plain_pp.specs.SourceFiles.{AreSources, AreSmall, deeper_of};
+ghost use Rattle.unit_files.specs.Inclusions.{plain_source, IsAmong};
+ghost use Rattle.plain_pp.specs.Readings.{IsSettingOf, Follows, entered, plain_reading};
+ghost use Rattle.unit_files.specs.SourceFiles.{AreSources, AreSmall, deeper_of};
 
 use crate::directives::Surroundings;
-use crate::inclusions::Source;
+use crate::errors::PpError;
 use crate::readings::Reading;
-use crate::refusals::PpError;
-use crate::sources::{Sources, its_lines, number_of};
 use crate::walk::Walker;
-use c_lexer::{lex, lines_are_one};
+use c_lexer::lex;
 use std::alloc::Global;
+use unit_files::{Source, Sources, its_lines, number_of, sources_are_walked, sources_break};
 
 /// What the reading of a source stands on, where so many files more may be nested.
 fn place_of<'a>(sources: &Sources<'a>, source: Source, more: u32) -> Surroundings<'a>
@@ -65,7 +64,8 @@ pub fn read_source(
     ensures { (s : spec.Sources) (x : spec.Syntax) → AreSources sources.now s → IsSyntaxOf s x
         → Follows result (spec.read_source s x more (plain_source source) (plain_reading reading.old)) (plain_reading reading.new) }
 {
-    lines_are_one();
+    sources_are_walked();
+    sources_break();
     let text = sources.text_of(source);
     let file = number_of(source);
     let all = lex(alloc, file, text)?;

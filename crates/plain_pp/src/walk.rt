@@ -7,26 +7,28 @@ ghost use Rattle.c_text.specs.Macros;
 ghost use Rattle.c_text.specs.Preprocessing as spec;
 ghost use Rattle.c_text.specs.Preprocessing.{Flow, Setting};
 ghost use Rattle.plain_macros.specs.PlainReplacements.{plain_replacement, outcome};
-ghost use Rattle.plain_pp.specs.Refusals.{plain_refusal};
+ghost use Rattle.unit_files.specs.Refusals.{plain_refusal};
 ghost use Rattle.plain_pp.specs.Values.{AreValues};
 ghost use Rattle.plain_pp.specs.Readings.{plain_reading, Follows, IsSettingOf, MayEnter};
-ghost use Rattle.plain_pp.specs.Walk.{Walk, Open, open_at, group_read, branch_read, end_read, by_role, step, text_read, finished};
-ghost use Rattle.plain_pp.specs.Nests.{nest_of, behind, behind_role, behind_branch, behind_end};
-ghost use Rattle.plain_pp.specs.Walking.{level_if, plain_walk, break_at, break_at_end, Steps, Enters};
+ghost use Rattle.file_walks.specs.Walk.{Walk, Open, group_read, branch_read, end_read, by_role, step, text_read, finished};
+ghost use Rattle.plain_pp.specs.Groups.{open_at};
+ghost use Rattle.file_walks.specs.Nests.{nest_of, behind, behind_role, behind_branch, behind_end, break_at, break_at_end};
+ghost use Rattle.plain_pp.specs.Walking.{level_if, plain_walk, Steps, Enters};
 
-use crate::bad_tokens::{behind, refused_ignored, refused_in_run};
 use crate::conditions::condition_at;
 use crate::directives::{Surroundings, read_directive};
+use crate::errors::{PpError, check, error_of};
 use crate::groups::{Group, Level, OpenGroups};
-use crate::inclusions::Source;
 use crate::readings::Reading;
-use crate::refusals::{PpError, PpKind, Refusal, check, earlier, refusal_at};
-use crate::roles::{Role, role_of};
 use c_text::{FileToken, Line, Token};
 use cond_formula::NoMemory;
 use plain_macros::{Replacement, replaced};
 use std::alloc::Global;
 use text_edits::Span;
+use unit_files::{
+    PpKind, Refusal, Role, Source, behind, earlier, refusal_at, refused_ignored, refused_in_run,
+    role_of,
+};
 
 /// Where a walk over the lines of a file stands.
 #[derive(Drop)]
@@ -50,7 +52,7 @@ fn emit(reading: &mut Reading, run: &[&Token], replacement: Replacement) -> Resu
             Ok(())
         }
         Replacement::BadCall(name) => {
-            Err(earlier(found, refusal_at(PpKind::BadCall, &name)).error())
+            Err(error_of(earlier(found, refusal_at(PpKind::BadCall, &name))))
         }
     }
 }
@@ -214,7 +216,7 @@ impl<'a> Walker<'a> {
             Some(Group { level, last: false }) => {
                 Ok(self.turn(alloc, reading, line, level, last)?)
             }
-            _ => Err(misplaced(file, line).error()),
+            _ => Err(error_of(misplaced(file, line))),
         }
     }
 
@@ -226,7 +228,7 @@ impl<'a> Walker<'a> {
             → Steps result (end_read s (plain_walk r self.old) (plain_line line.now) self.old.groups next) (next (plain_walk r self.new)) }
     {
         match self.groups.innermost() {
-            None => return Err(misplaced(file, line).error()),
+            None => return Err(error_of(misplaced(file, line))),
             Some(
                 Group {
                     level: Level::Skipped,
@@ -306,7 +308,7 @@ impl<'a> Walker<'a> {
     {
         self.flush(alloc, reading)?;
         match self.groups.innermost() {
-            Some(_) => Err(open_at_end(file, length).error()),
+            Some(_) => Err(error_of(open_at_end(file, length))),
             None => Ok(()),
         }
     }

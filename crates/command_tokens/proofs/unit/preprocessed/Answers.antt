@@ -2,7 +2,7 @@ use Rattle.std.proofs.Common.{ap, inr, subst}
 use Rattle.text_edits.specs.Files.{plain_files}
 use Rattle.cond_formula.specs.Features.{has}
 use Rattle.project_file.specs.View.{project_view}
-use Rattle.plain_pp.specs.Refusals.{refusal_view}
+use Rattle.unit_files.specs.Refusals.{refusal_view}
 use Rattle.plain_pp.specs.Units.{sources_of, file_of, WhyNone}
 use Rattle.command_promises.specs.Courses.{says}
 use Rattle.command_tokens.proofs.unit.preprocessed.Goals as goal

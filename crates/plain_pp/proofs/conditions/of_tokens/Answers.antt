@@ -4,7 +4,7 @@ use Rattle.std.specs.Option.{option_map}
 use Rattle.c_text.specs.Token.{plain_token}
 use Rattle.c_text.specs.Preprocessing.{by_value}
 use Rattle.plain_pp.specs.Values.{number_in}
-use Rattle.plain_pp.specs.Refusals.{plain_refusal}
+use Rattle.unit_files.specs.Refusals.{plain_refusal}
 use Rattle.plain_pp.specs.Results.{Decides}
 use Rattle.plain_pp.proofs.ConditionLemmas.{value-is, number-is}
 use Rattle.plain_pp.proofs.conditions.of_tokens.Goals as goal

@@ -3,7 +3,7 @@ use Rattle.std.specs.Prelude.{if◌then◌else◌}
 use Rattle.std.specs.String.{string_bytes}
 use Rattle.cond_formula.specs.Features.{has}
 use Rattle.plain_pp.specs.Readings.{plain_reading}
-use Rattle.plain_pp.specs.SourceFiles.{with_feature}
+use Rattle.plain_pp.specs.Features.{with_feature}
 use Rattle.plain_pp.proofs.FeatureLemmas.{feature-next, feature-end}
 use Rattle.plain_pp.proofs.features.at_start.Goals as goal
 

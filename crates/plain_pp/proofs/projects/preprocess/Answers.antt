@@ -9,7 +9,8 @@ use Rattle.project_file.specs.View.{project_view, unit_view}
 use Rattle.project_file.specs.Projects.{names_on}
 use Rattle.plain_pp.specs.Readings.{plain_reading}
 use Rattle.plain_pp.specs.Units.{sources_of, file_of}
-use Rattle.plain_pp.specs.SourceFiles.{AreSources, started}
+use Rattle.unit_files.specs.SourceFiles.{AreSources}
+use Rattle.plain_pp.specs.Features.{started}
 use Rattle.plain_pp.proofs.UnitLemmas.{outcome-is, files-named, says-unit, all-short}
 use Rattle.plain_pp.proofs.projects.preprocess.Goals as goal
 

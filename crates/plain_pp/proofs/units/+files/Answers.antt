@@ -7,10 +7,10 @@ use Rattle.c_text.specs.Lines.{plain_line, AreItsLines}
 use Rattle.c_text.specs.declared.line.Line.{Line}
 use Rattle.c_text.specs.Preprocessing as spec
 use Rattle.c_text.specs.Preprocessing.{Flow, Setting}
-use Rattle.plain_pp.specs.declared.inclusions.Source.{Source}
-use Rattle.plain_pp.specs.Inclusions.{plain_source}
-use Rattle.plain_pp.specs.Readings.{plain_reading, Follows, entered, IsAmong}
-use Rattle.plain_pp.specs.SourceFiles.{deeper_of}
+use Rattle.unit_files.specs.declared.inclusions.Source.{Source}
+use Rattle.unit_files.specs.Inclusions.{plain_source, IsAmong}
+use Rattle.plain_pp.specs.Readings.{plain_reading, Follows, entered}
+use Rattle.unit_files.specs.SourceFiles.{deeper_of}
 use Rattle.plain_pp.specs.Walking.{plain_walk}
 use Rattle.plain_pp.proofs.FileLemmas.{starts-at, stands-at, stands-end, says-stops, says-inner, follows-err, walk-goes, walk-breaks, walk-ends, walk-end_breaks, deeper-read}
 use Rattle.plain_pp.proofs.units.+files.Goals as goal
@@ -28,7 +28,7 @@ read_source-loop-line-init t c =
     λ s x are syn.
     let files = c.args.sources.now.files.now in
     let there = subst (λ (n : ℕ). IsAmong n c.args.source) (sym (length-map files plain_file) ∙ ap (λ (fs : List PlainFile). length fs) (sym are.files)) c.requires.there in
-    starts-at c.lines_are_one.ensures s x syn c.args.source there c.args.more c.number_of-file.result c.text_of-text.result.now (map plain_line c.as_slice.result.now) (map plain_line c.its_lines-lines.result.now) (plain_reading c.args.reading.now) (plain_walk (plain_reading c.args.reading.now) c.new-walker.result) c.number_of-file.ensures (c.text_of-text.ensures.value s are) (subst (λ (ls : List Line). AreItsLines c.number_of-file.result c.text_of-text.result.now (map plain_line ls)) (sym c.as_slice.ensures.value) c.in_ok-all.ensures) c.its_lines-lines.ensures refl (ap (λ ts. map (λ t. plain_token t.now) ts) c.new-walker.ensures.run) c.new-walker.ensures.groups
+    starts-at c.sources_are_walked.ensures c.sources_break.ensures s x syn c.args.source there c.args.more c.number_of-file.result c.text_of-text.result.now (map plain_line c.as_slice.result.now) (map plain_line c.its_lines-lines.result.now) (plain_reading c.args.reading.now) (plain_walk (plain_reading c.args.reading.now) c.new-walker.result) c.number_of-file.ensures (c.text_of-text.ensures.value s are) (subst (λ (ls : List Line). AreItsLines c.number_of-file.result c.text_of-text.result.now (map plain_line ls)) (sym c.as_slice.ensures.value) c.in_ok-all.ensures) c.its_lines-lines.ensures refl (ap (λ ts. map (λ t. plain_token t.now) ts) c.new-walker.ensures.run) c.new-walker.ensures.groups
 
 pub read_source-returns-in_err-found : goal.read_source-returns-in_err-found
 read_source-returns-in_err-found t c =
@@ -53,7 +53,7 @@ read_source-returns-in_err-enter t c =
     let flow = spec.read_source s x c.args.more (plain_source c.args.source) (plain_reading c.args.reading.now) in
     let stands = stands-at plain_line st c.number_of-file.result (length c.text_of-text.result.now) w c.its_lines-lines.result.now c.loop-line.line-index c.line-item.result flow c.loop-line-test.true c.line-item.is (c.loop-line.invariant s x are syn) in
     let walked = c.in_ok-found.ensures.step st (c.place_of-place.ensures.setting s x are syn) (walk-breaks st c.number_of-file.result (length c.text_of-text.result.now) w line rest flow stands) in
-    let says = says-inner st c.number_of-file.result (length c.text_of-text.result.now) w v line rest flow (option_map plain_source c.in_ok-found.found) c.in_err-enter.field-0.0 stands c.in_ok-found.ensures.moved walked (c.in_err-enter.ensures s x are syn) in
+    let says = says-inner st c.number_of-file.result (length c.text_of-text.result.now) w v line rest flow (option_map plain_source c.in_ok-found.found) c.in_err-enter.field-0.0 stands walked (c.in_err-enter.ensures s x are syn) in
     follows-err c.from_residual-in_err-enter.result c.in_err-enter.field-0.0 flow (plain_reading c.enter.new.reading) c.from_residual-in_err-enter.ensures.1 says
 
 pub read_source-loop-line-preserved : goal.read_source-loop-line-preserved

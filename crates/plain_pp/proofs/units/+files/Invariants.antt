@@ -1,9 +1,9 @@
 use Rattle.std.proofs.Common.{◌+◌, ◌*◌, drop, length, map}
 use Rattle.c_text.specs.Lines.{plain_line}
 use Rattle.c_text.specs.Preprocessing as spec
-use Rattle.plain_pp.specs.Inclusions.{plain_source}
+use Rattle.unit_files.specs.Inclusions.{plain_source}
 use Rattle.plain_pp.specs.Readings.{plain_reading}
-use Rattle.plain_pp.specs.SourceFiles.{AreSources, deeper_of}
+use Rattle.unit_files.specs.SourceFiles.{AreSources, deeper_of}
 use Rattle.plain_pp.specs.Walking.{plain_walk}
 use Rattle.plain_pp.proofs.FileLemmas.{Stands}
 use Rattle.plain_pp.proofs.units.+files.Given as goal

@@ -4,7 +4,7 @@ use Rattle.cond_formula.specs.Features.{has}
 use Rattle.c_text.specs.Token.{plain_token}
 use Rattle.c_text.specs.Preprocessing.{is_refused, IsPreprocessed}
 use Rattle.project_file.specs.View.{project_view}
-use Rattle.plain_pp.specs.Refusals.{refusal_view}
+use Rattle.unit_files.specs.Refusals.{refusal_view}
 use Rattle.plain_pp.specs.Units.{sources_of, file_of}
 use Rattle.project_program.specs.Programs.{UnitGives}
 use Rattle.project_program.proofs.programs.unit_tokens.Goals as goal

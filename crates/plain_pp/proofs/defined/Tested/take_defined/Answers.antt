@@ -4,7 +4,8 @@ use Rattle.c_text.specs.Token.{plain_token, PlainToken}
 use Rattle.c_text.specs.Preprocessing as spec
 use Rattle.c_text.specs.Preprocessing.{tests_replaced, by_test, tested}
 use Rattle.plain_macros.specs.PlainTables.{table_of}
-use Rattle.plain_pp.specs.Tests.{with_tokens, plain_test}
+use Rattle.plain_pp.specs.Tests.{with_tokens}
+use Rattle.unit_files.specs.Tests.{plain_test}
 use Rattle.plain_pp.proofs.TestLemmas.{with-one}
 use Rattle.plain_pp.proofs.defined.Tested.take_defined.Goals as goal
 

@@ -4,8 +4,8 @@ use Rattle.c_text.specs.Lines.{plain_line}
 use Rattle.c_text.specs.Trees.{role_of}
 use Rattle.c_text.specs.Preprocessing.{Flow}
 use Rattle.plain_pp.specs.Readings.{plain_reading}
-use Rattle.plain_pp.specs.Nests.{nest_of, behind_role, Nest}
-use Rattle.plain_pp.specs.Walk.{Open}
+use Rattle.file_walks.specs.Nests.{nest_of, behind_role, Nest}
+use Rattle.file_walks.specs.Walk.{Open}
 use Rattle.plain_pp.specs.Walking.{plain_walk, Enters}
 use Rattle.plain_pp.proofs.WalkLemmas.{step-directive, behind-directive}
 use Rattle.plain_pp.proofs.walk.Walker.read_line.Goals as goal

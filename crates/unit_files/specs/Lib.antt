@@ -1,0 +1,6 @@
+pub mod Refusals
+pub mod Inclusions
+pub mod SourceFiles
+pub mod Roles
+pub mod Tests
+pub mod Laws
