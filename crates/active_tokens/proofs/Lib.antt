@@ -1,4 +1,4 @@
-mod Everywhere
-mod Replacing
-mod Reading
-mod Sources
+pub mod Everywhere
+pub mod Replacing
+pub mod Reading
+pub mod Sources

@@ -1,9 +1,10 @@
--- What a file gives stands where what it reads does, or where what was given before does.
+-- What a file gives has each property that what it reads and what was given before have.
 use Rattle.std.proofs.Common.{ℕ, Bool, true, false, ◌||◌, ◌&&◌, List, [], ◌∷◌, ◌++◌, map, drop, Option, Some, None, codes}
 use Rattle.std.specs.Prelude.{⊤}
 use Rattle.std.specs.List.{AllByRecursion, list_any}
 use Rattle.std.specs.Str.{bytes_eq}
 use Rattle.text_edits.specs.Span.{PlainSpan}
+use Rattle.c_text.specs.declared.token.TokenKind.{TokenKind}
 use Rattle.c_text.specs.Token.{PlainToken}
 use Rattle.c_text.specs.Lines.{PlainLine}
 use Rattle.c_text.specs.Directives.{PlainMacro, PlainDirective, if_line, ifdef_line, ifndef_line, elif_line, else_line, endif_line, define_line, bad_define, undef_line, include_line, error_line, null_line, malformed, is_spelled, is_word, is_fixed_name, is_barred, has_repetition, Parameters, parameters, with_name, behind_dots, at_parameter, behind_parameter, parameters_of, in_body, macro_line, function_like, definition, by_word, removal, inclusion, ends_with_angle, is_text_kind, directive_of}
@@ -14,7 +15,7 @@ use Rattle.active_tokens.specs.Reads.{Read, behind, unless_refused, Following, i
 use Rattle.active_tokens.proofs.Everywhere.{each-append, each-left, each-right, each-map, by-choice}
 use Rattle.active_tokens.proofs.Replacing.{Comes, ComesItem, Tokens, Items, GoodMeaning, GoodFound, GoodTable, GoodReplaced, replaced-good}
 
-module _ (Q : ℕ → PlainSpan → Type 0) where
+module _ (Q : TokenKind → List ℕ → ℕ → PlainSpan → Type 0) where
   pub record GoodReading (r : Reading) : Type 0 where
     pub table : GoodTable Q r.table
     pub tokens : Tokens Q r.tokens
@@ -39,7 +40,7 @@ module _ (Q : ℕ → PlainSpan → Type 0) where
   emitted-good r tokens None (bad_call name) g a = tt
   emitted-good r tokens (Some why) (bad_call name) g a = tt
 
-  run-good : (r : Reading) (tokens : List PlainToken) → GoodReading r → Tokens Q tokens → GoodFlow (read_run r tokens)
+  pub run-good : (r : Reading) (tokens : List PlainToken) → GoodReading r → Tokens Q tokens → GoodFlow (read_run r tokens)
   run-good r tokens g a =
       emitted-good r tokens (refused_token tokens) (replaced r.table tokens) g (replaced-good Q r.table tokens g.table a)
 
@@ -107,7 +108,7 @@ module _ (Q : ℕ → PlainSpan → Type 0) where
   inclusion-good (first ∷ second ∷ rest) =
       by-choice GoodDirective (is_spelled (codes "<") first && ends_with_angle (second ∷ rest)) (include_line (first ∷ second ∷ rest)) malformed tt tt
 
-  directive-good : (tokens : List PlainToken) → Tokens Q tokens → GoodDirective (directive_of tokens)
+  pub directive-good : (tokens : List PlainToken) → Tokens Q tokens → GoodDirective (directive_of tokens)
   directive-good [] a = tt
   directive-good (hash ∷ []) a = tt
   directive-good (hash ∷ name ∷ rest) a =
@@ -128,18 +129,18 @@ module _ (Q : ℕ → PlainSpan → Type 0) where
 
   -- ---- directive lines
 
-  unless-good : (found : Option Refusal) (flow : Flow) → GoodFlow flow → GoodFlow (unless found flow)
+  pub unless-good : (found : Option Refusal) (flow : Flow) → GoodFlow flow → GoodFlow (unless found flow)
   unless-good None flow a = a
   unless-good (Some why) flow a = tt
 
-  put-good : (table : Table) (name : List ℕ) (entry : Option Meaning) → GoodTable Q table → GoodFound Q entry → GoodTable Q (put table name entry)
+  pub put-good : (table : Table) (name : List ℕ) (entry : Option Meaning) → GoodTable Q table → GoodFound Q entry → GoodTable Q (put table name entry)
   put-good table name entry t a other = by-choice (GoodFound Q) (bytes_eq other name) entry (table other) a (t other)
 
-  meaning-good : (m : PlainMacro) (params : Option (List (List ℕ))) → Tokens Q m.body → GoodMeaning Q (meaning m params)
+  pub meaning-good : (m : PlainMacro) (params : Option (List (List ℕ))) → Tokens Q m.body → GoodMeaning Q (meaning m params)
   meaning-good m None a = a
   meaning-good m (Some params) a = a
 
-  redefined-good : (r : Reading) (hash : PlainToken) (found : Option Refusal) (name : List ℕ) (old : Option Meaning) (new : Meaning) → GoodReading r → GoodMeaning Q new → GoodFlow (redefined r hash found name old new)
+  pub redefined-good : (r : Reading) (hash : PlainToken) (found : Option Refusal) (name : List ℕ) (old : Option Meaning) (new : Meaning) → GoodReading r → GoodMeaning Q new → GoodFlow (redefined r hash found name old new)
   redefined-good r hash found name None new g a =
       unless-good found _ (record { table = put-good r.table name (Some new) g.table a; tokens = g.tokens })
   redefined-good r hash found name (Some old) new g a =
@@ -159,7 +160,7 @@ module _ (Q : ℕ → PlainSpan → Type 0) where
   then-good (on r) next reads g keeps a = keeps r g a
   then-good (refused why) next reads g keeps a = tt
 
-  end-good : (flow : Flow) (why : Refusal) → GoodFlow (then_read flow (λ after. refused why))
+  pub end-good : (flow : Flow) (why : Refusal) → GoodFlow (then_read flow (λ after. refused why))
   end-good (on r) why = tt
   end-good (refused other) why = tt
 

@@ -1,16 +1,17 @@
--- What replaces tokens stands where these stand, or where the bodies of macros do: for each property of places that both have.
+-- What replaces tokens has each property that these and the bodies of macros have: one of kinds, texts and places of tokens.
 use Rattle.std.proofs.Common.{ℕ, zero, suc, Bool, true, false, ◌&&◌, not, ◌==◌, ◌-◌, List, [], ◌∷◌, map, codes, Option, Some, None}
 use Rattle.std.specs.Prelude.{⊤}
 use Rattle.std.specs.List.{AllByRecursion}
 use Rattle.text_edits.specs.Span.{PlainSpan}
+use Rattle.c_text.specs.declared.token.TokenKind.{TokenKind}
 use Rattle.c_text.specs.Token.{PlainToken}
 use Rattle.c_text.specs.Directives.{is_spelled, is_word}
 use Rattle.c_text.specs.Macros.{Meaning, feature, object, function, Table, Item, fresh, is_name_kind, is_named_in, meaning_of, Replaced, fine, bad_call, before, call_then, unless_bad, brought, ends_in_function, unless_left_open, Deeper, replacement, Call, begun, Progress, goes_on, ends, with_item, next_argument, opening, closing, progress, all_arguments, fits, and_then, all_replaced, substituted_for, substituted, body_replacement, call_replacement, Treatment, stays, is_feature, is_object, is_call, opens, treatment, treatment_of, treated, progressed, outside, inside, level, deepest, replaced}
 use Rattle.active_tokens.proofs.Everywhere.{each-append, each-map, each-flat-map, by-choice}
 
-module _ (Q : ℕ → PlainSpan → Type 0) where
+module _ (Q : TokenKind → List ℕ → ℕ → PlainSpan → Type 0) where
   abbrev pub Comes : PlainToken → Type 0
-  Comes token = Q token.origin.file token.origin.span
+  Comes token = Q token.kind token.text token.origin.file token.origin.span
 
   abbrev pub ComesItem : Item → Type 0
   ComesItem item = Comes item.token

@@ -5,6 +5,7 @@ use Rattle.std.specs.List.{list_any}
 use Rattle.std.specs.Str.{bytes_eq}
 use Rattle.std.proofs.lemmas.List.Elements.{All-from_recursion, recursion_from_All, All-contains_itself, All-weaker}
 use Rattle.text_edits.specs.Span.{PlainSpan}
+use Rattle.c_text.specs.declared.token.TokenKind.{TokenKind}
 use Rattle.c_text.specs.Token.{PlainToken}
 use Rattle.c_text.specs.Macros.{feature}
 use Rattle.c_text.specs.Preprocessing.{Refusal, Reading, Flow, on, refused, Source, project_file, Sources, Syntax, setting, read_source, most_nested, at_start, feature_token, gives, is_refused, outcome_of, preprocessed}
@@ -14,14 +15,14 @@ use Rattle.active_tokens.proofs.Everywhere.{by-choice}
 use Rattle.active_tokens.proofs.Replacing.{Comes, Tokens, GoodFound}
 use Rattle.active_tokens.proofs.Reading.{GoodReading, GoodFlow, GoodReads, part-good}
 
-module _ (Q : ℕ → PlainSpan → Type 0) (s : Sources) (x : Syntax) (misplaced : Source → List PlainToken) where
+module _ (Q : TokenKind → List ℕ → ℕ → PlainSpan → Type 0) (s : Sources) (x : Syntax) (misplaced : Source → List PlainToken) where
   source-good : (n : ℕ) (source : Source) (r : Reading) → GoodReading Q r → GoodReads Q (reads_of_source s x misplaced n source r) → GoodFlow Q (read_source s x n source r)
   source-good zero source r g a = part-good Q (setting s x source None) (following (misplaced source) None) tt (x.part_of source) r g a
   source-good (suc n) source r g a =
       part-good Q (setting s x source (Some (read_source s x n))) (following (misplaced source) (Some (reads_of_source s x misplaced n)))
       (source-good n) (x.part_of source) r g a
 
-  start-good : Q feature_token.origin.file feature_token.origin.span → GoodReading Q (at_start s)
+  pub start-good : Q feature_token.kind feature_token.text feature_token.origin.file feature_token.origin.span → GoodReading Q (at_start s)
   start-good q =
       record { table = λ name. by-choice (GoodFound Q) (list_any (bytes_eq name) s.on_features) (Some (feature feature_token)) None q tt; tokens = tt }
 
@@ -31,13 +32,13 @@ gives-same a b e = cc
 refused-gives : (why : Refusal) (b : List PlainToken) → is_refused why ≡ gives b → ⊥
 refused-gives why b e = cc
 
-flow-gives : (Q : ℕ → PlainSpan → Type 0) (flow : Flow) (tokens : List PlainToken) → GoodFlow Q flow → outcome_of flow ≡ gives tokens → Tokens Q tokens
+pub flow-gives : (Q : TokenKind → List ℕ → ℕ → PlainSpan → Type 0) (flow : Flow) (tokens : List PlainToken) → GoodFlow Q flow → outcome_of flow ≡ gives tokens → Tokens Q tokens
 flow-gives Q (on r) tokens g e = subst (λ (l : List PlainToken). Tokens Q l) (gives-same r.tokens tokens e) g.tokens
 flow-gives Q (refused why) tokens g e = absurd (refused-gives why tokens e)
 
 -- what is read is active
-abbrev AtPlace : List Read → ℕ → PlainSpan → Type 0
-AtPlace reads file span = ((file ≡ feature_token.origin.file) × (span ≡ feature_token.origin.span)) ⊎ IsReadAt reads file span (λ read. ⊤)
+abbrev AtPlace : List Read → TokenKind → List ℕ → ℕ → PlainSpan → Type 0
+AtPlace reads kind text file span = ((file ≡ feature_token.origin.file) × (span ≡ feature_token.origin.span)) ⊎ IsReadAt reads file span (λ read. ⊤)
 
 read-active : (reads : List Read) (read : Read) → Contains reads read → Tokens (AtPlace reads) read.tokens
 read-active reads read among =

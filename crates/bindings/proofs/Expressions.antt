@@ -256,7 +256,7 @@ module _ (at : ℕ → Entity) (taken : Room) (scope : Scope) where
   member_used_adds name r = record { others = record { number = r.next; token = name; binding = member_use (λ tag. look_up (members_of tag) name.text r.file) } ∷ []; is = refl }
 
   use_of_member :
-      (r : Reading) (h : List Identified) (name : PlainToken) (number n : ℕ) (tag : List ℕ) (f : TagFound taken scope r.file h tag number)
+      (r : Reading) (h : List Identified) (name : PlainToken) (number n : ℕ) (tag : List ℕ) (f : TagFound taken.members scope.tags scope.structs r.file h tag number)
       → f.struct.numbers name.text ≡ Some n → Rel r h → Goal Anything h r.found (member_used name r) (uses (member_entity number n))
   use_of_member r h name number n tag f e rel =
       let o : Occurrence = record { number = r.next; token = name; binding = member_use (λ tag. look_up (members_of tag) name.text r.file) } in
@@ -269,7 +269,7 @@ module _ (at : ℕ → Entity) (taken : Room) (scope : Scope) where
       )
 
   operand_of_member :
-      (r : Reading) (h : List Identified) (name : PlainToken) (place : PlainPlace) (free : Bool) (number n : ℕ) (tag : List ℕ) (f : TagFound taken scope r.file h tag number)
+      (r : Reading) (h : List Identified) (name : PlainToken) (place : PlainPlace) (free : Bool) (number n : ℕ) (tag : List ℕ) (f : TagFound taken.members scope.tags scope.structs r.file h tag number)
       → f.struct.numbers name.text ≡ Some n → Rel r h
       → Goal Operands h r.found (member_used name r) (member_operand name place free number (slice_get f.struct.members n) n)
   operand_of_member r h name place free number n tag f e rel =
@@ -279,7 +279,7 @@ module _ (at : ℕ → Entity) (taken : Room) (scope : Scope) where
       (use_of_member r h name number n tag f e rel) (λ x a. yields Operands (of_object name m.member.ty (Rattle.core_meaning.specs.Program.member place n) free) m.made))
 
   member_read :
-      (r : Reading) (h : List Identified) (sign name : PlainToken) (place : PlainPlace) (free : Bool) (number : ℕ) (tag : List ℕ) → TagFound taken scope r.file h tag number → Rel r h
+      (r : Reading) (h : List Identified) (sign name : PlainToken) (place : PlainPlace) (free : Bool) (number : ℕ) (tag : List ℕ) → TagFound taken.members scope.tags scope.structs r.file h tag number → Rel r h
       → Goal Operands h r.found (member_used name r) (member_in sign name place free number (slice_get scope.structs number))
   member_read r h sign name place free number tag f rel =
       subst (λ s. Goal Operands h r.found (member_used name r) (member_in sign name place free number s)) (sym f.is)

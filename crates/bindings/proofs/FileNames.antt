@@ -40,7 +40,7 @@ related_pending at alive name scope file blocks h r =
       names = r.names;
       no_name = r.no_name;
       no_first = λ other e p. r.no_first other e refl;
-      tagged = λ tag number e. let f = r.tagged tag number e in record { found = f.found; spelt = f.spelt; struct = f.struct; is = f.is; members = f.members; none_yet = f.none_yet };
+      tagged = r.tagged;
       no_tag = r.no_tag;
       new_structs = r.new_structs;
       new_members = r.new_members;
@@ -57,7 +57,7 @@ related_slots at taken n scope file blocks h dead r =
       names = r.names;
       no_name = r.no_name;
       no_first = r.no_first;
-      tagged = λ tag number e. let f = r.tagged tag number e in record { found = f.found; spelt = f.spelt; struct = f.struct; is = f.is; members = f.members; none_yet = f.none_yet };
+      tagged = r.tagged;
       no_tag = r.no_tag;
       new_structs = r.new_structs;
       new_members = r.new_members;

@@ -48,7 +48,7 @@ enter_function n scope file blocks h r outside fresh =
       names = r.names;
       no_name = r.no_name;
       no_first = r.no_first;
-      tagged = λ tag number e. let f = r.tagged tag number e in record { found = f.found; spelt = f.spelt; struct = f.struct; is = f.is; members = f.members; none_yet = f.none_yet };
+      tagged = r.tagged;
       no_tag = r.no_tag;
       new_structs = r.new_structs;
       new_members = r.new_members;
@@ -66,7 +66,7 @@ leave_function n m scope earlier tables_ before file blocks inner h g r outside 
       names = s.names;
       no_name = s.no_name;
       no_first = s.no_first;
-      tagged = λ tag number e. let f = s.tagged tag number e in record { found = f.found; spelt = f.spelt; struct = f.struct; is = f.is; members = f.members; none_yet = f.none_yet };
+      tagged = s.tagged;
       no_tag = s.no_tag;
       new_structs = s.new_structs;
       new_members = s.new_members;

@@ -95,7 +95,7 @@ related_member taken scope file blocks h tag name by number struct r here is emp
     }
   where
     entry :
-        (other : List ℕ) (n : ℕ) → scope.tags other ≡ Some n → (f : TagFound taken scope file h other n) → (m : List ℕ) (k : ℕ) → f.struct.numbers m ≡ Some k → (at : ℕ) → look_up (members_of other) m file ≡ Some at
+        (other : List ℕ) (n : ℕ) → scope.tags other ≡ Some n → (f : TagFound taken.members scope.tags scope.structs file h other n) → (m : List ℕ) (k : ℕ) → f.struct.numbers m ≡ Some k → (at : ℕ) → look_up (members_of other) m file ≡ Some at
         → (b : Bool) → bytes_eq tag other ≡ b → look_up (members_of other) m (record { space = members_of tag; name = name; declared_by = by } ∷ file) ≡ Some at
     entry other n e f m k e2 at found true same_ =
         let one_ : Some number ≡ Some n = sym here ∙ ap scope.tags ((bytes_decides tag other).0 same_) ∙ e in

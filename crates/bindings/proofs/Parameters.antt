@@ -153,7 +153,7 @@ related_more at taken further scope file blocks h r e =
       names = r.names;
       no_name = r.no_name;
       no_first = r.no_first;
-      tagged = λ tag number e. let f = r.tagged tag number e in record { found = f.found; spelt = f.spelt; struct = f.struct; is = f.is; members = f.members; none_yet = f.none_yet };
+      tagged = r.tagged;
       no_tag = r.no_tag;
       new_structs = r.new_structs;
       new_members = r.new_members;

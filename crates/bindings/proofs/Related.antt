@@ -54,13 +54,13 @@ pub record MemberFound (tags : Table ℕ) (file : List Entry) (history : List Id
   pub made : Made tags member.ty
   pub found : Found (members_of tag) name file (member_entity number n) history
 
-pub record TagFound (taken : Room) (scope : Scope) (file : List Entry) (history : List Identified) (tag : List ℕ) (number : ℕ) : Type 0 where
+pub record TagFound (taken : ℕ → ℕ) (tags : Table ℕ) (structs : List Struct) (file : List Entry) (history : List Identified) (tag : List ℕ) (number : ℕ) : Type 0 where
   pub found : Found tag_space tag file (struct_entity number) history
   pub spelt : found.by.token.text ≡ tag
   pub struct : Struct
-  pub is : slice_get scope.structs number ≡ Some struct
-  pub members : (name : List ℕ) (n : ℕ) → struct.numbers name ≡ Some n → MemberFound scope.tags file history tag number struct.members name n
-  pub none_yet : struct.complete ≡ false → (n : ℕ) → taken.members number ≤ n → first_with (member_entity number n) history ≡ None
+  pub is : slice_get structs number ≡ Some struct
+  pub members : (name : List ℕ) (n : ℕ) → struct.numbers name ≡ Some n → MemberFound tags file history tag number struct.members name n
+  pub none_yet : struct.complete ≡ false → (n : ℕ) → taken number ≤ n → first_with (member_entity number n) history ≡ None
 
 pub record Related (at : ℕ → Entity) (taken : Room) (scope : Scope) (file blocks : List Entry) (history : List Identified) : Type 0 where
   pub locals : (name : List ℕ) (l : Local) → local_in scope.blocks name ≡ Some l → LocalFound at taken.alive scope.tags blocks history name l
@@ -68,7 +68,7 @@ pub record Related (at : ℕ → Entity) (taken : Room) (scope : Scope) (file bl
   pub names : (name : List ℕ) (n : FileName) → scope.file_names name ≡ Some n → FileFound scope.tags file history name n
   pub no_name : (name : List ℕ) → scope.file_names name ≡ None → look_up ordinary name file ≡ None
   pub no_first : (name : List ℕ) → scope.file_names name ≡ None → taken.pending name ≡ false → first_with (file_entity name) history ≡ None
-  pub tagged : (tag : List ℕ) (number : ℕ) → scope.tags tag ≡ Some number → TagFound taken scope file history tag number
+  pub tagged : (tag : List ℕ) (number : ℕ) → scope.tags tag ≡ Some number → TagFound taken.members scope.tags scope.structs file history tag number
   pub no_tag : (tag : List ℕ) → scope.tags tag ≡ None → look_up tag_space tag file ≡ None
   pub new_structs : (number : ℕ) → length scope.structs ≤ number → first_with (struct_entity number) history ≡ None
   pub new_members : (number n : ℕ) → length scope.structs ≤ number → first_with (member_entity number n) history ≡ None

@@ -8,14 +8,14 @@ use Rattle.std.proofs.lemmas.Option.{same_Some, none-some}
 use Rattle.c_names.specs.Names.{is_identifier}
 use Rattle.c_types.specs.Types.{PlainType}
 use Rattle.core_meaning.specs.Checking.{Entity, file_entity}
-use Rattle.core_meaning.specs.Entities.{Table, Local, FileName, Scope, local_in, or_else}
+use Rattle.core_meaning.specs.Entities.{Table, Struct, Local, FileName, Scope, local_in, or_else}
 use Rattle.core_meaning.specs.Declarations.{with_local, with_local_in, with_block}
 use Rattle.core_meaning.specs.UnitNames.{with_file_name}
 use Rattle.bindings.specs.Visible.{NameSpace, ordinary, tags as tag_space, members_of, Entry, look_up}
 use Rattle.bindings.specs.Judged.{Identified, first_with}
 use Rattle.bindings.proofs.Histories.{Grows}
 use Rattle.bindings.proofs.Types.{Made, MadeSort}
-use Rattle.bindings.proofs.Related.{Room, FirstIs, LocalFound, FileFound, Related}
+use Rattle.bindings.proofs.Related.{Room, FirstIs, LocalFound, FileFound, TagFound, Related}
 
 pub bytes_turned : (a b : List ℕ) → bytes_eq a b ≡ false → bytes_eq b a ≡ false
 bytes_turned a b h = false_from_ne_true (bytes_eq b a) (λ e. false≢true (sym h ∙ (bytes_decides a b).1 (sym ((bytes_decides b a).0 e))))
@@ -56,7 +56,7 @@ related_local at taken scope file blocks h name slot ty number r first made =
       names = r.names;
       no_name = r.no_name;
       no_first = r.no_first;
-      tagged = λ tag number e. let f = r.tagged tag number e in record { found = f.found; spelt = f.spelt; struct = f.struct; is = f.is; members = f.members; none_yet = f.none_yet };
+      tagged = r.tagged;
       no_tag = r.no_tag;
       new_structs = r.new_structs;
       new_members = r.new_members;
@@ -95,7 +95,7 @@ related_block at taken scope file blocks h r =
       names = r.names;
       no_name = r.no_name;
       no_first = r.no_first;
-      tagged = λ tag number e. let f = r.tagged tag number e in record { found = f.found; spelt = f.spelt; struct = f.struct; is = f.is; members = f.members; none_yet = f.none_yet };
+      tagged = r.tagged;
       no_tag = r.no_tag;
       new_structs = r.new_structs;
       new_members = r.new_members;
@@ -114,7 +114,7 @@ related_left at taken further scope tables earlier file blocks inner h g r alive
       names = s.names;
       no_name = s.no_name;
       no_first = s.no_first;
-      tagged = λ tag number e. let f = s.tagged tag number e in record { found = f.found; spelt = f.spelt; struct = f.struct; is = f.is; members = f.members; none_yet = f.none_yet };
+      tagged = s.tagged;
       no_tag = s.no_tag;
       new_structs = s.new_structs;
       new_members = s.new_members;
@@ -123,6 +123,19 @@ related_left at taken further scope tables earlier file blocks inner h g r alive
     }
 
 -- ---- names of file scope
+
+-- a struct, behind a further ordinary name
+tag_behind :
+    (taken further : ℕ → ℕ) (tags : Table ℕ) (structs : List Struct) (file : List Entry) (h : List Identified) (tag : List ℕ) (number : ℕ) (name : List ℕ) (by : ℕ) → further ≡ taken
+    → TagFound taken tags structs file h tag number → TagFound further tags structs (record { space = ordinary; name = name; declared_by = by } ∷ file) h tag number
+tag_behind taken further tags structs file h tag number name by members f = record {
+  found = record { by = f.found.by; entry = f.found.entry; first = f.found.first };
+  spelt = f.spelt;
+  struct = f.struct;
+  is = f.is;
+  members = λ m n e. let g = f.members m n e in record { member = g.member; is = g.is; made = g.made; found = record { by = g.found.by; entry = g.found.entry; first = g.found.first } };
+  none_yet = λ open_ n far. f.none_yet open_ n (subst (λ (x : ℕ → ℕ). x number ≤ n) members far);
+}
 
 -- a name that is visible already
 pub related_again :
@@ -137,14 +150,7 @@ related_again at taken further scope file blocks h name i r here pending slots m
       names = λ other n e. let f = r.names other n e in record { found = record { by = f.found.by; entry = same other ∙ f.found.entry; first = f.found.first }; made = f.made; word = f.word };
       no_name = λ other e. same other ∙ r.no_name other e;
       no_first = λ other e p. r.no_first other e (pending other e p);
-      tagged = λ tag number e. let f = r.tagged tag number e in record {
-        found = record { by = f.found.by; entry = f.found.entry; first = f.found.first };
-        spelt = f.spelt;
-        struct = f.struct;
-        is = f.is;
-        members = λ m n e. let g = f.members m n e in record { member = g.member; is = g.is; made = g.made; found = record { by = g.found.by; entry = g.found.entry; first = g.found.first } };
-        none_yet = λ open_ n far. f.none_yet open_ n (subst (λ (x : ℕ → ℕ). x number ≤ n) members far);
-      };
+      tagged = λ tag number e. tag_behind taken.members further.members scope.tags scope.structs file h tag number name i.number members (r.tagged tag number e);
       no_tag = r.no_tag;
       new_structs = r.new_structs;
       new_members = r.new_members;
@@ -172,14 +178,7 @@ related_named at taken further scope file blocks h name n i r first made word pe
       names = λ other m e. named other m (bytes_eq other name) refl e;
       no_name = λ other e. no_name other (bytes_eq other name) refl e;
       no_first = λ other e p. no_first other p (bytes_eq other name) refl e;
-      tagged = λ tag number e. let f = r.tagged tag number e in record {
-        found = record { by = f.found.by; entry = f.found.entry; first = f.found.first };
-        spelt = f.spelt;
-        struct = f.struct;
-        is = f.is;
-        members = λ m n e. let g = f.members m n e in record { member = g.member; is = g.is; made = g.made; found = record { by = g.found.by; entry = g.found.entry; first = g.found.first } };
-        none_yet = λ open_ n far. f.none_yet open_ n (subst (λ (x : ℕ → ℕ). x number ≤ n) members far);
-      };
+      tagged = λ tag number e. tag_behind taken.members further.members scope.tags scope.structs file h tag number name i.number members (r.tagged tag number e);
       no_tag = r.no_tag;
       new_structs = r.new_structs;
       new_members = r.new_members;

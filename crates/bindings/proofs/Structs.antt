@@ -171,7 +171,7 @@ related_completed tag number scope known file blocks h inside =
       dead = r.dead;
     }
   where
-    tagged : (other : List ℕ) (n : ℕ) → scope.tags other ≡ Some n → (b : Bool) → (n == number) ≡ b → TagFound (closed false) (record scope { structs = with_members_at number known scope.structs }) file h other n
+    tagged : (other : List ℕ) (n : ℕ) → scope.tags other ≡ Some n → (b : Bool) → (n == number) ≡ b → TagFound (closed false).members scope.tags (with_members_at number known scope.structs) file h other n
     tagged other n e true same_ =
         let f = inside.rel.tagged other n e in
         let g = inside.rel.tagged tag number inside.here in

@@ -99,10 +99,10 @@ related_tagged at slots_are taken scope file blocks h name i r new is spelt =
 
     tagged :
         (tag : List ℕ) (number : ℕ) (b : Bool) → bytes_eq tag name ≡ b → (if b then Some (length scope.structs) else scope.tags tag) ≡ Some number
-        → TagFound taken (with_struct scope name) (record { space = tag_space; name = name; declared_by = i.number } ∷ file) (h ++ i ∷ []) tag number
+        → TagFound taken.members (with_struct scope name).tags (with_struct scope name).structs (record { space = tag_space; name = name; declared_by = i.number } ∷ file) (h ++ i ∷ []) tag number
     tagged tag number true same_ e =
-        subst (λ n. TagFound taken (with_struct scope name) (record { space = tag_space; name = name; declared_by = i.number } ∷ file) (h ++ i ∷ []) tag n) (same_Some (length scope.structs) number e)
-        (subst (λ x. TagFound taken (with_struct scope name) (record { space = tag_space; name = name; declared_by = i.number } ∷ file) (h ++ i ∷ []) x (length scope.structs)) (sym ((bytes_decides tag name).0 same_))
+        subst (λ n. TagFound taken.members (with_struct scope name).tags (with_struct scope name).structs (record { space = tag_space; name = name; declared_by = i.number } ∷ file) (h ++ i ∷ []) tag n) (same_Some (length scope.structs) number e)
+        (subst (λ x. TagFound taken.members (with_struct scope name).tags (with_struct scope name).structs (record { space = tag_space; name = name; declared_by = i.number } ∷ file) (h ++ i ∷ []) x (length scope.structs)) (sym ((bytes_decides tag name).0 same_))
         (record {
           found = record {
             by = i;

@@ -2,7 +2,9 @@
 #![tactic(auto)]
 
 mod commands;
+mod laws;
 mod top;
 
 pub use commands::Which;
+pub use laws::calls_conclude;
 pub use top::morpheus;

@@ -6,6 +6,7 @@ ghost use Rattle.command_promises.specs.Sayings.{CameTo};
 ghost use Rattle.command_promises.specs.Commands.{Asked, CourseFor, CourseOf};
 ghost use Rattle.command_promises.specs.Endings.{Answers};
 ghost use Rattle.command_promises.specs.Promises.{Promises};
+ghost use Rattle.command_outcomes.specs.Concluding.{ComesToSomething};
 ghost use Rattle.command_quick.specs.Words.{Renaming};
 ghost use Rattle.command_quick.specs.Quick as quick;
 ghost use Rattle.command_quick.specs.Behaviour.{BehaviourIsKept};
@@ -17,6 +18,7 @@ ghost use Rattle.command_run.specs.Run as run;
 ghost use Rattle.morpheus_top.specs.Commands.{commands, program, IsUsage};
 
 use crate::commands::{Which, named};
+use crate::laws::calls_conclude;
 use command_admit::{admit, admit_is_decided};
 use command_promises::{Said, Stop, finish, usage};
 use command_quick::{quick, quick_is_decided};
@@ -102,6 +104,7 @@ pub fn morpheus<S: Store, K: Sink>(
 ) -> u8
     // What holds of every call.
     ensures all { Promises program (map string_bytes words.now) (S.state store.old) (S.state store.new) (K.state out.old) (K.state out.new) result }
+    ensures concludes { ComesToSomething (CourseOf commands (map string_bytes words.now)) (S.state store.old) }
     ensures usage { IsUsage (map string_bytes words.now) → Contains (2 ∷ 6 ∷ 7 ∷ []) result }
     ensures read_fault { result ≡ 3 → Rose (S.state store.old).read_faults (S.state store.new).read_faults }
     ensures write_fault { result ≡ 4 → Rose (S.state store.old).write_faults (S.state store.new).write_faults }
@@ -128,5 +131,6 @@ pub fn morpheus<S: Store, K: Sink>(
     tokens_are_decided();
     run_is_decided();
     renaming_keeps_behaviour();
+    calls_conclude();
     serve(alloc, words, store, out)
 }

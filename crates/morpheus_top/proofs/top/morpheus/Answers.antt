@@ -1,6 +1,8 @@
 use Rattle.std.proofs.Common.{map, refl}
 use Rattle.std.specs.String.{string_bytes}
+use Rattle.command_promises.specs.Commands.{CourseOf}
 use Rattle.command_promises.proofs.Promising.{promises_of, usage_statuses}
+use Rattle.command_outcomes.proofs.Courses.{over_store}
 use Rattle.morpheus_top.specs.declared.commands.Which.TheVariants.{Quick, Admit, Tokens, Run}
 use Rattle.morpheus_top.specs.Commands.{commands}
 use Rattle.morpheus_top.proofs.Table.{apart, all_decided, whole}
@@ -13,6 +15,13 @@ returns-clause-all g c =
     let K = g.K.Sink in
     let words = map string_bytes c.args.words.now in
     whole (S.state c.args.store.now) (S.state c.serve.new.store) (K.state c.args.out.now) (K.state c.serve.new.out) c.serve.result words (all_decided c.quick_is_decided.ensures c.admit_is_decided.ensures c.tokens_are_decided.ensures c.run_is_decided.ensures) c.serve.ensures
+
+pub returns-clause-concludes : goal.returns-clause-concludes
+returns-clause-concludes g c =
+    let S = g.S.Store in
+    let words = map string_bytes c.args.words.now in
+    let store = S.state c.args.store.now in
+    over_store (CourseOf commands words) store (c.calls_conclude.ensures c.args.alloc words store.file)
 
 pub returns-clause-usage : goal.returns-clause-usage
 returns-clause-usage g c =

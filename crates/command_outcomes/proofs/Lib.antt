@@ -1,0 +1,5 @@
+pub mod Courses
+mod Least
+mod Admit
+mod Tokens
+mod Quick

@@ -1,0 +1,2 @@
+pub mod Concluding
+pub mod Laws

@@ -1,0 +1,9 @@
+mod Strings
+mod Ascii
+mod Formulas
+mod Firsts
+mod Texts
+mod Faults
+mod TomlStrings
+mod TomlTables
+mod TomlTexts

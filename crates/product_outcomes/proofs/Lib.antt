@@ -1,0 +1,3 @@
+mod Units
+mod Trees
+mod LeftOut

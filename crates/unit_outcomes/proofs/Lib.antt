@@ -1,0 +1,6 @@
+mod LinesSpelt
+mod PartsSpelt
+mod InRange
+mod TokensSpelt
+mod SameReadings
+mod Outcomes
