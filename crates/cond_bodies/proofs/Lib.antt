@@ -1,0 +1,5 @@
+pub mod ItemLemmas
+pub mod SpellingLemmas
+pub mod MeaningLemmas
+pub mod LevelLemmas
+pub mod SlotLemmas

@@ -1,0 +1,6 @@
+pub mod Spellings
+pub mod Parts
+pub mod Cores
+pub mod CondItems
+pub mod CondMeanings
+pub mod Slots

@@ -1,0 +1,102 @@
+-- Open calls under conditions, step by step.
+use Rattle.std.proofs.Common.{◌≡◌, ℕ, zero, suc, ◌+◌, ◌<◌, ◌≤◌, Bool, true, false, ◌||◌, List, [], ◌∷◌, ◌++◌, map, drop, length, get_or, Option, Some, None, refl, sym, ap, subst, ◌∙◌, add-one, drop-cons, arith}
+use Rattle.std.specs.Prelude.{if◌then◌else◌}
+use Rattle.std.proofs.lemmas.List.{drop_all, map-append}
+use Rattle.cond_formula.specs.Conditions.{condition_of, value}
+use Rattle.std.specs.Option.{option_map}
+use Rattle.c_text.specs.Token.{PlainToken}
+use Rattle.c_text.specs.Directives.{PlainMacro}
+use Rattle.c_text.specs.Macros as spec
+use Rattle.c_text.specs.Preprocessing.{feature_token}
+use Rattle.macro_table.specs.declared.macros.Macros.{Macros}
+use Rattle.macro_table.specs.MacroTables.{macro_meaning, definitions_of}
+use Rattle.macro_table.specs.Features.{is_on_feature, macros_at}
+use Rattle.conditional.specs.declared.entries.Guarded.{Guarded}
+use Rattle.conditional.specs.Entries.{first, seen, under}
+use Rattle.cond_bodies.specs.declared.item.Item.{Item}
+use Rattle.cond_bodies.specs.CondItems.{item_at, items_at}
+use Rattle.cond_bodies.specs.CondMeanings.{PlainFunction}
+use Rattle.cond_bodies.proofs.ItemLemmas.{seen_next}
+use Rattle.cond_bodies.proofs.LevelLemmas.{is_some_list}
+use Rattle.cond_macros.specs.Functions.{some_seen, without_params}
+use Rattle.cond_macros.proofs.NameLemmas.{some_body}
+use Rattle.cond_macros.specs.declared.calls.Call.{Call}
+use Rattle.cond_macros.specs.Owned.{IsOwn, AreOwn}
+use Rattle.cond_macros.specs.Pieces.{Piece, some_open, ended}
+use Rattle.cond_macros.specs.Readings.{Reads}
+use Rattle.cond_macros.specs.CondCalls.{held_at, call_entry, calls_at}
+use Rattle.cond_macros.proofs.ArgumentLemmas.{or_false}
+use Rattle.cond_macros.proofs.RunLemmas.{held_pushed, open_cases}
+use Rattle.cond_macros.proofs.PieceLemmas.{end_reads}
+
+next_call : (xs : List Call) (x : Call) (i : ℕ) → i < length xs → x ≡ get_or xs i x → drop i xs ≡ x ∷ drop (i + 1) xs
+next_call xs x i within is = rw (add-one, drop-cons xs i x within) (ap (λ (y : Call). y ∷ drop (suc i) xs) (sym is))
+
+pub open_step : (on : ℕ → Bool) (xs : List Call) (x : Call) (i : ℕ) (some new all : Bool) → i < length xs → x ≡ get_or xs i x → new ≡ (some || value on (condition_of x.when)) →
+    (some || some_open (calls_at on (drop i xs))) ≡ all → (new || some_open (calls_at on (drop (i + 1) xs))) ≡ all
+open_step on xs x i some new all within is is_new before =
+    let before' = rw (next_call xs x i within is) at before in
+    ap (λ (b : Bool). b || some_open (calls_at on (drop (i + 1) xs))) is_new ∙ open_cases some (value on (condition_of x.when)) all (held_at on x) (calls_at on (drop (i + 1) xs)) before'
+
+pub open_end : (on : ℕ → Bool) (xs : List Call) (i : ℕ) (some all : Bool) → length xs ≤ i → (some || some_open (calls_at on (drop i xs))) ≡ all → some ≡ all
+open_end on xs i some all past before =
+    let e = drop_all i xs past in
+    let before' = rw e at before in
+    or_false some ∙ before'
+
+-- one call more
+pub calls_pushed : (on : ℕ → Bool) (xs longer : List Call) (x : Call) → longer ≡ xs ++ x ∷ [] → calls_at on longer ≡ calls_at on xs ++ under (value on (condition_of x.when)) (held_at on x ∷ [])
+calls_pushed on xs longer x is =
+    ap (λ (l : List Call). calls_at on l) is
+    ∙ ap (seen on) (map-append (call_entry on) xs (x ∷ []))
+    ∙ held_pushed on (map (call_entry on) xs) (call_entry on x)
+
+-- ---- lists that are read
+
+module _ (exact : Bool) (table : spec.Table) (deeper : spec.Deeper) (active : List (List ℕ)) (on : ℕ → Bool) where
+  pub reads_next : (xs rest : List (Guarded Item)) (x : Guarded Item) (i : ℕ) (s : Option Piece) (b : Option (List spec.Item)) → i < length xs → x ≡ get_or xs i x → rest ≡ drop (i + 1) xs →
+      Reads exact table deeper active s (items_at on (drop i xs)) b →
+      Reads exact table deeper active s (if◌then◌else◌ (value on (condition_of x.when)) (item_at on x.what ∷ items_at on rest) (items_at on rest)) b
+  reads_next xs rest x i s b within is e reads =
+      subst (λ (l : List spec.Item). Reads exact table deeper active s l b)
+      (seen_next (item_at on) on xs x i within is ∙ ap (λ (l : List (Guarded Item)). if◌then◌else◌ (value on (condition_of x.when)) (item_at on x.what ∷ items_at on l) (items_at on l)) (sym e)) reads
+
+  pub reads_moved : (xs rest : List (Guarded Item)) (s : Option Piece) (b : Option (List spec.Item)) → rest ≡ xs → Reads exact table deeper active s (items_at on rest) b → Reads exact table deeper active s (items_at on xs) b
+  reads_moved xs rest s b e reads = subst (λ (l : List (Guarded Item)). Reads exact table deeper active s (items_at on l) b) e reads
+
+  pub reads_done : (xs : List (Guarded Item)) (i : ℕ) (s : Option Piece) (b : Option (List spec.Item)) → length xs ≤ i → Reads exact table deeper active s (items_at on (drop i xs)) b → ended s ≡ b
+  reads_done xs i s b past reads = end_reads exact table deeper active s b (reads_moved [] (drop i xs) s b (drop_all i xs past) reads)
+
+pub own_at : (xs : List (Guarded Item)) (x : Guarded Item) (i : ℕ) → i < length xs → x ≡ get_or xs i x → AreOwn xs → IsOwn x.what
+own_at [] x i within is own = absurd (omega arith)
+own_at (y ∷ xs) x zero within is own = subst (λ (z : Guarded Item). IsOwn z.what) (sym is) own.0
+own_at (y ∷ xs) x (suc i) within is own = own_at xs x i (omega arith) is own.1
+
+-- one more item of its own
+pub own_pushed : (xs : List (Guarded Item)) (x : Guarded Item) → AreOwn xs → IsOwn x.what → AreOwn (xs ++ x ∷ [])
+own_pushed [] x all own = (own, tt)
+own_pushed (y ∷ xs) x all own = (all.0, own_pushed xs x all.1 own)
+
+-- ---- meanings
+
+pub bodies_hold : (bodies : List (List PlainToken)) → is_some_list (map without_params bodies) ≡ some_body bodies
+bodies_hold [] = refl
+bodies_hold (body ∷ bodies) = refl
+
+pub lists_some : (fs : List PlainFunction) → is_some_list fs ≡ some_seen fs
+lists_some [] = refl
+lists_some (f ∷ fs) = refl
+
+macro_is_none : (o : Option PlainMacro) (other : PlainToken) → option_map macro_meaning o ≡ Some (spec.feature other) → feature_token ≡ other
+macro_is_none None other e = cc
+macro_is_none (Some m) other e = by_params m.params e where
+  by_params : (params : Option (List (List ℕ))) → Some (macro_meaning (record m { params = params })) ≡ Some (spec.feature other) → feature_token ≡ other
+  by_params None f = cc
+  by_params (Some params) f = cc
+
+-- a name that stands for a feature is replaced by the one token of the built-in file
+pub feature_is_built_in : (on : ℕ → Bool) (macros : Macros) (name : List ℕ) (other : PlainToken) → macros_at on macros name ≡ Some (spec.feature other) → feature_token ≡ other
+feature_is_built_in on macros name other e = by_test (is_on_feature on macros name) (first (seen on (definitions_of macros.table.now name))) e where
+  by_test : (b : Bool) (o : Option PlainMacro) → (if◌then◌else◌ b (Some (spec.feature feature_token)) (option_map macro_meaning o)) ≡ Some (spec.feature other) → feature_token ≡ other
+  by_test true o f = cc
+  by_test false o f = macro_is_none o other f

@@ -1,0 +1,8 @@
+pub mod Cores
+pub mod PieceLemmas
+pub mod NameLemmas
+pub mod CallLemmas
+pub mod TurnLemmas
+pub mod ArgumentLemmas
+pub mod RunLemmas
+pub mod CondRunLemmas

@@ -1,0 +1,429 @@
+use Rattle.std.proofs.Common.{◌≡◌, ℕ, ◌+◌, ◌-◌, Bool, true, false, not, ◌&&◌, List, [], ◌∷◌, ◌++◌, map, drop, Option, Some, None, IsTrue, Bor, Vec, Global, refl, sym, ap, subst, ◌∙◌, arith}
+use Rattle.std.specs.Prelude.{if◌then◌else◌, is_some}
+use Rattle.c_text.specs.declared.token.Token.{Token}
+use Rattle.c_text.specs.Token.{plain_token}
+use Rattle.c_text.specs.Macros as spec
+use Rattle.cond_formula.specs.Features.{has}
+use Rattle.cond_formula.specs.Conditions.{Condition, condition_of, value}
+use Rattle.cond_formula.specs.ConditionLaws.{condition_of-False, condition_of-True}
+use Rattle.conditional.specs.declared.entries.Guarded.{Guarded}
+use Rattle.conditional.specs.Entries.{entries_of, seen, some_holds}
+use Rattle.cond_bodies.specs.declared.item.Item.{Item}
+use Rattle.cond_bodies.specs.declared.meanings.Function.{Function}
+use Rattle.cond_bodies.specs.Cores.{cores}
+use Rattle.cond_bodies.specs.CondItems.{item_at, items_at}
+use Rattle.cond_bodies.specs.CondMeanings.{PlainFunction, plain_function, object_of, function_of}
+use Rattle.cond_bodies.proofs.SpellingLemmas.{item_text}
+use Rattle.cond_bodies.proofs.LevelLemmas.{is_some_list, holds_is_seen}
+use Rattle.cond_macros.specs.Below.{cores_of, all_cores_of, unless_any, behind_lists}
+use Rattle.cond_macros.specs.Looked.{looked, unless}
+use Rattle.cond_macros.specs.Functions.{is_single, or_function, some_seen, without_params, kept_item}
+use Rattle.cond_macros.specs.CondArguments.{lists_at}
+use Rattle.cond_macros.specs.CondCalls.{call_at, closes, held_at, calls_at}
+use Rattle.cond_macros.specs.CondFinished.{given_at}
+use Rattle.cond_macros.specs.CondRuns.{run_at}
+use Rattle.cond_macros.specs.CondLevels.{macros_in, active_in, deeper_in, is_within, replaced_at}
+use Rattle.cond_macros.specs.Pieces.{Held, Piece, also, under_piece, items_piece, given_piece, open_piece, some_open, without_calls, brought_again, turn_pieces, outside_piece}
+use Rattle.cond_macros.specs.Readings.{look, Reads}
+use Rattle.cond_macros.proofs.Cores.{replacement_alike}
+use Rattle.cond_macros.proofs.CallLemmas.{below_none, below_is, below_alike, left_open_is, call_given, call_unfit, both_true}
+use Rattle.cond_macros.proofs.ArgumentLemmas.{replaced_step, replaced_end, replaced_init, fit_alone, unfit_alone, unfit_if_none, single_is}
+use Rattle.cond_macros.proofs.TurnLemmas.{and_true, both_first, unseen, given_turn, ends_piece, goes_piece, progress_ends, lengthened, parted, turned_more, open_more}
+use Rattle.cond_macros.proofs.PieceLemmas.{step_reads, begin_reads, also-nothing}
+use Rattle.cond_macros.proofs.NameLemmas.{some_body, named, treated_active, treated_nothing, single_if, one_object, no_meaning, named_meaning, unnamed_meaning, fresh_substituted}
+use Rattle.cond_macros.proofs.CondRunLemmas.{calls_pushed, reads_next, reads_moved, reads_done, own_at, bodies_hold, feature_is_built_in}
+use Rattle.cond_macros.proofs.replacing.+lists.Goals as goal
+
+-- ---- a list one level below
+
+pub deeper-returns-then-level-eq0-clause-given : goal.deeper-returns-then-level-eq0-clause-given
+deeper-returns-then-level-eq0-clause-given g t c = λ n admitted within.
+    let level = c.args.level.now in
+    c.nothing.ensures false (has n)
+    ∙ ap (λ (d : Condition). unless (value (has n) d) (Some [])) condition_of-True
+    ∙ below_none (macros_in n level) level.left (active_in level) (items_at (has n) c.args.items.now) c.if-level-eq0.true
+
+pub deeper-returns-clause-given : goal.deeper-returns-clause-given
+deeper-returns-clause-given g t c = λ n admitted within.
+    let level = c.args.level.now in
+    below_is (macros_in n level) level.left (level.left - 1) (active_in level) (items_at (has n) c.args.items.now) (given_at false (has n) c.in_ok-f.f) (omega arith)
+    (c.in_ok-f.ensures.given false n admitted within (λ e. cc))
+
+pub replacement-returns-clause-given : goal.replacement-returns-clause-given
+unfolding given_at
+replacement-returns-clause-given g t c = λ n first last admitted within name.
+    let level = c.args.level.now in
+    let f = c.in_ok-f.f in
+    let names : map (λ (t : Bor Token). t.now.text.items) c.as_slice.result.now ≡ first.text ∷ active_in level =
+    ap (map (λ (t : Bor Token). t.now.text.items)) c.as_slice.ensures.value ∙ c.in_ok-names.ensures ∙ ap (λ (t : List ℕ). t ∷ active_in level) (sym name) in
+    let found = deeper_in n level (first.text ∷ active_in level) (items_at (has n) c.args.body.now) in
+    let given : given_at false (has n) f ≡ cores_of found = c.in_ok-f.ensures.given n admitted within ∙ ap (λ (a : List (List ℕ)). cores_of (deeper_in n level a (items_at (has n) c.args.body.now))) names in
+    c.in_ok-f-2.ensures false n
+    ∙ left_open_is (macros_in n level) first last (value (has n) (condition_of f.refused)) (items_at (has n) f.items.items) found given
+
+-- ---- arguments
+
+pub arguments_replaced-loop-argument-init : goal.arguments_replaced-loop-argument-init
+arguments_replaced-loop-argument-init g t c = record {
+  kept = refl;
+  replaced = λ n admitted within.
+      let all = all_cores_of (spec.all_replaced (deeper_in n c.args.level.now) (active_in c.args.level.now) (lists_at (has n) c.args.arguments.now)) in
+      ap (λ (d : Condition). behind_lists (unless_any (value (has n) d) (map cores (lists_at (has n) c.in_ok-with_capacity.field-0.items))) all) condition_of-False
+      ∙ ap (λ (l : List (Vec (Guarded Item) Global)). behind_lists (Some (map cores (lists_at (has n) l))) all) c.in_ok-with_capacity.ensures.items
+      ∙ replaced_init all;
+}
+
+pub arguments_replaced-loop-argument-preserved : goal.arguments_replaced-loop-argument-preserved
+arguments_replaced-loop-argument-preserved g t c = record {
+  kept = c.in_ok-f.ensures.kept ∙ c.loop-argument.invariant.kept;
+  replaced = λ n admitted within.
+      let level = c.args.level.now in
+      replaced_step (has n) (deeper_in n level) (active_in level) c.args.arguments.now c.argument-item.result c.loop-argument.argument-index (replaced_at (has n) c.loop-argument.replaced) (replaced_at (has n) c.add.new.self)
+      (all_cores_of (spec.all_replaced (deeper_in n level) (active_in level) (lists_at (has n) c.args.arguments.now))) (given_at false (has n) c.in_ok-f.f) c.loop-argument-test.true c.argument-item.is
+      (c.in_ok-add.ensures (has n))
+      (c.in_ok-f.ensures.given n (rw c.loop-argument.invariant.kept admitted) within ∙ ap (λ (l : List (Guarded Item)). cores_of (deeper_in n level (active_in level) (items_at (has n) l))) c.as_slice.ensures.value)
+      (c.loop-argument.invariant.replaced n admitted within);
+}
+
+pub arguments_replaced-returns-clause-replaced : goal.arguments_replaced-returns-clause-replaced
+arguments_replaced-returns-clause-replaced g t c = λ n admitted within.
+    let level = c.args.level.now in
+    replaced_end (has n) (deeper_in n level) (active_in level) c.args.arguments.now c.loop-argument.argument-index (replaced_at (has n) c.loop-argument.replaced) (all_cores_of (spec.all_replaced (deeper_in n level) (active_in level) (lists_at (has n) c.args.arguments.now)))
+    (omega arith) (c.loop-argument.invariant.replaced n admitted within)
+
+-- ---- lists
+
+pub turn-returns-clause-read : goal.turn-returns-clause-read
+unfolding run_at
+turn-returns-clause-read g t c = λ exact n becomes admitted within own before.
+    let level = c.args.level.now in
+    let entry = c.args.entry.now in
+    let old = c.args.run.now in
+    step_reads exact (macros_in n level) (deeper_in n level) (active_in level) (value (has n) (condition_of old.refused)) (record { done = map (looked exact) (items_at (has n) old.done.items); open_calls = calls_at (has n) old.calls.items })
+    (value (has n) (condition_of entry.when)) (value (has n) (condition_of c.in_ok-outside.outside)) (item_at (has n) entry.what) (plain_token entry.what.token.now) (items_at (has n) c.args.rest.now) becomes
+    (run_at exact (has n) c.inside_turn.new.run) (run_at exact (has n) c.outside_turn.new.run)
+    (λ e. sym ((own e).token (has n))) (c.in_ok-outside.ensures.outside (has n)) (c.in_ok-outside.ensures.read exact n admitted within) (c.in_ok-outside_turn.ensures.read exact n (rw c.in_ok-outside.ensures.kept admitted) within) before
+
+pub replaced_list-loop-i-init : goal.replaced_list-loop-i-init
+replaced_list-loop-i-init g t c = record {
+  kept = refl;
+  reads = λ exact n admitted within own.
+      let level = c.args.level.now in
+      let items = items_at (has n) c.args.items.now in
+      subst (λ (p : Option Piece). Reads exact (macros_in n level) (deeper_in n level) (active_in level) p items (look exact (spec.outside (macros_in n level) (deeper_in n level) (active_in level) items)))
+      (sym (c.begun-run.ensures exact (has n))) (begin_reads exact (macros_in n level) (deeper_in n level) (active_in level) items);
+}
+
+pub replaced_list-loop-i-preserved : goal.replaced_list-loop-i-preserved
+replaced_list-loop-i-preserved g t c = record {
+  kept = c.in_ok-turn.ensures.kept ∙ c.loop-i.invariant.kept;
+  reads = λ exact n admitted within own.
+      let level = c.args.level.now in
+      let items = c.args.items.now in
+      let x = c.index-items-i.result in
+      let rest = c.split_at.result.1.now in
+      let becomes = look exact (spec.outside (macros_in n level) (deeper_in n level) (active_in level) (items_at (has n) items)) in
+      reads_moved exact (macros_in n level) (deeper_in n level) (active_in level) (has n) (drop (c.loop-i.i + 1) items) rest (run_at exact (has n) c.turn.new.run) becomes c.split_at.ensures.back
+      (c.in_ok-turn.ensures.read exact n becomes (rw c.loop-i.invariant.kept admitted) within (λ e. own_at items x c.loop-i.i c.loop-i-test.true c.index-items-i.is (own e))
+      (reads_next exact (macros_in n level) (deeper_in n level) (active_in level) (has n) items rest x c.loop-i.i (run_at exact (has n) c.loop-i.run) becomes c.loop-i-test.true c.index-items-i.is c.split_at.ensures.back (c.loop-i.invariant.reads exact n admitted within own)));
+}
+
+pub replaced_list-returns-clause-given : goal.replaced_list-returns-clause-given
+replaced_list-returns-clause-given g t c = λ exact n admitted within own.
+    let level = c.args.level.now in
+    let items = c.args.items.now in
+    c.in_ok-f.ensures exact (has n)
+    ∙ reads_done exact (macros_in n level) (deeper_in n level) (active_in level) (has n) items c.loop-i.i (run_at exact (has n) c.loop-i.run) (look exact (spec.outside (macros_in n level) (deeper_in n level) (active_in level) (items_at (has n) items)))
+    (omega arith) (c.loop-i.invariant.reads exact n admitted within own)
+
+-- ---- calls
+
+pub called-returns-then-is_none-clause-given : goal.called-returns-then-is_none-clause-given
+unfolding call_at
+called-returns-then-is_none-clause-given g t c = λ n last admitted within opened.
+    let level = c.args.level.now in
+    let call = call_at (has n) c.args.call in
+    let fs = seen (has n) (entries_of plain_function c.args.call.functions.items) in
+    let single = single_is fs (c.args.call.single n opened) in
+    let f = or_function fs in
+    let arguments : lists_at (has n) c.as_slice-2.result.now ≡ spec.all_arguments call = ap (λ (l : List (Vec (Guarded Item) Global)). lists_at (has n) l) c.as_slice-2.ensures.value ∙ c.in_ok-arguments.ensures (has n) in
+    let given : seen (has n) (entries_of plain_function c.as_slice.result.now) ≡ f ∷ [] = ap (λ (l : List (Guarded Function)). seen (has n) (entries_of plain_function l)) c.as_slice.ensures.value ∙ single in
+    let unfit : value (has n) (condition_of c.in_ok-fit.fit.unfit) ≡ not (spec.fits f.params (spec.all_arguments call)) =
+    c.in_ok-fit.ensures.unfit (has n) ∙ unfit_alone f (lists_at (has n) c.as_slice-2.result.now) (seen (has n) (entries_of plain_function c.as_slice.result.now)) given
+    ∙ ap (λ (l : List (List spec.Item)). not (spec.fits f.params l)) arguments in
+    let none : spec.fits f.params (spec.all_arguments call) ≡ false =
+    ap (spec.fits f.params) (sym arguments)
+    ∙ unfit_if_none f (lists_at (has n) c.as_slice-2.result.now) (seen (has n) (entries_of plain_function c.as_slice.result.now)) given
+    (sym (c.in_ok-fit.ensures.functions (has n)) ∙ ap (λ (l : List (Guarded Function)). seen (has n) (entries_of plain_function l)) (c.is_none.ensures c.if-is_none.true)) in
+    c.nothing.ensures false (has n)
+    ∙ call_unfit (macros_in n level) (deeper_in n level) (below_alike (macros_in n level) level.left) (active_in level) call last (value (has n) (condition_of c.in_ok-fit.fit.unfit)) (Some []) unfit none
+
+pub called-returns-clause-given : goal.called-returns-clause-given
+unfolding call_at
+called-returns-clause-given g t c = λ n last admitted within opened.
+    let level = c.args.level.now in
+    let call = call_at (has n) c.args.call in
+    let fs = seen (has n) (entries_of plain_function c.args.call.functions.items) in
+    let single = single_is fs (c.args.call.single n opened) in
+    let f = or_function fs in
+    let name = plain_token c.args.call.name.token.now in
+    let replaced = c.in_ok-replaced.replaced in
+    let arguments : lists_at (has n) c.in_ok-arguments.arguments.items ≡ spec.all_arguments call = c.in_ok-arguments.ensures (has n) in
+    let slice : lists_at (has n) c.as_slice-2.result.now ≡ spec.all_arguments call = ap (λ (l : List (Vec (Guarded Item) Global)). lists_at (has n) l) c.as_slice-2.ensures.value ∙ arguments in
+    let given : seen (has n) (entries_of plain_function c.as_slice.result.now) ≡ f ∷ [] = ap (λ (l : List (Guarded Function)). seen (has n) (entries_of plain_function l)) c.as_slice.ensures.value ∙ single in
+    let unfit : value (has n) (condition_of c.in_ok-fit.fit.unfit) ≡ not (spec.fits f.params (spec.all_arguments call)) =
+    c.in_ok-fit.ensures.unfit (has n) ∙ unfit_alone f (lists_at (has n) c.as_slice-2.result.now) (seen (has n) (entries_of plain_function c.as_slice.result.now)) given
+    ∙ ap (λ (l : List (List spec.Item)). not (spec.fits f.params l)) slice in
+    let inside : IsTrue (value (has n) (condition_of c.in_ok-within.within)) = both_true (is_within n level) (value (has n) (condition_of c.args.call.when)) (value (has n) (condition_of c.in_ok-within.within)) (c.in_ok-within.ensures (has n)) within opened in
+    let all : replaced_at (has n) replaced ≡ all_cores_of (spec.all_replaced (deeper_in n level) (active_in level) (spec.all_arguments call)) =
+    c.in_ok-replaced.ensures.replaced n admitted inside
+    ∙ ap (λ (l : List (List spec.Item)). all_cores_of (spec.all_replaced (deeper_in n level) (active_in level) l)) (ap (λ (l : List (Vec (Guarded Item) Global)). lists_at (has n) l) c.as_slice-3.ensures.value ∙ arguments) in
+    let body : spec.fits f.params (spec.all_arguments call) ≡ true → cores (items_at (has n) c.as_slice-6.result.now) ≡ cores (spec.substituted f.params (lists_at (has n) replaced.lists.items) f.body) = λ fit.
+    ap (λ (l : List (Guarded Item)). cores (items_at (has n) l)) c.as_slice-6.ensures.value
+    ∙ c.in_ok-body.ensures (has n) f
+    (ap (λ (l : List (Guarded Function)). seen (has n) (entries_of plain_function l)) c.as_slice-4.ensures.value ∙ c.in_ok-fit.ensures.functions (has n)
+    ∙ fit_alone f (lists_at (has n) c.as_slice-2.result.now) (seen (has n) (entries_of plain_function c.as_slice.result.now)) given (ap (spec.fits f.params) slice ∙ fit))
+    ∙ ap (λ (l : List (Vec (Guarded Item) Global)). cores (spec.substituted f.params (lists_at (has n) l) f.body)) c.as_slice-5.ensures.value in
+    c.in_ok-f-3.ensures false (has n)
+    ∙ ap (unless (value (has n) (condition_of c.in_ok-fit.fit.unfit))) (c.in_ok-f-2.ensures false (has n))
+    ∙ call_given (macros_in n level) (deeper_in n level) (below_alike (macros_in n level) level.left) (active_in level) call name name last (value (has n) (condition_of c.in_ok-fit.fit.unfit)) (value (has n) (condition_of replaced.refused)) (lists_at (has n) replaced.lists.items)
+    (items_at (has n) c.as_slice-6.result.now) (given_at false (has n) c.in_ok-f.f) (sym (item_text (has n) c.args.call.name)) unfit all body
+    (c.in_ok-f.ensures.given n name name (rw c.in_ok-replaced.ensures.kept admitted) inside refl)
+
+-- ---- items in opened calls
+
+pub present_turn-returns-then-not-possible-clause-read : goal.present_turn-returns-then-not-possible-clause-read
+present_turn-returns-then-not-possible-clause-read g t c = λ exact n admitted within.
+    unseen (run_at exact (has n) c.args.run.now) (value (has n) (condition_of c.args.call.when)) _ (c.in_ok-possible.ensures.no c.if-not-possible.true n admitted within)
+
+pub present_turn-returns-then-is_closed_by-clause-read : goal.present_turn-returns-then-is_closed_by-clause-read
+present_turn-returns-then-is_closed_by-clause-read g t c = λ exact n admitted within.
+    let level = c.args.level.now in
+    let item = item_at (has n) c.args.item.now in
+    let held = held_at (has n) c.args.call in
+    let own = plain_token c.args.item.now.token.now in
+    ends_piece exact (macros_in n level) (deeper_in n level) (active_in level) (run_at exact (has n) c.args.run.now) (run_at exact (has n) c.take.new.self) (value (has n) (condition_of c.args.call.when)) held item own (given_at false (has n) c.in_ok-given.given)
+    (progress_ends held.call item (sym (c.is_closed_by.ensures (has n)) ∙ c.if-is_closed_by.true))
+    (λ opened. c.in_ok-given.ensures.given n item.token (rw c.in_ok-possible.ensures.kept admitted) within opened)
+    (c.in_ok-take.ensures exact (has n) ∙ ap (λ (d : Condition). also (run_at exact (has n) c.args.run.now) (under_piece (value (has n) d) (given_piece exact (brought_again held.first own (given_at false (has n) c.in_ok-given.given))))) c.in_ok-when.ensures)
+
+pub present_turn-read-requires : goal.present_turn-read-requires
+present_turn-read-requires g t c = λ on.
+    ap (λ (i : spec.Item). closes (call_at on c.args.call) i.token) (c.in_ok-try_clone.ensures.item on) ∙ sym (c.is_closed_by.ensures on) ∙ c.if-is_closed_by.false
+
+pub present_turn-returns-clause-read : goal.present_turn-returns-clause-read
+present_turn-returns-clause-read g t c = λ exact n admitted within.
+    let level = c.args.level.now in
+    let item = item_at (has n) c.args.item.now in
+    let held = held_at (has n) c.args.call in
+    goes_piece exact (macros_in n level) (deeper_in n level) (active_in level) (run_at exact (has n) c.args.run.now) (run_at exact (has n) c.push_call.new.self) (value (has n) (condition_of c.args.call.when)) (value (has n) (condition_of c.read.new.self.when)) held
+    (call_at (has n) c.read.new.self) (plain_token c.read.new.self.name.token.now) item (plain_token c.args.item.now.token.now)
+    (c.in_ok-read.ensures.call (has n) ∙ ap (λ (i : spec.Item). spec.progress held.call i) (c.in_ok-try_clone.ensures.item (has n)))
+    (ap (λ (i : Item). plain_token i.token.now) c.in_ok-read.ensures.name)
+    (ap (value (has n)) c.in_ok-read.ensures.when) (c.in_ok-push_call.ensures exact (has n))
+
+pub call_turn-returns-then-not-is_split_by-clause-read : goal.call_turn-returns-then-not-is_split_by-clause-read
+call_turn-returns-then-not-is_split_by-clause-read g t c = λ exact n admitted within.
+    let level = c.args.level.now in
+    let entry = c.args.entry.now in
+    let item = item_at (has n) entry.what in
+    let held = held_at (has n) c.args.call in
+    lengthened exact (macros_in n level) (deeper_in n level) (active_in level) (run_at exact (has n) c.args.run.now) (run_at exact (has n) c.push_call.new.self) (value (has n) (condition_of c.args.call.when)) (value (has n) (condition_of c.lengthen.new.self.when)) (value (has n) (condition_of entry.when)) held
+    (call_at (has n) c.lengthen.new.self) (plain_token c.lengthen.new.self.name.token.now) item (plain_token entry.what.token.now)
+    (c.is_split_by.ensures c.if-not-is_split_by.true (has n))
+    (c.in_ok-lengthen.ensures.call (has n)
+    ∙ ap (λ (d : Condition). if value (has n) d then spec.with_item held.call (item_at (has n) c.in_ok-try_clone-2.field-0) else held.call) c.in_ok-try_clone.ensures
+    ∙ ap (λ (i : spec.Item). if value (has n) (condition_of entry.when) then spec.with_item held.call i else held.call) (c.in_ok-try_clone-2.ensures.item (has n)))
+    (ap (λ (i : Item). plain_token i.token.now) c.in_ok-lengthen.ensures.name)
+    (ap (value (has n)) c.in_ok-lengthen.ensures.when) (c.in_ok-push_call.ensures exact (has n))
+
+pub call_turn-push_copy-requires : goal.call_turn-push_copy-requires
+call_turn-push_copy-requires g t c = λ n e.
+    both_first (value (has n) (condition_of c.args.call.when)) (not (value (has n) (condition_of c.args.entry.now.when)))
+    (sym (c.in_ok-elsewhere.ensures (has n) ∙ ap (λ (d : Condition). value (has n) d && not (value (has n) (condition_of c.args.entry.now.when))) c.in_ok-try_clone-3.ensures) ∙ e)
+
+pub call_turn-narrowed-call-requires : goal.call_turn-narrowed-call-requires
+call_turn-narrowed-call-requires g t c = λ n e. both_first (value (has n) (condition_of c.args.call.when)) (value (has n) (condition_of c.args.entry.now.when)) (sym (c.in_ok-here.ensures (has n)) ∙ e)
+
+pub call_turn-returns-clause-read : goal.call_turn-returns-clause-read
+call_turn-returns-clause-read g t c = λ exact n admitted within.
+    let level = c.args.level.now in
+    let entry = c.args.entry.now in
+    let item = item_at (has n) entry.what in
+    let held = held_at (has n) c.args.call in
+    let w = value (has n) (condition_of c.args.call.when) in
+    let another = held_at (has n) c.narrowed-call.result in
+    parted exact (macros_in n level) (deeper_in n level) (active_in level) (run_at exact (has n) c.args.run.now) (run_at exact (has n) c.push_copy.new.run) (run_at exact (has n) c.present_turn.new.run) w (value (has n) (condition_of entry.when))
+    (value (has n) (condition_of c.in_ok-elsewhere.elsewhere)) (value (has n) (condition_of c.narrowed-call.result.when)) held held another item (plain_token entry.what.token.now)
+    (c.in_ok-elsewhere.ensures (has n) ∙ ap (λ (d : Condition). value (has n) d && not (value (has n) (condition_of entry.when))) c.in_ok-try_clone-3.ensures)
+    (ap (value (has n)) c.narrowed-call.ensures.when ∙ c.in_ok-here.ensures (has n)) refl
+    (ap (λ (k : spec.Call). record { call = k; first = another.first }) (c.narrowed-call.ensures.call (has n)) ∙ ap (λ (i : Item). record { call = held.call; first = plain_token i.token.now }) c.narrowed-call.ensures.name)
+    (c.in_ok-push_copy.ensures.read exact n admitted within) (c.in_ok-present_turn.ensures.read exact n (rw c.in_ok-push_copy.ensures.kept admitted) within)
+
+pub inside_turn-loop-call-init : goal.inside_turn-loop-call-init
+inside_turn-loop-call-init g t c = record {
+  kept = refl;
+  outside = λ on. ap (value on) c.in_ok-outside.ensures ∙ and_true (value on (condition_of c.args.entry.now.when));
+  read = λ exact n admitted within. c.taken_calls-calls.ensures.rest exact (has n) ∙ sym (also-nothing (without_calls (run_at exact (has n) c.args.run.now)));
+}
+
+pub inside_turn-loop-call-preserved : goal.inside_turn-loop-call-preserved
+inside_turn-loop-call-preserved g t c = record {
+  kept = c.in_ok-call_turn.ensures.kept ∙ c.loop-call.invariant.kept;
+  outside = λ on.
+      let held = held_at on c.in-Some.call in
+      let w = value on (condition_of c.in-Some.call.when) in
+      let calls = calls_at on c.loop-call.yielded in
+      open_more (value on (condition_of c.args.entry.now.when)) w (value on (condition_of c.loop-call.outside)) (value on (condition_of c.in_ok-outside-2.outside)) held calls (c.loop-call.invariant.outside on) (c.in_ok-outside-2.ensures on)
+      ∙ ap (λ (l : List Held). value on (condition_of c.args.entry.now.when) && not (some_open l)) (sym (calls_pushed on c.loop-call.yielded (c.loop-call.yielded ++ c.in-Some.call ∷ []) c.in-Some.call refl));
+  read = λ exact n admitted within.
+      let level = c.args.level.now in
+      let entry = c.args.entry.now in
+      let held = held_at (has n) c.in-Some.call in
+      let w = value (has n) (condition_of c.in-Some.call.when) in
+      let start = without_calls (run_at exact (has n) c.args.run.now) in
+      turned_more exact (macros_in n level) (deeper_in n level) (active_in level) (value (has n) (condition_of entry.when)) w held (calls_at (has n) c.loop-call.yielded) (item_at (has n) entry.what) (plain_token entry.what.token.now) start
+      (run_at exact (has n) c.loop-call.run) (run_at exact (has n) c.call_turn.new.run) (c.loop-call.invariant.read exact n admitted within) (c.in_ok-call_turn.ensures.read exact n (rw c.loop-call.invariant.kept admitted) within)
+      ∙ ap (λ (l : List Held). also start (turn_pieces exact (macros_in n level) (deeper_in n level) (active_in level) (value (has n) (condition_of entry.when)) l (item_at (has n) entry.what) (plain_token entry.what.token.now)))
+      (sym (calls_pushed (has n) c.loop-call.yielded (c.loop-call.yielded ++ c.in-Some.call ∷ []) c.in-Some.call refl));
+}
+
+-- ---- names outside calls
+
+pub object_turn-returns-then-not-possible-clause-read : goal.object_turn-returns-then-not-possible-clause-read
+object_turn-returns-then-not-possible-clause-read g t c = λ exact n body admitted within is.
+    unseen (run_at exact (has n) c.args.run.now) (value (has n) (condition_of c.args.when.now)) _ (c.in_ok-possible.ensures.no c.if-not-possible.true n admitted within)
+
+pub object_turn-returns-clause-read : goal.object_turn-returns-clause-read
+object_turn-returns-clause-read g t c = λ exact n body admitted within is.
+    let level = c.args.level.now in
+    let item = item_at (has n) c.args.item.now in
+    let own = plain_token c.args.item.now.token.now in
+    given_turn exact (run_at exact (has n) c.args.run.now) (run_at exact (has n) c.take.new.self) (value (has n) (condition_of c.args.when.now)) own own (given_at false (has n) c.in_ok-given.given)
+    (spec.replacement (macros_in n level) (deeper_in n level) (active_in level) item.token item.token (map spec.fresh body))
+    (λ opened.
+    c.in_ok-given.ensures.given n item.token item.token (rw c.in_ok-possible.ensures.kept admitted)
+    (both_true (is_within n level) (value (has n) (condition_of c.args.when.now)) (value (has n) (condition_of c.in_ok-within.within)) (c.in_ok-within.ensures (has n)) within opened)
+    (item_text (has n) c.args.item.now)
+    ∙ replacement_alike (macros_in n level) (deeper_in n level) (below_alike (macros_in n level) level.left) (active_in level) item.token item.token item.token item.token (items_at (has n) c.as_slice.result.now) (map spec.fresh body) refl
+    (ap (λ (l : List (Guarded Item)). cores (items_at (has n) l)) c.as_slice.ensures.value ∙ c.in_ok-body.ensures (has n) (record { params = []; body = body }) (is opened) ∙ ap cores (fresh_substituted [] body)))
+    (c.in_ok-take.ensures exact (has n))
+
+pub name_turn-begin_call-requires : goal.name_turn-begin_call-requires
+name_turn-begin_call-requires g t c = λ n opened.
+    let level = c.args.level.now in
+    let meaning = macros_in n level c.args.item.now.token.now.text.items in
+    let means = c.requires n in
+    ap is_single means.functions
+    ∙ single_if (value (has n) (condition_of c.args.when.now)) (spec.opens (items_at (has n) c.args.rest.now)) meaning
+    (ap (λ (b : Bool). value (has n) (condition_of c.args.when.now) && b)
+    (sym (c.in_ok-calls.ensures (has n) ∙ ap (λ (l : List (Guarded Function)). some_seen (seen (has n) (entries_of plain_function l)) && spec.opens (items_at (has n) c.args.rest.now)) c.as_slice-3.ensures.value
+    ∙ ap (λ (l : List PlainFunction). some_seen l && spec.opens (items_at (has n) c.args.rest.now)) means.functions))
+    ∙ sym (c.in_ok-inner-3.ensures (has n)) ∙ opened)
+
+pub name_turn-returns-clause-read : goal.name_turn-returns-clause-read
+name_turn-returns-clause-read g t c = λ exact n admitted within.
+    let level = c.args.level.now in
+    let on = has n in
+    let item = item_at on c.args.item.now in
+    let own = plain_token c.args.item.now.token.now in
+    let w = value on (condition_of c.args.when.now) in
+    let opens = spec.opens (items_at on c.args.rest.now) in
+    let meaning = macros_in n level c.args.item.now.token.now.text.items in
+    let means = c.requires n in
+    let bodies = seen on (entries_of (λ b. map plain_token b.now) c.args.meanings.objects.items) in
+    let fs : seen on (entries_of plain_function c.in_ok-objects.objects.items) ≡ map without_params (object_of meaning) =
+    c.in_ok-objects.ensures on ∙ ap (λ (l : List (Guarded (Bor (List Token)))). map without_params (seen on (entries_of (λ b. map plain_token b.now) l))) c.as_slice.ensures.value ∙ ap (map without_params) means.objects in
+    let o = value on (condition_of c.in_ok-some.some) in
+    let is_o : o ≡ some_body (object_of meaning) =
+    c.in_ok-some.ensures on ∙ ap (λ (l : List (Guarded Function)). some_holds on (entries_of (λ x. x) l)) c.as_slice-2.ensures.value ∙ holds_is_seen plain_function on c.in_ok-objects.objects.items
+    ∙ ap (λ (l : List PlainFunction). is_some_list l) fs ∙ bodies_hold (object_of meaning) in
+    let k = value on (condition_of c.in_ok-calls.calls) in
+    let is_k : k ≡ (some_seen (function_of meaning) && opens) =
+    c.in_ok-calls.ensures on ∙ ap (λ (l : List (Guarded Function)). some_seen (seen on (entries_of plain_function l)) && opens) c.as_slice-3.ensures.value ∙ ap (λ (l : List PlainFunction). some_seen l && opens) means.functions in
+    let s = run_at exact on c.args.run.now in
+    let after_feature = run_at exact on c.feature_turn.new.run in
+    let after_object = run_at exact on c.object_turn.new.run in
+    let after_call = run_at exact on c.begin_call.new.run in
+    named exact (macros_in n level) (deeper_in n level) (active_in level) s after_feature after_object after_call (run_at exact on c.stay_turn.new.run) w (value on (condition_of c.args.meanings.feature)) o k opens (plain_token level.feature.now) item own meaning
+    (λ other e. level.built_in ∙ feature_is_built_in on level.macros c.args.item.now.token.now.text.items other e)
+    means.feature is_o is_k
+    (c.in_ok-feature_turn.ensures exact on ∙ ap (λ (b : Bool). also s (under_piece b (items_piece exact (spec.brought own own (spec.fresh (plain_token level.feature.now)) ∷ [])))) (c.in_ok-inner.ensures on))
+    (λ body is.
+    c.in_ok-object_turn.ensures.read exact n body admitted within
+    (λ opened. one_object (seen on (entries_of plain_function c.as_slice-4.result.now)) (object_of meaning) body (ap (λ (l : List (Guarded Function)). seen on (entries_of plain_function l)) c.as_slice-4.ensures.value ∙ fs) (is (sym (c.in_ok-inner-2.ensures on) ∙ opened)))
+    ∙ ap (λ (b : Bool). also after_feature (under_piece b (given_piece exact (brought_again own own (spec.replacement (macros_in n level) (deeper_in n level) (active_in level) item.token item.token (map spec.fresh body)))))) (c.in_ok-inner-2.ensures on))
+    (c.in_ok-begin_call.ensures.read exact n (rw c.in_ok-object_turn.ensures.kept admitted) within
+    ∙ ap (λ (b : Bool). also after_object (under_piece b (open_piece (record { call = spec.begun item.token (or_function (seen on (entries_of plain_function c.args.meanings.functions.items))).params (or_function (seen on (entries_of plain_function c.args.meanings.functions.items))).body; first = own } ∷ [])))) (c.in_ok-inner-3.ensures on)
+    ∙ ap (λ (l : List PlainFunction). also after_object (under_piece (w && k) (open_piece (record { call = spec.begun item.token (or_function l).params (or_function l).body; first = own } ∷ [])))) means.functions)
+    (c.in_ok-stay_turn.ensures.read exact n (rw c.in_ok-begin_call.ensures.kept (rw c.in_ok-object_turn.ensures.kept admitted)) within
+    ∙ ap (λ (b : Bool). also after_call (under_piece b (items_piece exact (item ∷ [])))) (c.in_ok-stays.ensures on))
+
+pub outside_turn-returns-then-is_never-clause-read : goal.outside_turn-returns-then-is_never-clause-read
+outside_turn-returns-then-is_never-clause-read g t c = λ exact n admitted within.
+    unseen (run_at exact (has n) c.args.run.now) (value (has n) (condition_of c.args.when)) _ (c.is_never.ensures c.if-is_never.true (has n))
+
+pub outside_turn-returns-then-not-is_name-clause-read : goal.outside_turn-returns-then-not-is_name-clause-read
+outside_turn-returns-then-not-is_name-clause-read g t c = λ exact n admitted within.
+    let level = c.args.level.now in
+    let item = item_at (has n) c.args.item.now in
+    let rest = items_at (has n) c.args.rest.now in
+    let old = run_at exact (has n) c.args.run.now in
+    let w = value (has n) (condition_of c.args.when) in
+    c.in_ok-push_item.ensures exact (has n)
+    ∙ ap (λ (i : spec.Item). also old (under_piece w (items_piece exact (i ∷ [])))) (c.in_ok-try_clone.ensures.item (has n))
+    ∙ ap (λ (p : Option Piece). also old (under_piece w p))
+    (sym (treated_nothing exact (macros_in n level) (deeper_in n level) (active_in level) item (plain_token c.args.item.now.token.now) (spec.is_named_in (active_in level) item.token) (spec.opens rest) (spec.meaning_of (macros_in n level) item)
+    (unnamed_meaning (macros_in n level) item (sym (c.is_name.ensures (has n)) ∙ c.if-not-is_name.true))))
+
+pub outside_turn-returns-then-is_nothing-clause-read : goal.outside_turn-returns-then-is_nothing-clause-read
+outside_turn-returns-then-is_nothing-clause-read g t c = λ exact n admitted within.
+    let level = c.args.level.now in
+    let item = item_at (has n) c.args.item.now in
+    let rest = items_at (has n) c.args.rest.now in
+    let old = run_at exact (has n) c.args.run.now in
+    let w = value (has n) (condition_of c.args.when) in
+    let text = c.args.item.now.token.now.text.items in
+    let means = c.in_ok-meanings.ensures n in
+    let nothing = c.is_nothing.ensures c.if-is_nothing.true (has n) in
+    let none : macros_in n level c.as_slice.result.now ≡ None =
+    no_meaning (macros_in n level c.as_slice.result.now) (sym means.feature ∙ nothing.feature) (sym means.objects ∙ nothing.objects) (sym means.functions ∙ nothing.functions) in
+    c.in_ok-push_item-2.ensures exact (has n)
+    ∙ ap (λ (i : spec.Item). also old (under_piece w (items_piece exact (i ∷ [])))) (c.in_ok-try_clone-2.ensures.item (has n))
+    ∙ ap (λ (p : Option Piece). also old (under_piece w p))
+    (sym (treated_nothing exact (macros_in n level) (deeper_in n level) (active_in level) item (plain_token c.args.item.now.token.now) (spec.is_named_in (active_in level) item.token) (spec.opens rest) (spec.meaning_of (macros_in n level) item)
+    (named_meaning (macros_in n level) item c.as_slice.result.now (item_text (has n) c.args.item.now ∙ sym c.as_slice.ensures.value) (sym (c.is_name.ensures (has n)) ∙ c.if-not-is_name.false) ∙ none)))
+
+pub outside_turn-returns-then-is_active-clause-read : goal.outside_turn-returns-then-is_active-clause-read
+outside_turn-returns-then-is_active-clause-read g t c = λ exact n admitted within.
+    let level = c.args.level.now in
+    let item = item_at (has n) c.args.item.now in
+    let rest = items_at (has n) c.args.rest.now in
+    let own = plain_token c.args.item.now.token.now in
+    let old = run_at exact (has n) c.args.run.now in
+    let w = value (has n) (condition_of c.args.when) in
+    let meaning = macros_in n level c.as_slice.result.now in
+    let known : spec.meaning_of (macros_in n level) item ≡ meaning =
+    named_meaning (macros_in n level) item c.as_slice.result.now (item_text (has n) c.args.item.now ∙ sym c.as_slice.ensures.value) (sym (c.is_name.ensures (has n)) ∙ c.if-not-is_name.false) in
+    let is_active : spec.is_named_in (active_in level) item.token ≡ true = sym (c.is_active.ensures (has n)) ∙ c.if-is_active.true in
+    c.in_ok-active_turn.ensures exact (has n) meaning (c.in_ok-meanings.ensures n)
+    ∙ ap (λ (p : Option Piece). also old (under_piece w p))
+    (sym (ap (λ (b : Bool). outside_piece exact (macros_in n level) (deeper_in n level) (active_in level) item own (spec.treatment item b (spec.opens rest) (spec.meaning_of (macros_in n level) item))) is_active
+    ∙ treated_active exact (macros_in n level) (deeper_in n level) (active_in level) item own (spec.opens rest) (spec.meaning_of (macros_in n level) item)
+    ∙ ap (λ (m : Option spec.Meaning). items_piece exact (kept_item (is_some m) item ∷ [])) known))
+
+pub outside_turn-returns-clause-read : goal.outside_turn-returns-clause-read
+outside_turn-returns-clause-read g t c = λ exact n admitted within.
+    let level = c.args.level.now in
+    let item = item_at (has n) c.args.item.now in
+    let rest = items_at (has n) c.args.rest.now in
+    let own = plain_token c.args.item.now.token.now in
+    let old = run_at exact (has n) c.args.run.now in
+    let w = value (has n) (condition_of c.args.when) in
+    let text = c.args.item.now.token.now.text.items in
+    let known : spec.meaning_of (macros_in n level) item ≡ macros_in n level text =
+    named_meaning (macros_in n level) item text (item_text (has n) c.args.item.now) (sym (c.is_name.ensures (has n)) ∙ c.if-not-is_name.false) in
+    let is_active : spec.is_named_in (active_in level) item.token ≡ false = sym (c.is_active.ensures (has n)) ∙ c.if-is_active.false in
+    c.in_ok-name_turn.ensures.read exact n admitted within
+    ∙ ap (λ (m : Option spec.Meaning). also old (under_piece w (outside_piece exact (macros_in n level) (deeper_in n level) (active_in level) item own (spec.treatment item false (spec.opens rest) m)))) (sym known)
+    ∙ ap (λ (b : Bool). also old (under_piece w (outside_piece exact (macros_in n level) (deeper_in n level) (active_in level) item own (spec.treatment item b (spec.opens rest) (spec.meaning_of (macros_in n level) item))))) (sym is_active)

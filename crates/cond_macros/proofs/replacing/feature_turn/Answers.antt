@@ -1,0 +1,20 @@
+use Rattle.std.proofs.Common.{[], ◌∷◌, ap, ◌∙◌}
+use Rattle.c_text.specs.Token.{plain_token}
+use Rattle.c_text.specs.Macros as spec
+use Rattle.cond_formula.specs.Conditions.{condition_of, value}
+use Rattle.cond_macros.specs.CondRuns.{run_at}
+use Rattle.cond_macros.specs.Pieces.{also, under_piece, items_piece}
+use Rattle.cond_macros.proofs.TurnLemmas.{unseen}
+use Rattle.cond_macros.proofs.replacing.feature_turn.Goals as goal
+
+pub returns-then-is_never : goal.returns-then-is_never
+returns-then-is_never c = λ exact on.
+    let own = plain_token c.args.item.now.token.now in
+    unseen (run_at exact on c.args.run.now) (value on (condition_of c.args.when)) (items_piece exact (spec.brought own own (spec.fresh (plain_token c.args.level.now.feature.now)) ∷ [])) (c.is_never.ensures c.if-is_never.true on)
+
+pub returns : goal.returns
+returns c = λ exact on.
+    let own = plain_token c.args.item.now.token.now in
+    c.in_ok-push_item.ensures exact on
+    ∙ ap (λ (i : spec.Item). also (run_at exact on c.args.run.now) (under_piece (value on (condition_of c.args.when)) (items_piece exact (i ∷ []))))
+    (c.in_ok-brought.ensures on ∙ ap (spec.brought own own) (c.fresh-fresh.ensures.item on))

@@ -1,0 +1,549 @@
+//! The recursion of macro replacement: a list, and the lists of bodies and arguments one level below (6.10.3.4).
+ghost use Rattle.std.specs.Prelude.{◌≡◌, ℕ, Bool, true, false, not, ◌&&◌, List, [], ◌∷◌, map, Option, is_some, if◌then◌else◌, IsTrue, IfOk, OnOk};
+ghost use Rattle.c_text.specs.Token.{PlainToken, plain_token};
+ghost use Rattle.c_text.specs.Macros as spec;
+ghost use Rattle.cond_formula.specs.Features.{has};
+ghost use Rattle.cond_formula.specs.Conditions.{condition_of, value};
+ghost use Rattle.conditional.specs.Entries.{entries_of, seen};
+ghost use Rattle.cond_bodies.specs.CondItems.{item_at, items_at};
+ghost use Rattle.cond_bodies.specs.CondMeanings.{Means, plain_function};
+ghost use Rattle.cond_macros.specs.Functions.{is_single, or_function, some_seen, without_params, kept_item};
+ghost use Rattle.cond_macros.specs.CondArguments.{lists_at};
+ghost use Rattle.cond_macros.specs.CondCalls.{call_at, calls_at, held_at};
+ghost use Rattle.cond_macros.specs.CondFinished.{given_at};
+ghost use Rattle.cond_macros.specs.CondRuns.{run_at};
+ghost use Rattle.cond_macros.specs.CondLevels.{macros_in, active_in, deeper_in, is_within, replaced_at};
+ghost use Rattle.cond_macros.specs.Below.{cores_of, all_cores_of, behind_lists, one_list};
+ghost use Rattle.cond_macros.specs.Owned.{IsOwn, AreOwn};
+ghost use Rattle.cond_macros.specs.Readings.{look, Reads};
+ghost use Rattle.cond_macros.specs.Pieces.{also, under_piece, items_piece, given_piece, open_piece, brought_again, some_open, without_calls, turn_piece, turn_pieces, outside_piece};
+
+use crate::arguments::all_fitting;
+use crate::calls::{Call, all_arguments};
+use crate::finished::Finished;
+use crate::runs::Run;
+use c_text::Token;
+use cond_bodies::{
+    Function, Item, Level, Meanings, inner, is_active, joined_body, may, meanings_of, when_opens,
+    when_some,
+};
+use cond_formula::{Formula, NoMemory, Oracle};
+use conditional::Guarded;
+use reduced_conditions::{both, either, is_never, without};
+use std::alloc::Global;
+use std::mem;
+
+/// The arguments of a call, each replaced by itself, and where one is refused.
+#[derive(Drop)]
+pub struct Replaced<'t> {
+    pub lists: Vec<Vec<Guarded<Item<'t>>>>,
+    pub refused: Formula,
+}
+
+impl<'t> Replaced<'t> {
+    // One more argument.
+    #[tactic(auto, unfolding(crate::specs::CondFinished::given_at))]
+    fn add(&mut self, alloc: Global, argument: Finished<'t>) -> Result<(), NoMemory>
+        ensures { OnOk result ((on : ℕ → Bool) → replaced_at on self.new ≡ behind_lists (replaced_at on self.old) (one_list (given_at false on argument.entry))) }
+    {
+        let Finished { items, refused } = argument;
+        self.lists.push(items)?;
+        let before = mem::replace(&mut self.refused, Formula::False);
+        let refused = either(alloc, before, refused)?;
+        self.refused = refused;
+        Ok(())
+    }
+}
+
+fn with_name<'t>(
+    alloc: Global,
+    name: &'t Token,
+    active: &[&'t Token],
+) -> Result<Vec<&'t Token>, NoMemory>
+    ensures { IfOk result (λ names. map (λ n. n.now.text.items) names.items ≡ name.now.text.items ∷ map (λ n. n.now.text.items) active.now) }
+{
+    let mut names = Vec::new(alloc);
+    names.push(name)?;
+    names.extend_from_slice(active)?;
+    Ok(names)
+}
+
+// A list one level below.
+#[cycle(lists)]
+fn deeper<'t, O: Oracle>(
+    level: &Level<'t, '_>,
+    oracle: &mut O,
+    items: &[Guarded<Item<'t>>],
+) -> Result<Finished<'t>, NoMemory>
+    ensures kept { O.admits oracle.new ≡ O.admits oracle.old }
+    ensures given { IfOk result (λ f. (c : List Bool) → IsTrue (value (has c) (O.admits oracle.old)) → IsTrue (is_within c level.now) → given_at false (has c) f ≡ cores_of (deeper_in c level.now (active_in level.now) (items_at (has c) items.now))) }
+{
+    if level.left == 0 {
+        return Ok(Finished::nothing(level.alloc, Formula::True));
+    }
+    let inner = Level {
+        alloc: level.alloc,
+        macros: level.macros,
+        feature: level.feature,
+        active: level.active,
+        left: level.left - 1,
+        within: level.within,
+    };
+    let f = replaced_list(&inner, oracle, items)?;
+    Ok(f)
+}
+
+// What replaces a name whose bodies, with their arguments, are this list.
+#[cycle(lists)]
+fn replacement<'t, O: Oracle>(
+    level: &Level<'t, '_>,
+    oracle: &mut O,
+    name: &'t Token,
+    within: &Formula,
+    body: &[Guarded<Item<'t>>],
+) -> Result<Finished<'t>, NoMemory>
+    ensures kept { O.admits oracle.new ≡ O.admits oracle.old }
+    ensures given { IfOk result (λ f. (c : List Bool) (first last : PlainToken) → IsTrue (value (has c) (O.admits oracle.old)) → IsTrue (value (has c) (condition_of within.now)) → first.text ≡ name.now.text.items → given_at false (has c) f ≡ cores_of (spec.replacement (macros_in c level.now) (deeper_in c level.now) (active_in level.now) first last (items_at (has c) body.now))) }
+{
+    let names = with_name(level.alloc, name, level.active)?;
+    let inner = Level {
+        alloc: level.alloc,
+        macros: level.macros,
+        feature: level.feature,
+        active: names.as_slice(),
+        left: level.left,
+        within,
+    };
+    let f = deeper(&inner, oracle, body)?;
+    let f = f.unless_left_open(level.alloc, &level.macros)?;
+    Ok(f)
+}
+
+// The arguments of a call, each replaced by itself.
+#[cycle(lists)]
+fn arguments_replaced<'t, O: Oracle>(
+    level: &Level<'t, '_>,
+    oracle: &mut O,
+    within: &Formula,
+    arguments: &[Vec<Guarded<Item<'t>>>],
+) -> Result<Replaced<'t>, NoMemory>
+    ensures kept { O.admits oracle.new ≡ O.admits oracle.old }
+    ensures replaced { IfOk result (λ r. (c : List Bool) → IsTrue (value (has c) (O.admits oracle.old)) → IsTrue (value (has c) (condition_of within.now)) → replaced_at (has c) r ≡ all_cores_of (spec.all_replaced (deeper_in c level.now) (active_in level.now) (lists_at (has c) arguments.now))) }
+{
+    let inner = Level {
+        alloc: level.alloc,
+        macros: level.macros,
+        feature: level.feature,
+        active: level.active,
+        left: level.left,
+        within,
+    };
+    let mut replaced = Replaced {
+        lists: Vec::with_capacity(level.alloc, arguments.len())?,
+        refused: Formula::False,
+    };
+    for argument in arguments {
+        let f = deeper(&inner, oracle, argument.as_slice())?;
+        replaced.add(level.alloc, f)?;
+    }
+    Ok(replaced)
+}
+
+// What a call brings, where it is open and ends.
+#[cycle(lists)]
+fn called<'t, O: Oracle>(
+    level: &Level<'t, '_>,
+    oracle: &mut O,
+    call: Call<'t>,
+) -> Result<Finished<'t>, NoMemory>
+    ensures kept { O.admits oracle.new ≡ O.admits oracle.old }
+    ensures given { IfOk result (λ f. (c : List Bool) (last : PlainToken) → IsTrue (value (has c) (O.admits oracle.old)) → IsTrue (is_within c level.now) → value (has c) (condition_of call.entry.when) ≡ true → given_at false (has c) f ≡ cores_of (spec.call_replacement (macros_in c level.now) (deeper_in c level.now) (active_in level.now) (call_at (has c) call.entry) last)) }
+{
+    let alloc = level.alloc;
+    let name = call.name.token;
+    let within = inner(alloc, level.within, &call.when)?;
+    let functions = call.functions;
+    let arguments = all_arguments(call.arguments, call.last)?;
+    let fit = all_fitting(alloc, functions.as_slice(), arguments.as_slice())?;
+    if fit.is_none() {
+        return Ok(Finished::nothing(alloc, fit.unfit));
+    }
+    let replaced = arguments_replaced(level, oracle, &within, arguments.as_slice())?;
+    let body = joined_body(alloc, fit.functions.as_slice(), replaced.lists.as_slice())?;
+    let f = replacement(level, oracle, name, &within, body.as_slice())?;
+    let f = f.refused_too(alloc, replaced.refused)?;
+    let f = f.refused_too(alloc, fit.unfit)?;
+    Ok(f)
+}
+
+// Reads an item that ends a call or goes on with it, where the call is open and the item is present.
+#[cycle(lists)]
+fn present_turn<'t, O: Oracle>(
+    level: &Level<'t, '_>,
+    oracle: &mut O,
+    run: &mut Run<'t>,
+    mut call: Call<'t>,
+    item: &Item<'t>,
+) -> Result<(), NoMemory>
+    ensures kept { O.admits oracle.new ≡ O.admits oracle.old }
+    ensures read { OnOk result ((exact : Bool) (c : List Bool) → IsTrue (value (has c) (O.admits oracle.old)) → IsTrue (is_within c level.now) → run_at exact (has c) run.new ≡ also (run_at exact (has c) run.old) (under_piece (value (has c) (condition_of call.entry.when)) (turn_piece exact (macros_in c level.now) (deeper_in c level.now) (active_in level.now) true (held_at (has c) call.entry) (item_at (has c) item.now) (plain_token item.now.token.now)))) }
+{
+    let alloc = level.alloc;
+    let possible = may(alloc, oracle, level.within, &call.when)?;
+    if !possible {
+        return Ok(());
+    }
+    if call.is_closed_by(item) {
+        let name = call.name.token;
+        let when = call.when.try_clone(alloc)?;
+        let given = called(level, oracle, call)?;
+        run.take(alloc, &when, &given, name, item.token)?;
+        return Ok(());
+    }
+    call.read(alloc, item.try_clone(alloc)?)?;
+    run.push_call(call)?;
+    Ok(())
+}
+
+// The call stays open where the condition holds, which implies its own.
+fn push_copy<'t, O: Oracle>(
+    level: &Level<'t, '_>,
+    oracle: &mut O,
+    run: &mut Run<'t>,
+    call: &Call<'t>,
+    when: Formula,
+) -> Result<(), NoMemory>
+    requires { (c : List Bool) → value (has c) (condition_of when) ≡ true → value (has c) (condition_of call.now.when) ≡ true }
+    ensures kept { O.admits oracle.new ≡ O.admits oracle.old }
+    ensures read { OnOk result ((exact : Bool) (c : List Bool) → IsTrue (value (has c) (O.admits oracle.old)) → IsTrue (is_within c level.now) → run_at exact (has c) run.new ≡ also (run_at exact (has c) run.old) (under_piece (value (has c) (condition_of when)) (open_piece (held_at (has c) call.now ∷ [])))) }
+{
+    let possible = may(level.alloc, oracle, level.within, &when)?;
+    if !possible {
+        return Ok(());
+    }
+    let copy = call.copied(level.alloc, when)?;
+    run.push_call(copy)?;
+    Ok(())
+}
+
+// Reads an item in an open call.
+#[cycle(lists)]
+fn call_turn<'t, O: Oracle>(
+    level: &Level<'t, '_>,
+    oracle: &mut O,
+    run: &mut Run<'t>,
+    mut call: Call<'t>,
+    entry: &Guarded<Item<'t>>,
+) -> Result<(), NoMemory>
+    ensures kept { O.admits oracle.new ≡ O.admits oracle.old }
+    ensures read { OnOk result ((exact : Bool) (c : List Bool) → IsTrue (value (has c) (O.admits oracle.old)) → IsTrue (is_within c level.now) → run_at exact (has c) run.new ≡ also (run_at exact (has c) run.old) (under_piece (value (has c) (condition_of call.entry.when)) (turn_piece exact (macros_in c level.now) (deeper_in c level.now) (active_in level.now) (value (has c) (condition_of entry.now.when)) (held_at (has c) call.entry) (item_at (has c) entry.now.what) (plain_token entry.now.what.token.now)))) }
+{
+    let alloc = level.alloc;
+    if !call.is_split_by(&entry.what) {
+        call.lengthen(entry.when.try_clone(alloc)?, entry.what.try_clone(alloc)?)?;
+        run.push_call(call)?;
+        return Ok(());
+    }
+    let elsewhere = without(alloc, call.when.try_clone(alloc)?, &entry.when)?;
+    push_copy(level, oracle, run, &call, elsewhere)?;
+    let here = inner(alloc, &call.when, &entry.when)?;
+    let call = call.narrowed(here);
+    present_turn(level, oracle, run, call, &entry.what)?;
+    Ok(())
+}
+
+// Reads an item in all calls that are open. The answer is where none is.
+#[cycle(lists)]
+fn inside_turn<'t, O: Oracle>(
+    level: &Level<'t, '_>,
+    oracle: &mut O,
+    run: &mut Run<'t>,
+    entry: &Guarded<Item<'t>>,
+) -> Result<Formula, NoMemory>
+    ensures kept { O.admits oracle.new ≡ O.admits oracle.old }
+    ensures outside { IfOk result (λ f. (on : ℕ → Bool) → value on (condition_of f) ≡ (value on (condition_of entry.now.when) && not (some_open (calls_at on run.old.calls.items)))) }
+    ensures read { IfOk result (λ f. (exact : Bool) (c : List Bool) → IsTrue (value (has c) (O.admits oracle.old)) → IsTrue (is_within c level.now) → run_at exact (has c) run.new ≡ also (without_calls (run_at exact (has c) run.old)) (turn_pieces exact (macros_in c level.now) (deeper_in c level.now) (active_in level.now) (value (has c) (condition_of entry.now.when)) (calls_at (has c) run.old.calls.items) (item_at (has c) entry.now.what) (plain_token entry.now.what.token.now))) }
+{
+    let calls = run.taken_calls(level.alloc);
+    let mut outside = entry.when.try_clone(level.alloc)?;
+    for call in calls {
+        outside = without(level.alloc, outside, &call.when)?;
+        call_turn(level, oracle, run, call, entry)?;
+    }
+    Ok(outside)
+}
+
+// A name that is a feature, where the condition holds.
+fn feature_turn<'t>(
+    level: &Level<'t, '_>,
+    run: &mut Run<'t>,
+    when: Formula,
+    item: &Item<'t>,
+) -> Result<(), NoMemory>
+    ensures { OnOk result ((exact : Bool) (on : ℕ → Bool) → run_at exact on run.new ≡ also (run_at exact on run.old) (under_piece (value on (condition_of when)) (items_piece exact (spec.brought (plain_token item.now.token.now) (plain_token item.now.token.now) (spec.fresh (plain_token level.now.feature.now)) ∷ [])))) }
+{
+    if is_never(&when) {
+        return Ok(());
+    }
+    let fresh = Item::fresh(level.alloc, level.feature);
+    let brought = fresh.brought(level.alloc, item.token, item.token)?;
+    run.push_item(when, brought)?;
+    Ok(())
+}
+
+// A name whose definitions have these bodies, where the condition holds.
+#[cycle(lists)]
+fn object_turn<'t, O: Oracle>(
+    level: &Level<'t, '_>,
+    oracle: &mut O,
+    run: &mut Run<'t>,
+    when: &Formula,
+    item: &Item<'t>,
+    objects: &[Guarded<Function<'t>>],
+) -> Result<(), NoMemory>
+    ensures kept { O.admits oracle.new ≡ O.admits oracle.old }
+    ensures read { OnOk result ((exact : Bool) (c : List Bool) (body : List PlainToken) → IsTrue (value (has c) (O.admits oracle.old)) → IsTrue (is_within c level.now) → (value (has c) (condition_of when.now) ≡ true → seen (has c) (entries_of plain_function objects.now) ≡ record { params = []; body = body } ∷ []) → run_at exact (has c) run.new ≡ also (run_at exact (has c) run.old) (under_piece (value (has c) (condition_of when.now)) (given_piece exact (brought_again (plain_token item.now.token.now) (plain_token item.now.token.now) (spec.replacement (macros_in c level.now) (deeper_in c level.now) (active_in level.now) (item_at (has c) item.now).token (item_at (has c) item.now).token (map spec.fresh body)))))) }
+{
+    let alloc = level.alloc;
+    let possible = may(alloc, oracle, level.within, when)?;
+    if !possible {
+        return Ok(());
+    }
+    let body = joined_body(alloc, objects, &[])?;
+    let within = inner(alloc, level.within, when)?;
+    let given = replacement(level, oracle, item.token, &within, body.as_slice())?;
+    run.take(alloc, when, &given, item.token, item.token)?;
+    Ok(())
+}
+
+// A name of function-like macros before a `(`, where the condition holds.
+fn begin_call<'t, O: Oracle>(
+    level: &Level<'t, '_>,
+    oracle: &mut O,
+    run: &mut Run<'t>,
+    when: Formula,
+    item: &Item<'t>,
+    functions: Vec<Guarded<Function<'t>>>,
+) -> Result<(), NoMemory>
+    requires { (c : List Bool) → value (has c) (condition_of when) ≡ true → is_single (seen (has c) (entries_of plain_function functions.items)) ≡ true }
+    ensures kept { O.admits oracle.new ≡ O.admits oracle.old }
+    ensures read { OnOk result ((exact : Bool) (c : List Bool) → IsTrue (value (has c) (O.admits oracle.old)) → IsTrue (is_within c level.now) → run_at exact (has c) run.new ≡ also (run_at exact (has c) run.old) (under_piece (value (has c) (condition_of when)) (open_piece (record { call = spec.begun (item_at (has c) item.now).token (or_function (seen (has c) (entries_of plain_function functions.entry.items))).params (or_function (seen (has c) (entries_of plain_function functions.entry.items))).body; first = plain_token item.now.token.now } ∷ [])))) }
+{
+    let alloc = level.alloc;
+    let possible = may(alloc, oracle, level.within, &when)?;
+    if !possible {
+        return Ok(());
+    }
+    let call = Call::begun(alloc, when, item.try_clone(alloc)?, functions);
+    run.push_call(call)?;
+    Ok(())
+}
+
+// A name that stays, where the condition holds.
+fn stay_turn<'t, O: Oracle>(
+    level: &Level<'t, '_>,
+    oracle: &mut O,
+    run: &mut Run<'t>,
+    when: Formula,
+    item: &Item<'t>,
+) -> Result<(), NoMemory>
+    ensures kept { O.admits oracle.new ≡ O.admits oracle.old }
+    ensures read { OnOk result ((exact : Bool) (c : List Bool) → IsTrue (value (has c) (O.admits oracle.old)) → IsTrue (is_within c level.now) → run_at exact (has c) run.new ≡ also (run_at exact (has c) run.old) (under_piece (value (has c) (condition_of when)) (items_piece exact (item_at (has c) item.now ∷ [])))) }
+{
+    let possible = may(level.alloc, oracle, level.within, &when)?;
+    if !possible {
+        return Ok(());
+    }
+    run.push_item(when, item.try_clone(level.alloc)?)?;
+    Ok(())
+}
+
+// Where a name of function-like macros begins a call.
+fn when_called<'t>(
+    alloc: Global,
+    functions: &[Guarded<Function<'t>>],
+    rest: &[Guarded<Item<'t>>],
+) -> Result<Formula, NoMemory>
+    ensures { IfOk result (λ f. (on : ℕ → Bool) → value on (condition_of f) ≡ (some_seen (seen on (entries_of plain_function functions.now)) && spec.opens (items_at on rest.now))) }
+{
+    if functions.is_empty() {
+        return Ok(Formula::False);
+    }
+    let some = when_some(alloc, functions)?;
+    let opens = when_opens(alloc, rest)?;
+    let f = both(alloc, some, opens)?;
+    Ok(f)
+}
+
+// Where neither condition holds, nor the third.
+fn when_none(
+    alloc: Global,
+    when: &Formula,
+    first: &Formula,
+    second: &Formula,
+    third: &Formula,
+) -> Result<Formula, NoMemory>
+    ensures { IfOk result (λ f. (on : ℕ → Bool) → value on (condition_of f) ≡ (((value on (condition_of when.now) && not (value on (condition_of first.now))) && not (value on (condition_of second.now))) && not (value on (condition_of third.now)))) }
+{
+    let left = without(alloc, when.try_clone(alloc)?, first)?;
+    let left = without(alloc, left, second)?;
+    let left = without(alloc, left, third)?;
+    Ok(left)
+}
+
+// Object-like macros as functions without parameters.
+fn as_functions<'t>(
+    alloc: Global,
+    objects: &[Guarded<&'t [Token]>],
+) -> Result<Vec<Guarded<Function<'t>>>, NoMemory>
+    ensures { IfOk result (λ functions. (on : ℕ → Bool) → seen on (entries_of plain_function functions.items) ≡ map without_params (seen on (entries_of (λ b. map plain_token b.now) objects.now))) }
+{
+    let mut functions = Vec::with_capacity(alloc, objects.len())?;
+    for object in objects {
+        let what = Function {
+            params: &[],
+            body: object.what,
+        };
+        functions.push(Guarded {
+            when: object.when.try_clone(alloc)?,
+            what,
+        })?;
+    }
+    Ok(functions)
+}
+
+// An item that is a name and isn't active.
+#[cycle(lists)]
+fn name_turn<'t, O: Oracle>(
+    level: &Level<'t, '_>,
+    oracle: &mut O,
+    run: &mut Run<'t>,
+    when: &Formula,
+    item: &Item<'t>,
+    meanings: Meanings<'t>,
+    rest: &[Guarded<Item<'t>>],
+) -> Result<(), NoMemory>
+    requires { (c : List Bool) → Means (has c) (macros_in c level.now item.now.token.now.text.items) meanings }
+    ensures kept { O.admits oracle.new ≡ O.admits oracle.old }
+    ensures read { OnOk result ((exact : Bool) (c : List Bool) → IsTrue (value (has c) (O.admits oracle.old)) → IsTrue (is_within c level.now) → run_at exact (has c) run.new ≡ also (run_at exact (has c) run.old) (under_piece (value (has c) (condition_of when.now)) (outside_piece exact (macros_in c level.now) (deeper_in c level.now) (active_in level.now) (item_at (has c) item.now) (plain_token item.now.token.now) (spec.treatment (item_at (has c) item.now) false (spec.opens (items_at (has c) rest.now)) (macros_in c level.now item.now.token.now.text.items))))) }
+{
+    let alloc = level.alloc;
+    let Meanings {
+        feature,
+        objects,
+        functions,
+    } = meanings;
+    let objects = as_functions(alloc, objects.as_slice())?;
+    let some = when_some(alloc, objects.as_slice())?;
+    let calls = when_called(alloc, functions.as_slice(), rest)?;
+    let stays = when_none(alloc, when, &feature, &some, &calls)?;
+    feature_turn(level, run, inner(alloc, when, &feature)?, item)?;
+    object_turn(
+        level,
+        oracle,
+        run,
+        &inner(alloc, when, &some)?,
+        item,
+        objects.as_slice(),
+    )?;
+    begin_call(
+        level,
+        oracle,
+        run,
+        inner(alloc, when, &calls)?,
+        item,
+        functions,
+    )?;
+    stay_turn(level, oracle, run, stays, item)?;
+    Ok(())
+}
+
+// A name that is active stays, and is kept for good where it is a macro's.
+fn active_turn<'t>(
+    level: &Level<'t, '_>,
+    run: &mut Run<'t>,
+    when: Formula,
+    item: &Item<'t>,
+    meanings: &Meanings<'t>,
+) -> Result<(), NoMemory>
+    ensures { OnOk result ((exact : Bool) (on : ℕ → Bool) (meaning : Option spec.Meaning) → Means on meaning meanings.now → run_at exact on run.new ≡ also (run_at exact on run.old) (under_piece (value on (condition_of when)) (items_piece exact (kept_item (is_some meaning) (item_at on item.now) ∷ [])))) }
+{
+    let alloc = level.alloc;
+    let some = meanings.when_any(alloc)?;
+    let here = inner(alloc, &when, &some)?;
+    let elsewhere = without(alloc, when, &some)?;
+    run.push_item(here, item.kept(alloc)?)?;
+    run.push_item(elsewhere, item.try_clone(alloc)?)?;
+    Ok(())
+}
+
+// Reads an item where no call is open, by the items behind it.
+#[cycle(lists)]
+fn outside_turn<'t, O: Oracle>(
+    level: &Level<'t, '_>,
+    oracle: &mut O,
+    run: &mut Run<'t>,
+    when: Formula,
+    item: &Item<'t>,
+    rest: &[Guarded<Item<'t>>],
+) -> Result<(), NoMemory>
+    ensures kept { O.admits oracle.new ≡ O.admits oracle.old }
+    ensures read { OnOk result ((exact : Bool) (c : List Bool) → IsTrue (value (has c) (O.admits oracle.old)) → IsTrue (is_within c level.now) → run_at exact (has c) run.new ≡ also (run_at exact (has c) run.old) (under_piece (value (has c) (condition_of when)) (outside_piece exact (macros_in c level.now) (deeper_in c level.now) (active_in level.now) (item_at (has c) item.now) (plain_token item.now.token.now) (spec.treatment_of (macros_in c level.now) (active_in level.now) (item_at (has c) item.now) (items_at (has c) rest.now))))) }
+{
+    let alloc = level.alloc;
+    if is_never(&when) {
+        return Ok(());
+    }
+    if !item.is_name() {
+        run.push_item(when, item.try_clone(alloc)?)?;
+        return Ok(());
+    }
+    let meanings = meanings_of(alloc, &level.macros, item.token.text.as_slice())?;
+    if meanings.is_nothing() {
+        run.push_item(when, item.try_clone(alloc)?)?;
+        return Ok(());
+    }
+    if is_active(level.active, item) {
+        active_turn(level, run, when, item, &meanings)?;
+        return Ok(());
+    }
+    name_turn(level, oracle, run, &when, item, meanings, rest)?;
+    Ok(())
+}
+
+// Reads an item, by the items behind it.
+#[cycle(lists)]
+fn turn<'t, O: Oracle>(
+    level: &Level<'t, '_>,
+    oracle: &mut O,
+    run: &mut Run<'t>,
+    entry: &Guarded<Item<'t>>,
+    rest: &[Guarded<Item<'t>>],
+) -> Result<(), NoMemory>
+    ensures kept { O.admits oracle.new ≡ O.admits oracle.old }
+    ensures read { OnOk result ((exact : Bool) (c : List Bool) (becomes : Option (List spec.Item)) → IsTrue (value (has c) (O.admits oracle.old)) → IsTrue (is_within c level.now) → (exact ≡ true → IsOwn entry.now.what) → Reads exact (macros_in c level.now) (deeper_in c level.now) (active_in level.now) (run_at exact (has c) run.old) (if value (has c) (condition_of entry.now.when) then item_at (has c) entry.now.what ∷ items_at (has c) rest.now else items_at (has c) rest.now) becomes → Reads exact (macros_in c level.now) (deeper_in c level.now) (active_in level.now) (run_at exact (has c) run.new) (items_at (has c) rest.now) becomes) }
+{
+    let outside = inside_turn(level, oracle, run, entry)?;
+    outside_turn(level, oracle, run, outside, &entry.what, rest)?;
+    Ok(())
+}
+
+/// What a list becomes, seen in each configuration that the oracle admits and that is looked at: what the recursion over lists
+/// gives there, but for sites and places; exactly that, where each item is its own token in each configuration.
+#[cycle(lists)]
+pub fn replaced_list<'t, O: Oracle>(
+    level: &Level<'t, '_>,
+    oracle: &mut O,
+    items: &[Guarded<Item<'t>>],
+) -> Result<Finished<'t>, NoMemory>
+    ensures kept { O.admits oracle.new ≡ O.admits oracle.old }
+    ensures given { IfOk result (λ f. (exact : Bool) (c : List Bool) → IsTrue (value (has c) (O.admits oracle.old)) → IsTrue (is_within c level.now) → (exact ≡ true → AreOwn items.now) → given_at exact (has c) f ≡ look exact (spec.outside (macros_in c level.now) (deeper_in c level.now) (active_in level.now) (items_at (has c) items.now))) }
+{
+    let mut run = Run::begun(level.alloc);
+    for (i, entry) in items.iter().enumerate() {
+        let (_, rest) = items.split_at(i + 1);
+        turn(level, oracle, &mut run, entry, rest)?;
+    }
+    let f = run.finished(level.alloc)?;
+    Ok(f)
+}
