@@ -3,16 +3,17 @@ use Rattle.std.proofs.Common.{◌≡◌, ℕ, suc, ◌+◌, ◌<◌, ◌≤◌, 
 use Rattle.std.specs.Prelude.{pos, Option, Some, None, Result, Ok, Err, MatchResult, if◌then◌else◌}
 use Rattle.std.proofs.lemmas.List.{map-append, append_assoc, reverse-append, append-nil, length-append}
 use Rattle.std.proofs.Math.Seq.{take-append_seam}
-use Rattle.std.proofs.Common.{add-one, take_all, drop, get_or, zero, ◌*◌}
+use Rattle.std.proofs.Common.{add-one, take_all, drop, get_or, ◌*◌}
 use Rattle.std.proofs.Math.Seq.{drop-cons}
 use Rattle.std.proofs.Math.ListN.{drop_of_length-le}
 use Rattle.plain_scope.specs.declared.errors.ElabError.{ElabError}
 use Rattle.plain_scope.specs.declared.errors.ElabError.TheVariants.{Memory}
 use Rattle.plain_scope.specs.Judgements.{Gives, IsRefused, RefusedAs}
 use Rattle.plain_scope.specs.JudgementLaws.{refused_first}
-use Rattle.plain_declarations.specs.Shapes.{braced}
-use Rattle.plain_declarations.specs.Sequences.{bind_nothing, gives_next, refused_next, gives_of, refused_of}
-use Rattle.plain_declarations.specs.Progress.{Continues, continues_with, continues_refused}
+use Rattle.plain_declarators.specs.Words.{behind_comma, next_behind}
+use Rattle.plain_declarators.specs.Shapes.{braced}
+use Rattle.plain_declarators.specs.Sequences.{bind_nothing, gives_next, refused_next, gives_of, refused_of}
+use Rattle.plain_declarators.specs.Progress.{Continues, continues_with, continues_refused}
 use Rattle.text_edits.specs.Span.{plain_span}
 use Rattle.c_text.specs.Token.{PlainToken}
 use Rattle.c_text.specs.declared.origin.FileToken.{FileToken}
@@ -89,11 +90,6 @@ allowed_value scope globals path core first = do
   allowed ← unless_so (is_allowed scope globals core) BadConstant first
   give (value_at path core first ∷ [])
 
--- what stands behind the comma
-abbrev pub behind_comma : PlainTrees → PlainTrees
-behind_comma none = none
-behind_comma (more comma rest) = rest
-
 joined_to_none : (c : Checked (List Initial)) → c ≡ (c >>= (λ first. give [] >>= (λ others. give (first ++ others))))
 joined_to_none (fine x bindings) = rw (append-nil x, append-nil bindings) refl
 joined_to_none (refused kind token) = refl
@@ -108,12 +104,6 @@ pub entries_step : (scope : Scope) (globals : Option ℕ) (ty : PlainType) (path
 entries_step scope globals ty path n tree none behind = joined_to_none (entry_initial scope globals ty path n tree behind)
 entries_step scope globals ty path n tree (more comma rest) behind =
     regrouped scope globals (part_for scope.structs ty n) tree (first_token tree behind) (λ element. initial scope globals element (path_for ty path n) tree behind) (λ first. initial_entries scope globals ty path (n + 1) rest behind >>= (λ others. give (first ++ others)))
-
-pub next_behind : (m : ℕ) (parts : List Tree) → behind_comma (plain_trees (drop m parts)) ≡ plain_trees (drop (suc m) parts)
-next_behind zero [] = refl
-next_behind zero (x ∷ parts) = refl
-next_behind (suc m) [] = refl
-next_behind (suc m) (x ∷ parts) = next_behind m parts
 
 -- the initialisers from one on
 abbrev pub entries_from : Scope → Option ℕ → PlainType → Path → ℕ → List Tree → PlainToken → Checked (List Initial)

@@ -1,12 +1,5 @@
-pub mod Words
 pub mod PlainDeclared
-pub mod Bound
-pub mod Sequences
-pub mod Shapes
 pub mod Entries
-pub mod Progress
 pub mod PlainLocals
 pub mod Locals
-pub mod PlainParameters
-pub mod Parameters
 pub mod FirstValues

@@ -9,25 +9,23 @@ use Rattle.c_tree.specs.declared.trees.Tree.{Tree}
 use Rattle.c_tree.specs.Grammar.{is_word}
 use Rattle.core_meaning.specs.Program.{PlainPart}
 use Rattle.core_meaning.specs.Checking.{local_entity, Checked, fine, refused, broken, with_bindings, unless_so, ◌>>=◌, give, declares}
-use Rattle.core_meaning.specs.Linking.{uses_in}
-use Rattle.core_meaning.specs.Entities.{Table, Local, Scope}
-use Rattle.core_meaning.specs.Declarations.{Based, LocalItem, Locals, with_local_in, with_local, plain_part, local_initial, one_local, with_items, locals_from, based, judged_locals, judged_object, is_new_local, object_type, declared_local, name_in}
+use Rattle.core_meaning.specs.Entities.{Scope}
+use Rattle.core_meaning.specs.Declarations.{LocalItem, Locals, with_local, plain_part, local_initial, one_local, with_items, locals_from, based, judged_locals, judged_object, is_new_local, object_type, declared_local, name_in}
 use Rattle.std.proofs.Math.Path.{fun_ext}
 use Rattle.std.proofs.lemmas.Bool.{cases_lt}
 use Rattle.std.proofs.lemmas.Cmp.{nat_eq_equiv}
 use Rattle.std.proofs.lemmas.List.{append-nil, append_assoc}
 use Rattle.c_tree.specs.declared.kinds.Kind.{Kind}
 use Rattle.core_meaning.specs.declared.refusals.TypeKind.TheVariants.{Redeclared}
-use Rattle.plain_scope.specs.Blocks.{outer, without_block}
 use Rattle.plain_scope.specs.Parts.{parts_in}
 use Rattle.plain_scope.specs.Parts as parts
 use Rattle.c_tree.specs.declared.terminals.Terminal.{Terminal}
 use Rattle.c_tree.specs.Terminals.{terminal, same, number}
 use Rattle.plain_scope.specs.declared.errors.ElabError.{ElabError}
-use Rattle.plain_scope.specs.Judgements.{Gives, Binds, RefusedAs}
-use Rattle.plain_scope.specs.JudgementLaws.{gives_then, refused_first, refused_then}
-use Rattle.plain_declarations.specs.Progress.{Continues, continues_with, continues_to, continues_refused}
-use Rattle.plain_declarations.specs.Sequences.{bind_nothing, gives_of, refused_of}
+use Rattle.plain_scope.specs.Judgements.{Gives, RefusedAs}
+use Rattle.plain_scope.specs.JudgementLaws.{refused_first, refused_then}
+use Rattle.plain_declarators.specs.Progress.{Continues, continues_with, continues_to, continues_refused}
+use Rattle.plain_declarators.specs.Sequences.{bind_nothing, gives_of, refused_of}
 
 -- ---- initialisers
 
@@ -59,14 +57,6 @@ local_by_type scope slots ty kind parts name initialiser = do
   bound ← declares (local_entity (length slots))
   whole ← object_type scope ty kind parts name initialiser
   typed_local scope slots whole name initialiser
-
-outer_local : (blocks : List (Table Local)) (name : List ℕ) (l : Local) → outer (with_local_in blocks name l) ≡ outer blocks
-outer_local [] name l = refl
-outer_local (block ∷ others) name l = refl
-
--- a local is visible in its block alone
-pub outside_local : (scope : Scope) (name : List ℕ) (slot : ℕ) (ty : PlainType) → without_block (with_local scope name slot ty) ≡ without_block scope
-outside_local scope name slot ty = ap (λ b. record scope { blocks = b }) (outer_local scope.blocks name (record { slot = slot; ty = ty }))
 
 -- behind the binding of a local
 pub local_bound : {B : Type 0} (slot : ℕ) (next : Unit {0} → Checked B) (y : B) (before after : List ℕ → Bool) → Gives (next tt) y before after → Gives (declares (local_entity slot) >>= next) y before after
@@ -223,14 +213,3 @@ parts_give scope slots parts words list end naming declarators given before afte
 pub parts_refused : (scope : Scope) (slots : List PlainType) (parts : PlainTrees) (words list end : PlainTree) (naming declarators : PlainTrees) (error : ElabError) → parts ≡ more words (more list (more end none)) → parts_in words ≡ Some naming → parts_in list ≡ Some declarators → RefusedAs (locals_of scope slots naming declarators) error → RefusedAs (judged_locals scope slots parts) error
 parts_refused scope slots parts words list end naming declarators error is a b r =
     refused_of (judged_locals scope slots parts) (locals_of scope slots naming declarators) error (ap (judged_locals scope slots) is ∙ locals_by_parts scope slots words list end naming declarators a b) r
-
-or_false : (a b : Bool) → b ≡ false → a ≡ (a || b)
-or_false true b e = refl
-or_false false b e = sym e
-
--- the base type binds at most a struct
-pub base_gives : {B : Type 0} (c : Checked Based) (next : Based → Checked B) (x : Based) (y : B) (before after : List ℕ → Bool) → Binds c x → Gives (next x) y before after → Gives (c >>= next) y before after
-base_gives c next x y before after b g = gives_then c next x y before before after (record { bindings = b.bindings; judged = b.judged; used = λ name. or_false (before name) (uses_in b.bindings name) (b.unused name) }) g
-
-pub base_refused : {B : Type 0} (c : Checked Based) (next : Based → Checked B) (x : Based) (error : ElabError) → Binds c x → RefusedAs (next x) error → RefusedAs (c >>= next) error
-base_refused c next x error b r = refused_then c next x b.bindings error b.judged r

@@ -16,14 +16,12 @@ ghost use Rattle.plain_declarations.specs.PlainDeclared.{plain_initial};
 ghost use Rattle.plain_declarations.specs.Entries.{globals_if, entry_initial, text_at, value_at, allowed_value, refused_value, array_from_text, kind_at, excess};
 
 use crate::constants::is_allowed;
-use crate::shapes::entries_in;
-use crate::types::is_character_type;
-use crate::words::entry_count;
 use c_text::{FileToken, Token};
 use c_tree::{Kind, Tree};
 use c_types::{CType, convert};
 use cond_formula::NoMemory;
 use core_meaning::{Expression, TypeKind};
+use plain_declarators::{entries_in, entry_count, is_character_type};
 use plain_expressions::{text_bytes, valued};
 use plain_operands::fitted;
 use plain_scope::{ElabError, Scope, Used, copied, first_token, refused, unless};
@@ -208,7 +206,7 @@ fn text_parts<'t>(
 }
 
 /// A text that initialises an array of characters.
-#[tactic(auto, using(crate::specs::Sequences::passed_is, crate::specs::Sequences::failed_refused))]
+#[tactic(auto, using(plain_declarators::specs::Sequences::passed_is, plain_declarators::specs::Sequences::failed_refused))]
 fn text_initial<'t>(
     alloc: Global,
     element: &CType,
@@ -264,7 +262,7 @@ fn one_part<'t>(
 }
 
 /// A value that must be constant in a global.
-#[tactic(auto, using(crate::specs::Sequences::passed_is, crate::specs::Sequences::failed_refused))]
+#[tactic(auto, using(plain_declarators::specs::Sequences::passed_is, plain_declarators::specs::Sequences::failed_refused))]
 fn allowed_part<'t>(
     alloc: Global,
     scope: &Scope,
@@ -285,7 +283,7 @@ fn allowed_part<'t>(
 }
 
 /// The value of a scalar, or of a struct.
-#[tactic(auto, using(crate::specs::Sequences::steps))]
+#[tactic(auto, using(plain_declarators::specs::Sequences::steps))]
 fn value_initial<'t>(
     alloc: Global,
     scope: &Scope,
@@ -305,7 +303,7 @@ fn value_initial<'t>(
 }
 
 /// An array isn't initialised by a value.
-#[tactic(auto, using(crate::specs::Sequences::steps, plain_scope::specs::JudgementLaws::refuses_is))]
+#[tactic(auto, using(plain_declarators::specs::Sequences::steps, plain_scope::specs::JudgementLaws::refuses_is))]
 fn array_refused<'t>(
     alloc: Global,
     scope: &Scope,
@@ -490,7 +488,7 @@ fn excess(alloc: Global, scope: &Scope, used: &mut Used, tree: &Tree, first: &To
 
 /// One initialiser among those in braces.
 #[cycle(initialise)]
-#[tactic(auto, using(crate::specs::Sequences::steps, crate::specs::Entries::part_gives, crate::specs::Entries::part_refused, crate::specs::Entries::nothing_refused))]
+#[tactic(auto, using(plain_declarators::specs::Sequences::steps, crate::specs::Entries::part_gives, crate::specs::Entries::part_refused, crate::specs::Entries::nothing_refused))]
 fn entry<'t>(
     alloc: Global,
     scope: &Scope,

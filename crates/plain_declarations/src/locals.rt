@@ -13,14 +13,12 @@ ghost use Rattle.plain_declarations.specs.PlainLocals.{plain_locals};
 ghost use Rattle.plain_declarations.specs.Locals.{parts_given, placed_local, typed_local, local_by_type, initialiser_by, first_size, first_local, locals_of};
 
 use crate::initialisers::{Initial, initialised};
-use crate::shapes::{node_parts, three_parts};
-use crate::types::{base_of, judge_object, object_type};
-use crate::words::name_in;
 use c_text::Token;
 use c_tree::{Kind, Terminal, Tree};
 use c_types::CType;
 use cond_formula::NoMemory;
 use core_meaning::{Part, TypeKind};
+use plain_declarators::{base_of, judge_object, name_in, node_parts, object_type, three_parts};
 use plain_scope::{ElabError, Scope, Used, is_word, unless};
 use std::alloc::Global;
 
@@ -53,7 +51,7 @@ fn parts_from(alloc: Global, found: Vec<Initial>) -> Result<Vec<Part>, NoMemory>
 }
 
 /// The parts of a local's initialiser.
-#[tactic(auto, using(crate::specs::Sequences::gives_as, plain_scope::specs::JudgementLaws::refused_first))]
+#[tactic(auto, using(plain_declarators::specs::Sequences::gives_as, plain_scope::specs::JudgementLaws::refused_first))]
 fn given_parts(
     alloc: Global,
     scope: &Scope,
@@ -90,7 +88,7 @@ fn local_parts(
 }
 
 /// A local in its slot, with its initialiser, in which it is visible.
-#[tactic(auto, using(crate::specs::Sequences::gives_as, crate::specs::Locals::outside_local, plain_scope::specs::JudgementLaws::refused_first))]
+#[tactic(auto, using(plain_declarators::specs::Sequences::gives_as, plain_declarators::specs::Bound::outside_local, plain_scope::specs::JudgementLaws::refused_first))]
 fn place_local(
     alloc: Global,
     scope: &mut Scope,
@@ -112,7 +110,7 @@ fn place_local(
 }
 
 /// A local of a type that must be complete and small enough.
-#[tactic(auto, using(crate::specs::Sequences::gives_next, crate::specs::Sequences::refused_next, plain_scope::specs::JudgementLaws::refused_first, crate::specs::Bound::struct_numbers))]
+#[tactic(auto, using(plain_declarators::specs::Sequences::gives_next, plain_declarators::specs::Sequences::refused_next, plain_scope::specs::JudgementLaws::refused_first, plain_declarators::specs::Bound::struct_numbers))]
 fn typed_local(
     alloc: Global,
     scope: &mut Scope,
@@ -134,7 +132,7 @@ fn typed_local(
 }
 
 /// A local of a declaration.
-#[tactic(auto, using(crate::specs::Sequences::passed_gives, crate::specs::Sequences::passed_refused, crate::specs::Sequences::failed_refused, crate::specs::Locals::local_bound, crate::specs::Locals::local_refused, plain_scope::specs::JudgementLaws::gives_then, plain_scope::specs::JudgementLaws::refused_first, crate::specs::Sequences::refused_behind))]
+#[tactic(auto, using(plain_declarators::specs::Sequences::passed_gives, plain_declarators::specs::Sequences::passed_refused, plain_declarators::specs::Sequences::failed_refused, crate::specs::Locals::local_bound, crate::specs::Locals::local_refused, plain_scope::specs::JudgementLaws::gives_then, plain_scope::specs::JudgementLaws::refused_first, plain_declarators::specs::Sequences::refused_behind))]
 fn declared_local(
     alloc: Global,
     scope: &mut Scope,
@@ -296,7 +294,7 @@ fn locals_from(
     Err(ElabError::Memory)
 }
 
-#[tactic(auto, using(crate::specs::Locals::base_gives, crate::specs::Locals::base_refused, plain_scope::specs::JudgementLaws::refused_first))]
+#[tactic(auto, using(plain_declarators::specs::Bound::base_gives, plain_declarators::specs::Bound::base_refused, plain_scope::specs::JudgementLaws::refused_first))]
 fn locals_of(
     alloc: Global,
     scope: &mut Scope,

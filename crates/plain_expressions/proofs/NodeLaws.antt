@@ -8,9 +8,9 @@ use Rattle.c_tree.specs.declared.kinds.Kind.{Kind}
 use Rattle.c_tree.specs.declared.kinds.Kind.TheVariants as k
 use Rattle.c_tree.specs.declared.trees.Tree.{Tree}
 use Rattle.c_tree.specs.Trees.{PlainTree, PlainTrees, leaf, node, none, more, plain_tree, plain_trees}
-use Rattle.core_meaning.specs.declared.refusals.TypeKind.TheVariants.{ArgumentCount, BadOperand}
+use Rattle.core_meaning.specs.declared.refusals.TypeKind.TheVariants.{BadOperand}
 use Rattle.core_meaning.specs.Program.{PlainArguments, no_argument}
-use Rattle.core_meaning.specs.Checking.{Checked, file_entity, refused, ◌>>=◌, give, or_broken, uses, unless_so}
+use Rattle.core_meaning.specs.Checking.{Checked, file_entity, refused, ◌>>=◌, give, or_broken, uses}
 use Rattle.core_meaning.specs.Entities.{Scope}
 use Rattle.core_meaning.specs.Typing.{Operand, Typed, loaded}
 use Rattle.core_meaning.specs.Expressions.{Callee, callee, judged, valued, judged_condition, judged_arguments, cast_to, chosen, arithmetic_words, written_place, assignment, may_be_called, result_of_call, count_entries}
@@ -20,6 +20,10 @@ use Rattle.plain_scope.specs.Judgements.{Gives}
 use Rattle.plain_scope.specs.JudgementLaws.{gives_then}
 use Rattle.plain_expressions.proofs.Answering.{gives_as, gives_last}
 use Rattle.plain_scope.specs.Bindings.{give_then, then_then, then_same}
+
+-- a kind that isn't meant; `cc` in each arm would look through all of its goal
+none_such : {A : Type 0} → false ≡ true → A
+none_such h = cc
 
 -- ---- two values
 
@@ -37,37 +41,37 @@ joined_law : (scope : Scope) (kind : Kind) (sign : PlainToken) (first middle sec
 joined_law scope kind sign first middle second rest = pair_law (judged scope first) (loaded scope) (judged scope second) (loaded scope) (joined_values scope kind sign)
 
 between_two : (scope : Scope) (kind : Kind) (sign : PlainToken) (first second : PlainTree) → is_between kind ≡ true → judged scope (node kind (more first (more (leaf sign) (more second none)))) ≡ on_two scope kind sign (more first (more (leaf sign) (more second none)))
-between_two scope k.Absent sign first second h = cc
-between_two scope k.Unit sign first second h = cc
-between_two scope k.Function sign first second h = cc
-between_two scope k.Declaration sign first second h = cc
-between_two scope k.StructDefinition sign first second h = cc
-between_two scope k.StructDeclaration sign first second h = cc
-between_two scope k.Members sign first second h = cc
-between_two scope k.Member sign first second h = cc
-between_two scope k.LocalDeclaration sign first second h = cc
-between_two scope k.Specifiers sign first second h = cc
-between_two scope k.Declarators sign first second h = cc
-between_two scope k.Declarator sign first second h = cc
-between_two scope k.ArrayDeclarator sign first second h = cc
-between_two scope k.FunctionDeclarator sign first second h = cc
-between_two scope k.Parameters sign first second h = cc
-between_two scope k.Parameter sign first second h = cc
-between_two scope k.Braces sign first second h = cc
-between_two scope k.Initialisers sign first second h = cc
-between_two scope k.Block sign first second h = cc
-between_two scope k.Items sign first second h = cc
-between_two scope k.ExpressionStatement sign first second h = cc
-between_two scope k.If sign first second h = cc
-between_two scope k.Else sign first second h = cc
-between_two scope k.While sign first second h = cc
-between_two scope k.Do sign first second h = cc
-between_two scope k.For sign first second h = cc
-between_two scope k.ForStart sign first second h = cc
-between_two scope k.Jump sign first second h = cc
-between_two scope k.Return sign first second h = cc
-between_two scope k.Assignment sign first second h = cc
-between_two scope k.Conditional sign first second h = cc
+between_two scope k.Absent sign first second h = none_such h
+between_two scope k.Unit sign first second h = none_such h
+between_two scope k.Function sign first second h = none_such h
+between_two scope k.Declaration sign first second h = none_such h
+between_two scope k.StructDefinition sign first second h = none_such h
+between_two scope k.StructDeclaration sign first second h = none_such h
+between_two scope k.Members sign first second h = none_such h
+between_two scope k.Member sign first second h = none_such h
+between_two scope k.LocalDeclaration sign first second h = none_such h
+between_two scope k.Specifiers sign first second h = none_such h
+between_two scope k.Declarators sign first second h = none_such h
+between_two scope k.Declarator sign first second h = none_such h
+between_two scope k.ArrayDeclarator sign first second h = none_such h
+between_two scope k.FunctionDeclarator sign first second h = none_such h
+between_two scope k.Parameters sign first second h = none_such h
+between_two scope k.Parameter sign first second h = none_such h
+between_two scope k.Braces sign first second h = none_such h
+between_two scope k.Initialisers sign first second h = none_such h
+between_two scope k.Block sign first second h = none_such h
+between_two scope k.Items sign first second h = none_such h
+between_two scope k.ExpressionStatement sign first second h = none_such h
+between_two scope k.If sign first second h = none_such h
+between_two scope k.Else sign first second h = none_such h
+between_two scope k.While sign first second h = none_such h
+between_two scope k.Do sign first second h = none_such h
+between_two scope k.For sign first second h = none_such h
+between_two scope k.ForStart sign first second h = none_such h
+between_two scope k.Jump sign first second h = none_such h
+between_two scope k.Return sign first second h = none_such h
+between_two scope k.Assignment sign first second h = none_such h
+between_two scope k.Conditional sign first second h = none_such h
 between_two scope k.LogicalOr sign first second h = joined_law scope k.LogicalOr sign first (leaf sign) second none
 between_two scope k.LogicalAnd sign first second h = joined_law scope k.LogicalAnd sign first (leaf sign) second none
 between_two scope k.Or sign first second h = joined_law scope k.Or sign first (leaf sign) second none
@@ -78,16 +82,16 @@ between_two scope k.Relation sign first second h = joined_law scope k.Relation s
 between_two scope k.Shift sign first second h = joined_law scope k.Shift sign first (leaf sign) second none
 between_two scope k.Sum sign first second h = joined_law scope k.Sum sign first (leaf sign) second none
 between_two scope k.Product sign first second h = joined_law scope k.Product sign first (leaf sign) second none
-between_two scope k.Cast sign first second h = cc
-between_two scope k.Prefix sign first second h = cc
-between_two scope k.PrefixStep sign first second h = cc
-between_two scope k.PostfixStep sign first second h = cc
-between_two scope k.Index sign first second h = cc
-between_two scope k.Call sign first second h = cc
-between_two scope k.Arguments sign first second h = cc
-between_two scope k.Selection sign first second h = cc
-between_two scope k.Parenthesized sign first second h = cc
-between_two scope k.Texts sign first second h = cc
+between_two scope k.Cast sign first second h = none_such h
+between_two scope k.Prefix sign first second h = none_such h
+between_two scope k.PrefixStep sign first second h = none_such h
+between_two scope k.PostfixStep sign first second h = none_such h
+between_two scope k.Index sign first second h = none_such h
+between_two scope k.Call sign first second h = none_such h
+between_two scope k.Arguments sign first second h = none_such h
+between_two scope k.Selection sign first second h = none_such h
+between_two scope k.Parenthesized sign first second h = none_such h
+between_two scope k.Texts sign first second h = none_such h
 
 pub between_law : (scope : Scope) (kind : Kind) (sign : PlainToken) (parts : PlainTrees) (first middle second : PlainTree) → is_between kind ≡ true → parts ≡ more first (more middle (more second none)) → middle ≡ leaf sign → judged scope (node kind parts) ≡ on_two scope kind sign parts
 between_law scope kind sign parts first middle second h p q =
@@ -188,116 +192,116 @@ call_none scope bracket first (Some f) = none_law scope f bracket
 call_none scope bracket first None = refused_call scope bracket first
 
 call_list : (scope : Scope) (bracket : PlainToken) (first list close : PlainTree) → is_list list ≡ true → judged scope (node k.Call (more first (more (leaf bracket) (more list (more close none))))) ≡ call_of scope bracket first list (callee scope first)
-call_list scope bracket first (leaf token) close h = cc
+call_list scope bracket first (leaf token) close h = none_such h
 call_list scope bracket first (node k.Absent none) close h = call_none scope bracket first (callee scope first)
-call_list scope bracket first (node k.Absent (more part rest)) close h = cc
-call_list scope bracket first (node k.Unit parts) close h = cc
-call_list scope bracket first (node k.Function parts) close h = cc
-call_list scope bracket first (node k.Declaration parts) close h = cc
-call_list scope bracket first (node k.StructDefinition parts) close h = cc
-call_list scope bracket first (node k.StructDeclaration parts) close h = cc
-call_list scope bracket first (node k.Members parts) close h = cc
-call_list scope bracket first (node k.Member parts) close h = cc
-call_list scope bracket first (node k.LocalDeclaration parts) close h = cc
-call_list scope bracket first (node k.Specifiers parts) close h = cc
-call_list scope bracket first (node k.Declarators parts) close h = cc
-call_list scope bracket first (node k.Declarator parts) close h = cc
-call_list scope bracket first (node k.ArrayDeclarator parts) close h = cc
-call_list scope bracket first (node k.FunctionDeclarator parts) close h = cc
-call_list scope bracket first (node k.Parameters parts) close h = cc
-call_list scope bracket first (node k.Parameter parts) close h = cc
-call_list scope bracket first (node k.Braces parts) close h = cc
-call_list scope bracket first (node k.Initialisers parts) close h = cc
-call_list scope bracket first (node k.Block parts) close h = cc
-call_list scope bracket first (node k.Items parts) close h = cc
-call_list scope bracket first (node k.ExpressionStatement parts) close h = cc
-call_list scope bracket first (node k.If parts) close h = cc
-call_list scope bracket first (node k.Else parts) close h = cc
-call_list scope bracket first (node k.While parts) close h = cc
-call_list scope bracket first (node k.Do parts) close h = cc
-call_list scope bracket first (node k.For parts) close h = cc
-call_list scope bracket first (node k.ForStart parts) close h = cc
-call_list scope bracket first (node k.Jump parts) close h = cc
-call_list scope bracket first (node k.Return parts) close h = cc
-call_list scope bracket first (node k.Assignment parts) close h = cc
-call_list scope bracket first (node k.Conditional parts) close h = cc
-call_list scope bracket first (node k.LogicalOr parts) close h = cc
-call_list scope bracket first (node k.LogicalAnd parts) close h = cc
-call_list scope bracket first (node k.Or parts) close h = cc
-call_list scope bracket first (node k.Xor parts) close h = cc
-call_list scope bracket first (node k.And parts) close h = cc
-call_list scope bracket first (node k.Equality parts) close h = cc
-call_list scope bracket first (node k.Relation parts) close h = cc
-call_list scope bracket first (node k.Shift parts) close h = cc
-call_list scope bracket first (node k.Sum parts) close h = cc
-call_list scope bracket first (node k.Product parts) close h = cc
-call_list scope bracket first (node k.Cast parts) close h = cc
-call_list scope bracket first (node k.Prefix parts) close h = cc
-call_list scope bracket first (node k.PrefixStep parts) close h = cc
-call_list scope bracket first (node k.PostfixStep parts) close h = cc
-call_list scope bracket first (node k.Index parts) close h = cc
-call_list scope bracket first (node k.Call parts) close h = cc
+call_list scope bracket first (node k.Absent (more part rest)) close h = none_such h
+call_list scope bracket first (node k.Unit parts) close h = none_such h
+call_list scope bracket first (node k.Function parts) close h = none_such h
+call_list scope bracket first (node k.Declaration parts) close h = none_such h
+call_list scope bracket first (node k.StructDefinition parts) close h = none_such h
+call_list scope bracket first (node k.StructDeclaration parts) close h = none_such h
+call_list scope bracket first (node k.Members parts) close h = none_such h
+call_list scope bracket first (node k.Member parts) close h = none_such h
+call_list scope bracket first (node k.LocalDeclaration parts) close h = none_such h
+call_list scope bracket first (node k.Specifiers parts) close h = none_such h
+call_list scope bracket first (node k.Declarators parts) close h = none_such h
+call_list scope bracket first (node k.Declarator parts) close h = none_such h
+call_list scope bracket first (node k.ArrayDeclarator parts) close h = none_such h
+call_list scope bracket first (node k.FunctionDeclarator parts) close h = none_such h
+call_list scope bracket first (node k.Parameters parts) close h = none_such h
+call_list scope bracket first (node k.Parameter parts) close h = none_such h
+call_list scope bracket first (node k.Braces parts) close h = none_such h
+call_list scope bracket first (node k.Initialisers parts) close h = none_such h
+call_list scope bracket first (node k.Block parts) close h = none_such h
+call_list scope bracket first (node k.Items parts) close h = none_such h
+call_list scope bracket first (node k.ExpressionStatement parts) close h = none_such h
+call_list scope bracket first (node k.If parts) close h = none_such h
+call_list scope bracket first (node k.Else parts) close h = none_such h
+call_list scope bracket first (node k.While parts) close h = none_such h
+call_list scope bracket first (node k.Do parts) close h = none_such h
+call_list scope bracket first (node k.For parts) close h = none_such h
+call_list scope bracket first (node k.ForStart parts) close h = none_such h
+call_list scope bracket first (node k.Jump parts) close h = none_such h
+call_list scope bracket first (node k.Return parts) close h = none_such h
+call_list scope bracket first (node k.Assignment parts) close h = none_such h
+call_list scope bracket first (node k.Conditional parts) close h = none_such h
+call_list scope bracket first (node k.LogicalOr parts) close h = none_such h
+call_list scope bracket first (node k.LogicalAnd parts) close h = none_such h
+call_list scope bracket first (node k.Or parts) close h = none_such h
+call_list scope bracket first (node k.Xor parts) close h = none_such h
+call_list scope bracket first (node k.And parts) close h = none_such h
+call_list scope bracket first (node k.Equality parts) close h = none_such h
+call_list scope bracket first (node k.Relation parts) close h = none_such h
+call_list scope bracket first (node k.Shift parts) close h = none_such h
+call_list scope bracket first (node k.Sum parts) close h = none_such h
+call_list scope bracket first (node k.Product parts) close h = none_such h
+call_list scope bracket first (node k.Cast parts) close h = none_such h
+call_list scope bracket first (node k.Prefix parts) close h = none_such h
+call_list scope bracket first (node k.PrefixStep parts) close h = none_such h
+call_list scope bracket first (node k.PostfixStep parts) close h = none_such h
+call_list scope bracket first (node k.Index parts) close h = none_such h
+call_list scope bracket first (node k.Call parts) close h = none_such h
 call_list scope bracket first (node k.Arguments parts) close h = call_arguments scope bracket first parts (callee scope first)
-call_list scope bracket first (node k.Selection parts) close h = cc
-call_list scope bracket first (node k.Parenthesized parts) close h = cc
-call_list scope bracket first (node k.Texts parts) close h = cc
+call_list scope bracket first (node k.Selection parts) close h = none_such h
+call_list scope bracket first (node k.Parenthesized parts) close h = none_such h
+call_list scope bracket first (node k.Texts parts) close h = none_such h
 
 pub call_law : (scope : Scope) (bracket : PlainToken) (parts : PlainTrees) (first middle list close : PlainTree) → parts ≡ more first (more middle (more list (more close none))) → middle ≡ leaf bracket → is_list list ≡ true → judged scope (node k.Call parts) ≡ call_of scope bracket first list (callee scope first)
 call_law scope bracket parts first middle list close p q h = ap (λ (ps : PlainTrees). judged scope (node k.Call ps)) (p ∙ ap (λ (m : PlainTree). more first (more m (more list (more close none)))) q) ∙ call_list scope bracket first list close h
 
 pub list_law : (scope : Scope) (f : Callee) (bracket : PlainToken) (kind : Kind) (parts : PlainTrees) → is_list (node kind parts) ≡ true → called_by scope f bracket (node kind parts) ≡ called_with scope f parts bracket
 list_law scope f bracket k.Absent none h = refl
-list_law scope f bracket k.Absent (more part rest) h = cc
-list_law scope f bracket k.Unit parts h = cc
-list_law scope f bracket k.Function parts h = cc
-list_law scope f bracket k.Declaration parts h = cc
-list_law scope f bracket k.StructDefinition parts h = cc
-list_law scope f bracket k.StructDeclaration parts h = cc
-list_law scope f bracket k.Members parts h = cc
-list_law scope f bracket k.Member parts h = cc
-list_law scope f bracket k.LocalDeclaration parts h = cc
-list_law scope f bracket k.Specifiers parts h = cc
-list_law scope f bracket k.Declarators parts h = cc
-list_law scope f bracket k.Declarator parts h = cc
-list_law scope f bracket k.ArrayDeclarator parts h = cc
-list_law scope f bracket k.FunctionDeclarator parts h = cc
-list_law scope f bracket k.Parameters parts h = cc
-list_law scope f bracket k.Parameter parts h = cc
-list_law scope f bracket k.Braces parts h = cc
-list_law scope f bracket k.Initialisers parts h = cc
-list_law scope f bracket k.Block parts h = cc
-list_law scope f bracket k.Items parts h = cc
-list_law scope f bracket k.ExpressionStatement parts h = cc
-list_law scope f bracket k.If parts h = cc
-list_law scope f bracket k.Else parts h = cc
-list_law scope f bracket k.While parts h = cc
-list_law scope f bracket k.Do parts h = cc
-list_law scope f bracket k.For parts h = cc
-list_law scope f bracket k.ForStart parts h = cc
-list_law scope f bracket k.Jump parts h = cc
-list_law scope f bracket k.Return parts h = cc
-list_law scope f bracket k.Assignment parts h = cc
-list_law scope f bracket k.Conditional parts h = cc
-list_law scope f bracket k.LogicalOr parts h = cc
-list_law scope f bracket k.LogicalAnd parts h = cc
-list_law scope f bracket k.Or parts h = cc
-list_law scope f bracket k.Xor parts h = cc
-list_law scope f bracket k.And parts h = cc
-list_law scope f bracket k.Equality parts h = cc
-list_law scope f bracket k.Relation parts h = cc
-list_law scope f bracket k.Shift parts h = cc
-list_law scope f bracket k.Sum parts h = cc
-list_law scope f bracket k.Product parts h = cc
-list_law scope f bracket k.Cast parts h = cc
-list_law scope f bracket k.Prefix parts h = cc
-list_law scope f bracket k.PrefixStep parts h = cc
-list_law scope f bracket k.PostfixStep parts h = cc
-list_law scope f bracket k.Index parts h = cc
-list_law scope f bracket k.Call parts h = cc
+list_law scope f bracket k.Absent (more part rest) h = none_such h
+list_law scope f bracket k.Unit parts h = none_such h
+list_law scope f bracket k.Function parts h = none_such h
+list_law scope f bracket k.Declaration parts h = none_such h
+list_law scope f bracket k.StructDefinition parts h = none_such h
+list_law scope f bracket k.StructDeclaration parts h = none_such h
+list_law scope f bracket k.Members parts h = none_such h
+list_law scope f bracket k.Member parts h = none_such h
+list_law scope f bracket k.LocalDeclaration parts h = none_such h
+list_law scope f bracket k.Specifiers parts h = none_such h
+list_law scope f bracket k.Declarators parts h = none_such h
+list_law scope f bracket k.Declarator parts h = none_such h
+list_law scope f bracket k.ArrayDeclarator parts h = none_such h
+list_law scope f bracket k.FunctionDeclarator parts h = none_such h
+list_law scope f bracket k.Parameters parts h = none_such h
+list_law scope f bracket k.Parameter parts h = none_such h
+list_law scope f bracket k.Braces parts h = none_such h
+list_law scope f bracket k.Initialisers parts h = none_such h
+list_law scope f bracket k.Block parts h = none_such h
+list_law scope f bracket k.Items parts h = none_such h
+list_law scope f bracket k.ExpressionStatement parts h = none_such h
+list_law scope f bracket k.If parts h = none_such h
+list_law scope f bracket k.Else parts h = none_such h
+list_law scope f bracket k.While parts h = none_such h
+list_law scope f bracket k.Do parts h = none_such h
+list_law scope f bracket k.For parts h = none_such h
+list_law scope f bracket k.ForStart parts h = none_such h
+list_law scope f bracket k.Jump parts h = none_such h
+list_law scope f bracket k.Return parts h = none_such h
+list_law scope f bracket k.Assignment parts h = none_such h
+list_law scope f bracket k.Conditional parts h = none_such h
+list_law scope f bracket k.LogicalOr parts h = none_such h
+list_law scope f bracket k.LogicalAnd parts h = none_such h
+list_law scope f bracket k.Or parts h = none_such h
+list_law scope f bracket k.Xor parts h = none_such h
+list_law scope f bracket k.And parts h = none_such h
+list_law scope f bracket k.Equality parts h = none_such h
+list_law scope f bracket k.Relation parts h = none_such h
+list_law scope f bracket k.Shift parts h = none_such h
+list_law scope f bracket k.Sum parts h = none_such h
+list_law scope f bracket k.Product parts h = none_such h
+list_law scope f bracket k.Cast parts h = none_such h
+list_law scope f bracket k.Prefix parts h = none_such h
+list_law scope f bracket k.PrefixStep parts h = none_such h
+list_law scope f bracket k.PostfixStep parts h = none_such h
+list_law scope f bracket k.Index parts h = none_such h
+list_law scope f bracket k.Call parts h = none_such h
 list_law scope f bracket k.Arguments parts h = refl
-list_law scope f bracket k.Selection parts h = cc
-list_law scope f bracket k.Parenthesized parts h = cc
-list_law scope f bracket k.Texts parts h = cc
+list_law scope f bracket k.Selection parts h = none_such h
+list_law scope f bracket k.Parenthesized parts h = none_such h
+list_law scope f bracket k.Texts parts h = none_such h
 
 pub absent_list : (parts : List Tree) → is_list (node k.Absent (plain_trees parts)) ≡ (length parts == 0)
 absent_list [] = refl

@@ -17,7 +17,7 @@ use Rattle.plain_scope.specs.declared.entities.Used.{Used}
 use Rattle.plain_scope.specs.declared.entities.Scope as code
 use Rattle.plain_scope.specs.Judgements.{Gives, Judges}
 use Rattle.plain_scope.specs.JudgementLaws.{gives_nothing_used, refused_first}
-use Rattle.plain_declarations.specs.Sequences.{gives_of, gives_as, refused_of}
+use Rattle.plain_declarators.specs.Sequences.{gives_of, gives_as, refused_of}
 use Rattle.core_meaning.specs.declared.statements.Item.{Item}
 use Rattle.core_meaning.specs.declared.statements.Statement.{Statement}
 use Rattle.core_meaning.specs.Plain.{plain_item, plain_statement}

@@ -12,8 +12,8 @@ use Rattle.core_meaning.specs.Statements.{Around, Judged, JudgedItems, items_as,
 use Rattle.plain_scope.specs.declared.errors.ElabError.{ElabError}
 use Rattle.plain_scope.specs.Judgements.{Gives, RefusedAs}
 use Rattle.plain_scope.specs.JudgementLaws.{gives_nothing_used, refused_first}
-use Rattle.plain_declarations.specs.Sequences.{gives_as, refused_of}
-use Rattle.plain_declarations.specs.Progress.{Continues, continues_from, continues_with, continues_to, continues_refused}
+use Rattle.plain_declarators.specs.Sequences.{gives_as, refused_of}
+use Rattle.plain_declarators.specs.Progress.{Continues, continues_from, continues_with, continues_to, continues_refused}
 use Rattle.std.proofs.Math.Seq.{drop-cons}
 use Rattle.std.proofs.Math.ListN.{drop_of_length-le}
 use Rattle.core_meaning.specs.Plain.{items_from}

@@ -14,8 +14,8 @@ use Rattle.core_meaning.specs.Statements.{Around, discarded, condition_or_true, 
 use Rattle.plain_scope.specs.declared.errors.ElabError.{ElabError}
 use Rattle.plain_scope.specs.Judgements.{Gives, Refuses, RefusedAs}
 use Rattle.plain_scope.specs.JudgementLaws.{gives_nothing_used, refuses_is}
-use Rattle.plain_declarations.specs.Words.{is_gone}
-use Rattle.plain_declarations.specs.Sequences.{bind_nothing, gives_of, refused_of}
+use Rattle.plain_declarators.specs.Words.{is_gone}
+use Rattle.plain_declarators.specs.Sequences.{bind_nothing, gives_of, refused_of}
 use Rattle.plain_scope.specs.Bindings.{then_same}
 use Rattle.plain_statements.specs.Steps.{nothing_returned, returned_as, unused_value, evaluated, returned_value}
 

@@ -15,7 +15,7 @@ use c_text::Token;
 use c_tree::{Kind, Tree};
 use c_types::CType;
 use core_meaning::{Expression, Statement, TypeKind};
-use plain_declarations::{is_gone, three_parts, two_parts};
+use plain_declarators::{is_gone, three_parts, two_parts};
 use plain_expressions::valued;
 use plain_operands::{fitted, unused};
 use plain_scope::{ElabError, Scope, Used, is_void, leaf, refused, unless};
@@ -23,7 +23,7 @@ use std::alloc::Global;
 
 // ---- expressions
 
-#[tactic(auto, using(plain_declarations::specs::Sequences::steps))]
+#[tactic(auto, using(plain_declarators::specs::Sequences::steps))]
 fn unused_value(
     alloc: Global,
     scope: &Scope,
@@ -111,7 +111,7 @@ pub fn nothing(alloc: Global) -> Statement
     Statement::Block(Vec::new(alloc))
 }
 
-#[tactic(auto, using(core_meaning::specs::PlainLaws::statement_kinds, plain_declarations::specs::Sequences::steps))]
+#[tactic(auto, using(core_meaning::specs::PlainLaws::statement_kinds, plain_declarators::specs::Sequences::steps))]
 fn evaluated(
     alloc: Global,
     scope: &Scope,
@@ -168,7 +168,7 @@ fn jump_by(word: &[u8]) -> Statement
 }
 
 /// A `break` or `continue`, which stands in a loop (6.8.6.2, 6.8.6.3).
-#[tactic(auto, using(plain_declarations::specs::Sequences::passed_is, plain_declarations::specs::Sequences::failed_refused))]
+#[tactic(auto, using(plain_declarators::specs::Sequences::passed_is, plain_declarators::specs::Sequences::failed_refused))]
 fn jump(word: &Token, in_loop: bool) -> Result<Statement, ElabError>
     ensures { Answers (jump_if in_loop (plain_token word.now)) plain_statement result }
 {
@@ -187,7 +187,7 @@ fn jump_in(parts: &[Tree], in_loop: bool) -> Result<Statement, ElabError>
 
 // ---- `return`
 
-#[tactic(auto, using(core_meaning::specs::PlainLaws::statement_kinds, plain_declarations::specs::Sequences::passed_is, plain_declarations::specs::Sequences::failed_refused))]
+#[tactic(auto, using(core_meaning::specs::PlainLaws::statement_kinds, plain_declarators::specs::Sequences::passed_is, plain_declarators::specs::Sequences::failed_refused))]
 fn nothing_returned(word: &Token, returns: &CType) -> Result<Statement, ElabError>
     ensures { Answers (nothing_returned (plain_type returns.now) (plain_token word.now)) plain_statement result }
 {
@@ -195,7 +195,7 @@ fn nothing_returned(word: &Token, returns: &CType) -> Result<Statement, ElabErro
     Ok(Statement::Return)
 }
 
-#[tactic(auto, using(core_meaning::specs::PlainLaws::statement_kinds, plain_declarations::specs::Sequences::steps))]
+#[tactic(auto, using(core_meaning::specs::PlainLaws::statement_kinds, plain_declarators::specs::Sequences::steps))]
 fn returned_value(
     alloc: Global,
     scope: &Scope,

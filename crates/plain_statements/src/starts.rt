@@ -15,7 +15,8 @@ use crate::simple::expression_statement;
 use c_tree::{Kind, Tree};
 use c_types::CType;
 use core_meaning::Item;
-use plain_declarations::{declared_locals, two_parts};
+use plain_declarations::declared_locals;
+use plain_declarators::two_parts;
 use plain_scope::{ElabError, Scope, Used};
 use std::alloc::Global;
 
@@ -67,7 +68,7 @@ fn locals_in_block(
     Ok(items)
 }
 
-#[tactic(auto, using(plain_declarations::specs::Sequences::steps))]
+#[tactic(auto, using(plain_declarators::specs::Sequences::steps))]
 fn evaluated_item(
     alloc: Global,
     scope: &Scope,

@@ -21,7 +21,7 @@ use Rattle.plain_scope.specs.Judgements.{Gives, RefusedAs}
 use Rattle.plain_scope.specs.declared.errors.ElabError.{ElabError}
 use Rattle.plain_scope.specs.JudgementLaws.{refused_first}
 use Rattle.plain_declarations.specs.Locals.{first_size}
-use Rattle.plain_declarations.specs.Sequences.{bind_nothing, gives_of, refused_of}
+use Rattle.plain_declarators.specs.Sequences.{bind_nothing, gives_of, refused_of}
 use Rattle.plain_units.specs.Leading.{Leads, leads_with, leads_to, leads_refused}
 use Rattle.plain_units.specs.Declarators.{declared_by_kind, declared_first}
 

@@ -6,7 +6,7 @@ use Rattle.plain_scope.specs.declared.errors.ElabError.{ElabError}
 use Rattle.plain_scope.specs.declared.errors.ElabError.TheVariants.{BadType, Link, Memory}
 use Rattle.plain_scope.specs.Judgements.{Gives, RefusedAs}
 use Rattle.plain_scope.specs.JudgementLaws.{uses_in_both}
-use Rattle.plain_declarations.specs.Sequences.{bind_nothing}
+use Rattle.plain_declarators.specs.Sequences.{bind_nothing}
 use Rattle.plain_units.specs.Binding.{with_both}
 
 -- The whole judgement is what was bound so far, and then the judgement of what is left.

@@ -17,7 +17,7 @@ use Rattle.core_meaning.specs.Declarations.{name_in, object_type}
 use Rattle.core_meaning.specs.UnitNames.{Members, with_member, declared_member, one_member, members_from}
 use Rattle.plain_scope.specs.Judgements.{Gives, RefusedAs}
 use Rattle.plain_scope.specs.JudgementLaws.{refused_first, refused_then}
-use Rattle.plain_declarations.specs.Sequences.{bind_nothing, gives_of, refused_of}
+use Rattle.plain_declarators.specs.Sequences.{bind_nothing, gives_of, refused_of}
 use Rattle.plain_scope.specs.declared.errors.ElabError.{ElabError}
 use Rattle.plain_units.specs.Leading.{front, Leads, leads_with, leads_to, leads_refused}
 

@@ -16,7 +16,7 @@ use Rattle.core_meaning.specs.UnitNames.{UnitState, Storage, constant_parts, wit
 use Rattle.plain_scope.specs.Judgements.{Gives, RefusedAs}
 use Rattle.plain_scope.specs.JudgementLaws.{refused_first}
 use Rattle.plain_scope.specs.declared.errors.ElabError.{ElabError}
-use Rattle.plain_declarations.specs.Sequences.{gives_of, refused_of, gives_as}
+use Rattle.plain_declarators.specs.Sequences.{gives_of, refused_of, gives_as}
 use Rattle.plain_declarations.specs.declared.initialisers.Initial as code
 use Rattle.plain_declarations.specs.PlainDeclared.{plain_initial}
 use Rattle.plain_units.specs.Binding.{bind_assoc}

@@ -12,7 +12,7 @@ use Rattle.core_meaning.specs.UnitNames.{UnitState, Storage, with_scope, with_na
 use Rattle.plain_scope.specs.Judgements.{Gives, RefusedAs}
 use Rattle.plain_scope.specs.JudgementLaws.{gives_then, refused_first}
 use Rattle.plain_scope.specs.declared.errors.ElabError.{ElabError}
-use Rattle.plain_declarations.specs.Sequences.{gives_next, refused_next, refused_behind}
+use Rattle.plain_declarators.specs.Sequences.{gives_next, refused_next, refused_behind}
 use Rattle.plain_units.specs.Members.{member_bound, member_refused}
 
 abbrev pub placed_object : ℕ → UnitState → Storage → PlainType → PlainToken → Option PlainTree → PlainTrees → Checked UnitState

@@ -12,7 +12,7 @@ use Rattle.core_meaning.specs.UnitNames.{UnitState, too_big_declarator, too_big_
 use Rattle.plain_scope.specs.Judgements.{Gives, Refuses, RefusedAs}
 use Rattle.plain_scope.specs.JudgementLaws.{refused_first, refuses_is}
 use Rattle.plain_scope.specs.declared.errors.ElabError.{ElabError}
-use Rattle.plain_declarations.specs.Sequences.{next_of, gives_as, refused_behind}
+use Rattle.plain_declarators.specs.Sequences.{next_of, gives_as, refused_behind}
 
 pub no_declarator : (scope : Scope) (kind : Kind) (parts : PlainTrees) → (kind ≡ k.Declarator → ⊥) → too_big_declarator scope (node kind parts) ≡ None
 no_declarator scope k.Declarator parts other = absurd (other refl)

@@ -14,7 +14,7 @@ use Rattle.plain_scope.specs.Parts.{parts_in}
 use Rattle.plain_scope.specs.Judgements.{Gives, RefusedAs}
 use Rattle.plain_scope.specs.JudgementLaws.{gives_nothing_used, refused_first}
 use Rattle.plain_scope.specs.declared.errors.ElabError.{ElabError}
-use Rattle.plain_declarations.specs.Sequences.{bind_nothing, gives_of, refused_of, gives_as}
+use Rattle.plain_declarators.specs.Sequences.{bind_nothing, gives_of, refused_of, gives_as}
 use Rattle.plain_units.specs.Binding.{bind_assoc, regrouped, then_same}
 use Rattle.plain_units.specs.Leading.{front, Leads, leads_with, leads_to, leads_refused}
 

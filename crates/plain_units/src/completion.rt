@@ -13,7 +13,7 @@ use crate::names::Storage;
 use c_text::Token;
 use c_tree::{Kind, Tree};
 use c_types::CType;
-use plain_declarations::{judge_object, name_in};
+use plain_declarators::{judge_object, name_in};
 use plain_scope::{ElabError, Scope, Struct, is_void};
 
 fn is_name(tag: &[u8], name: Option<&Token>) -> bool

@@ -16,7 +16,7 @@ use crate::objects::declare_object;
 use c_text::Token;
 use c_tree::{Kind, Terminal, Tree};
 use c_types::CType;
-use plain_declarations::name_in;
+use plain_declarators::name_in;
 use plain_scope::{ElabError, Used, is_word};
 use std::alloc::Global;
 

@@ -8,7 +8,7 @@ ghost use Rattle.core_meaning.specs.UnitNames as spec;
 ghost use Rattle.plain_scope.specs.Blocks.{without_block};
 ghost use Rattle.plain_scope.specs.PlainScope.{plain_scope, plain_sort};
 ghost use Rattle.plain_scope.specs.Judgements.{Answers, Judges, RefusedAs};
-ghost use Rattle.plain_declarations.specs.PlainParameters.{plain_parameter};
+ghost use Rattle.plain_parameters.specs.PlainParameters.{plain_parameter};
 ghost use Rattle.plain_statements.specs.PlainJudged.{plain_judged_items};
 ghost use Rattle.plain_units.specs.PlainStates.{plain_storage};
 ghost use Rattle.plain_units.specs.Functions.{placed_function, function_declared, function_items, items_in, found_as, named_function, function_with_result, kind_of_result, complete_function, function_found, refusal_at};
@@ -19,9 +19,8 @@ use c_tree::{Kind, Tree};
 use c_types::CType;
 use cond_formula::NoMemory;
 use core_meaning::{Definition, Item, TypeKind};
-use plain_declarations::{
-    Parameter, declared_parameters, enter_parameter, node_parts, starred, three_parts,
-};
+use plain_declarators::{node_parts, starred, three_parts};
+use plain_parameters::{Parameter, declared_parameters, enter_parameter};
 use plain_scope::{
     ElabError, Scope, Signature, Sort, Used, copied, first_token, is_void, refused, unless,
 };
@@ -94,7 +93,7 @@ fn place_function(
 }
 
 /// The parameters of a function whose name no other declaration keeps from it.
-#[tactic(auto, using(plain_declarations::specs::Sequences::passed_gives, plain_declarations::specs::Sequences::passed_refused, plain_declarations::specs::Sequences::failed_refused))]
+#[tactic(auto, using(plain_declarators::specs::Sequences::passed_gives, plain_declarators::specs::Sequences::passed_refused, plain_declarators::specs::Sequences::failed_refused))]
 fn new_function<'t>(
     alloc: Global,
     scope: &mut Scope,
@@ -349,7 +348,7 @@ fn is_result(scope: &Scope, ty: &CType) -> bool
     is_void(ty) || scope.is_complete(ty)
 }
 
-#[tactic(auto, using(plain_declarations::specs::Sequences::passed_gives, plain_declarations::specs::Sequences::passed_refused, crate::specs::Functions::result_refused))]
+#[tactic(auto, using(plain_declarators::specs::Sequences::passed_gives, plain_declarators::specs::Sequences::passed_refused, crate::specs::Functions::result_refused))]
 fn complete_function(
     alloc: Global,
     scope: &mut Scope,

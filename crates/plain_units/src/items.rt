@@ -16,7 +16,7 @@ use crate::structs::define_struct;
 use c_text::Token;
 use c_tree::{Kind, Tree};
 use c_types::CType;
-use plain_declarations::{base_of, declared_base, name_in, node_parts, three_parts, two_parts};
+use plain_declarators::{base_of, declared_base, name_in, node_parts, three_parts, two_parts};
 use plain_link::Definite;
 use plain_scope::{ElabError, Used};
 use std::alloc::Global;

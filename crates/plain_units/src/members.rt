@@ -15,7 +15,7 @@ use c_tree::{Kind, Tree};
 use c_types::{CType, Member};
 use cond_formula::NoMemory;
 use core_meaning::TypeKind;
-use plain_declarations::{name_in, object_type};
+use plain_declarators::{name_in, object_type};
 use plain_expressions::scalars_with;
 use plain_scope::{ElabError, Scope, Used, unless};
 use std::alloc::Global;
@@ -42,7 +42,7 @@ fn enter_number(
     Ok(())
 }
 
-#[tactic(auto, using(plain_declarations::specs::Bound::struct_numbers))]
+#[tactic(auto, using(plain_declarators::specs::Bound::struct_numbers))]
 fn add_member(
     alloc: Global,
     scope: &Scope,
@@ -62,7 +62,7 @@ fn add_member(
 }
 
 /// A member of a type that must be complete.
-#[tactic(auto, using(plain_declarations::specs::Sequences::passed_is, plain_declarations::specs::Sequences::failed_refused))]
+#[tactic(auto, using(plain_declarators::specs::Sequences::passed_is, plain_declarators::specs::Sequences::failed_refused))]
 fn complete_member(
     alloc: Global,
     scope: &Scope,
@@ -81,7 +81,7 @@ fn complete_member(
     Ok(())
 }
 
-#[tactic(auto, using(plain_declarations::specs::Sequences::gives_as, plain_declarations::specs::Sequences::refused_behind, plain_scope::specs::JudgementLaws::refused_first))]
+#[tactic(auto, using(plain_declarators::specs::Sequences::gives_as, plain_declarators::specs::Sequences::refused_behind, plain_scope::specs::JudgementLaws::refused_first))]
 fn typed_member(
     alloc: Global,
     scope: &Scope,
@@ -106,7 +106,7 @@ fn is_new_member(known: &Members, name: &[u8]) -> bool
 }
 
 /// A member of the struct with this number.
-#[tactic(auto, using(plain_declarations::specs::Sequences::passed_gives, plain_declarations::specs::Sequences::passed_refused, plain_declarations::specs::Sequences::failed_refused, crate::specs::Members::member_bound, crate::specs::Members::member_refused))]
+#[tactic(auto, using(plain_declarators::specs::Sequences::passed_gives, plain_declarators::specs::Sequences::passed_refused, plain_declarators::specs::Sequences::failed_refused, crate::specs::Members::member_bound, crate::specs::Members::member_refused))]
 fn declared_member(
     alloc: Global,
     scope: &Scope,

@@ -170,7 +170,7 @@ pub fn may_be_function(scope: &Scope, storage: Storage, returns: &CType, name: &
 }
 
 /// A further declaration of a name must have the same type and linkage.
-#[tactic(auto, using(plain_declarations::specs::Sequences::passed_is, plain_declarations::specs::Sequences::failed_refused))]
+#[tactic(auto, using(plain_declarators::specs::Sequences::passed_is, plain_declarators::specs::Sequences::failed_refused))]
 fn declare_again(
     scope: &Scope,
     visible: &FileName,

@@ -14,7 +14,7 @@ use crate::names::{Storage, declare_name};
 use c_text::Token;
 use c_tree::{Kind, Tree};
 use c_types::CType;
-use plain_declarations::object_type;
+use plain_declarators::object_type;
 use plain_scope::{ElabError, Sort, Used, copied};
 use std::alloc::Global;
 

@@ -10,7 +10,7 @@ ghost use Rattle.plain_units.specs.Sizes.{too_big_listed};
 use c_text::Token;
 use c_tree::{Kind, Tree};
 use core_meaning::TypeKind;
-use plain_declarations::name_in;
+use plain_declarators::name_in;
 use plain_expressions::is_small;
 use plain_scope::{ElabError, FileName, Scope, Sort, refused};
 

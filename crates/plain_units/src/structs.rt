@@ -14,7 +14,7 @@ use c_text::Token;
 use c_tree::Tree;
 use c_types::CType;
 use core_meaning::TypeKind;
-use plain_declarations::{declared_base, name_in, node_parts, three_parts};
+use plain_declarators::{declared_base, name_in, node_parts, three_parts};
 use plain_scope::{ElabError, Scope, Struct, Used, unless};
 use std::alloc::Global;
 use std::collections::HashMap;
@@ -22,7 +22,7 @@ use std::collections::HashMap;
 // ---- members
 
 /// A declaration of members by its words and declarators.
-#[tactic(auto, using(plain_declarations::specs::Locals::base_gives, plain_declarations::specs::Locals::base_refused, plain_declarations::specs::Sequences::gives_as, plain_scope::specs::JudgementLaws::refused_first))]
+#[tactic(auto, using(plain_declarators::specs::Bound::base_gives, plain_declarators::specs::Bound::base_refused, plain_declarators::specs::Sequences::gives_as, plain_scope::specs::JudgementLaws::refused_first))]
 fn members_by(
     alloc: Global,
     scope: &mut Scope,
@@ -117,7 +117,7 @@ fn complete_struct(scope: &mut Scope, number: u32, known: Members)
 }
 
 /// The members of a struct that is declared, behind which it is complete.
-#[tactic(auto, using(plain_declarations::specs::Sequences::gives_as, plain_scope::specs::JudgementLaws::refused_first))]
+#[tactic(auto, using(plain_declarators::specs::Sequences::gives_as, plain_scope::specs::JudgementLaws::refused_first))]
 fn struct_members(
     alloc: Global,
     scope: &mut Scope,
@@ -150,7 +150,7 @@ fn number_of_struct(ty: &CType) -> u32
     }
 }
 
-#[tactic(auto, using(plain_declarations::specs::Locals::base_gives, plain_declarations::specs::Locals::base_refused, plain_scope::specs::JudgementLaws::refused_first))]
+#[tactic(auto, using(plain_declarators::specs::Bound::base_gives, plain_declarators::specs::Bound::base_refused, plain_scope::specs::JudgementLaws::refused_first))]
 fn struct_by_words(
     alloc: Global,
     scope: &mut Scope,
@@ -184,7 +184,7 @@ fn is_defined_tag(scope: &Scope, tag: &[u8]) -> bool
     }
 }
 
-#[tactic(auto, using(plain_declarations::specs::Sequences::passed_gives, plain_declarations::specs::Sequences::passed_refused, plain_declarations::specs::Sequences::failed_refused))]
+#[tactic(auto, using(plain_declarators::specs::Sequences::passed_gives, plain_declarators::specs::Sequences::passed_refused, plain_declarators::specs::Sequences::failed_refused))]
 fn struct_of_tag(
     alloc: Global,
     scope: &mut Scope,

@@ -13,7 +13,7 @@ use crate::items::judge_items;
 use crate::sizes::judge_sizes;
 use c_tree::Tree;
 use cond_formula::NoMemory;
-use plain_declarations::node_parts;
+use plain_declarators::node_parts;
 use plain_link::{Definitions, Left};
 use plain_scope::{ElabError, Numbers, Scope, Struct, Used};
 use std::alloc::Global;

@@ -7,7 +7,7 @@ use Rattle.core_meaning.specs.Constancy.{initial_entries}
 use Rattle.plain_scope.specs.PlainScope.{plain_scope, uses_of}
 use Rattle.plain_declarations.specs.PlainDeclared.{plain_initial}
 use Rattle.plain_declarations.specs.Entries.{globals_if, entries_from}
-use Rattle.plain_declarations.specs.Progress.{Continues}
+use Rattle.plain_declarators.specs.Progress.{Continues}
 use Rattle.plain_declarations.proofs.initialisers.+initialise.Given as goal
 
 abbrev pub invariant-entries-loop-number : goal.invariant-entries-loop-number

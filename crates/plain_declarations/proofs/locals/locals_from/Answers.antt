@@ -6,7 +6,7 @@ use Rattle.core_meaning.specs.Declarations.{locals_from, with_items}
 use Rattle.plain_scope.specs.PlainScope.{plain_scope, uses_of}
 use Rattle.plain_scope.specs.Judgements.{RefusedAs}
 use Rattle.plain_declarations.specs.PlainLocals.{plain_local_item, plain_locals}
-use Rattle.plain_declarations.specs.Progress.{Continues, continues_from}
+use Rattle.plain_declarators.specs.Progress.{Continues, continues_from}
 use Rattle.plain_declarations.specs.Locals.{first_size, locals_continue, locals_end, locals_refused}
 use Rattle.plain_declarations.proofs.locals.locals_from.Goals as goal
 

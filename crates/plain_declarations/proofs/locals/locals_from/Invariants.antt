@@ -5,7 +5,7 @@ use Rattle.core_meaning.specs.Declarations.{with_items, locals_from}
 use Rattle.plain_scope.specs.Blocks.{without_block}
 use Rattle.plain_scope.specs.PlainScope.{plain_scope, uses_of}
 use Rattle.plain_declarations.specs.PlainLocals.{plain_local_item}
-use Rattle.plain_declarations.specs.Progress.{Continues}
+use Rattle.plain_declarators.specs.Progress.{Continues}
 use Rattle.plain_declarations.proofs.locals.locals_from.Given as goal
 
 abbrev pub invariant-loop-place : goal.invariant-loop-place

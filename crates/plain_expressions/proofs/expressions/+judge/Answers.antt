@@ -1,6 +1,5 @@
 -- Expressions, each kind of node from what its parts are judged as.
-use Rattle.std.proofs.Common.{rules, ◌≡◌, ℕ, ◌+◌, ◌*◌, ◌==◌, List, true, Vec, Global, get_or, map, drop, length, refl, sym, ap, subst, ◌∙◌, arith}
-use Rattle.std.proofs.lemmas.List.{length-map}
+use Rattle.std.proofs.Common.{rules, ◌≡◌, ℕ, ◌+◌, ◌*◌, List, true, Vec, Global, get_or, map, drop, refl, sym, ap, subst, ◌∙◌, arith}
 use Rattle.c_types.specs.declared.types.CType.{CType}
 use Rattle.c_types.specs.Types.{plain_type}
 use Rattle.c_tree.specs.declared.trees.Tree.{Tree}

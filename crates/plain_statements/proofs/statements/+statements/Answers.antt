@@ -11,7 +11,7 @@ use Rattle.core_meaning.specs.Statements.{judged_statement, judged_else, judged_
 use Rattle.plain_scope.specs.PlainScope.{plain_scope, uses_of}
 use Rattle.plain_scope.specs.Judgements.{RefusedAs}
 use Rattle.plain_scope.specs.JudgementLaws.{refused_first}
-use Rattle.plain_declarations.specs.Sequences.{gives_of, refused_of}
+use Rattle.plain_declarators.specs.Sequences.{gives_of, refused_of}
 use Rattle.plain_statements.specs.Blocks.{put}
 use Rattle.plain_statements.specs.PlainJudged.{plain_begun, plain_item_of, plain_judged, plain_judged_items}
 use Rattle.plain_statements.specs.Steps.{around_of, begun_if, with_else, block_of, branches_of, while_of, do_of, for_of, for_by, simple_of, keeping}

@@ -5,7 +5,7 @@ use Rattle.c_types.specs.Types.{PlainType, plain_type}
 use Rattle.c_tree.specs.Trees.{PlainTree, PlainTrees, plain_tree, plain_trees}
 use Rattle.core_meaning.specs.UnitNames.{UnitState, Storage, declared_function, declared_object}
 use Rattle.plain_scope.specs.Judgements.{RefusedAs}
-use Rattle.plain_declarations.specs.Sequences.{refused_of}
+use Rattle.plain_declarators.specs.Sequences.{refused_of}
 use Rattle.plain_units.specs.PlainStates.{plain_state, plain_storage}
 use Rattle.plain_units.specs.Declarators.{declared_by_kind}
 use Rattle.plain_units.proofs.Declarators.{for_function, for_object}

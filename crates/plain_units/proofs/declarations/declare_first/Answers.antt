@@ -6,7 +6,7 @@ use Rattle.c_tree.specs.Trees.{PlainTree, PlainTrees, none, more, plain_tree, pl
 use Rattle.core_meaning.specs.UnitNames.{UnitState, Storage, declared_one}
 use Rattle.plain_scope.specs.Parts.{is_word}
 use Rattle.plain_scope.specs.Judgements.{RefusedAs}
-use Rattle.plain_declarations.specs.Sequences.{refused_of}
+use Rattle.plain_declarators.specs.Sequences.{refused_of}
 use Rattle.plain_units.specs.PlainStates.{plain_state, plain_storage}
 use Rattle.plain_units.specs.Declarators.{declared_first}
 use Rattle.plain_units.proofs.Declarators.{nothing_left, first_only, first_initialised, first_alone}

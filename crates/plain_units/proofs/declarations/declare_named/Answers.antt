@@ -6,7 +6,7 @@ use Rattle.c_tree.specs.Trees.{PlainTree, PlainTrees, node, plain_tree, plain_tr
 use Rattle.core_meaning.specs.Declarations.{name_in}
 use Rattle.core_meaning.specs.UnitNames.{UnitState, Storage, declared_one}
 use Rattle.plain_scope.specs.Judgements.{RefusedAs}
-use Rattle.plain_declarations.specs.Sequences.{refused_of}
+use Rattle.plain_declarators.specs.Sequences.{refused_of}
 use Rattle.plain_units.specs.PlainStates.{plain_state, plain_storage}
 use Rattle.plain_units.specs.Declarators.{declared_by_kind}
 use Rattle.plain_units.proofs.Declarators.{named_one}

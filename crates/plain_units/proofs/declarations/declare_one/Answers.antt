@@ -5,7 +5,7 @@ use Rattle.c_tree.specs.Trees.{PlainTree, PlainTrees, node, plain_tree, plain_tr
 use Rattle.c_tree.specs.TreeLaws.{tree_kinds}
 use Rattle.core_meaning.specs.UnitNames.{UnitState, Storage, declared_one}
 use Rattle.plain_scope.specs.Judgements.{RefusedAs}
-use Rattle.plain_declarations.specs.Sequences.{refused_of}
+use Rattle.plain_declarators.specs.Sequences.{refused_of}
 use Rattle.plain_units.specs.PlainStates.{plain_state, plain_storage}
 use Rattle.plain_units.proofs.declarations.declare_one.Goals as goal
 

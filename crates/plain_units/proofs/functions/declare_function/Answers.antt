@@ -9,8 +9,8 @@ use Rattle.core_meaning.specs.Entities.{Scope}
 use Rattle.core_meaning.specs.UnitNames.{Storage, signature_of}
 use Rattle.plain_scope.specs.PlainScope.{plain_scope, uses_of}
 use Rattle.plain_scope.specs.Judgements.{RefusedAs}
-use Rattle.plain_declarations.specs.PlainParameters.{plain_parameter}
-use Rattle.plain_declarations.specs.declared.parameters.Parameter.{Parameter as RustParameter}
+use Rattle.plain_parameters.specs.PlainParameters.{plain_parameter}
+use Rattle.plain_parameters.specs.declared.parameters.Parameter.{Parameter as RustParameter}
 use Rattle.plain_units.specs.PlainStates.{plain_storage}
 use Rattle.plain_units.specs.Functions.{placed_function, function_declared, placing_refused, declared_gives}
 use Rattle.plain_units.proofs.functions.declare_function.Goals as goal

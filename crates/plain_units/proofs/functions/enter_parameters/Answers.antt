@@ -2,7 +2,7 @@ use Rattle.std.proofs.Common.{◌+◌, map, drop, arith, sym, ap, ◌∙◌}
 use Rattle.core_meaning.specs.Entities.{Scope}
 use Rattle.core_meaning.specs.UnitNames.{with_parameters}
 use Rattle.plain_scope.specs.PlainScope.{plain_scope}
-use Rattle.plain_declarations.specs.PlainParameters.{plain_parameter}
+use Rattle.plain_parameters.specs.PlainParameters.{plain_parameter}
 use Rattle.plain_units.specs.Parameters.{parameters_next, parameters_end}
 use Rattle.plain_units.proofs.functions.enter_parameters.Goals as goal
 

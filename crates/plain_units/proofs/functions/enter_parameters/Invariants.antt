@@ -2,7 +2,7 @@ use Rattle.std.proofs.Common.{◌≡◌, length, map, drop}
 use Rattle.core_meaning.specs.UnitNames.{with_parameters}
 use Rattle.plain_scope.specs.Blocks.{without_block}
 use Rattle.plain_scope.specs.PlainScope.{plain_scope}
-use Rattle.plain_declarations.specs.PlainParameters.{plain_parameter}
+use Rattle.plain_parameters.specs.PlainParameters.{plain_parameter}
 use Rattle.plain_units.proofs.functions.enter_parameters.Given as goal
 
 abbrev pub invariant-loop-i : goal.invariant-loop-i

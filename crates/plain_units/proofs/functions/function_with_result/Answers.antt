@@ -7,8 +7,8 @@ use Rattle.core_meaning.specs.Entities.{Scope}
 use Rattle.core_meaning.specs.UnitNames.{Storage}
 use Rattle.plain_scope.specs.PlainScope.{plain_scope, uses_of}
 use Rattle.plain_scope.specs.Judgements.{Gives, RefusedAs}
-use Rattle.plain_declarations.specs.PlainParameters.{plain_parameter}
-use Rattle.plain_declarations.specs.declared.parameters.Parameter.{Parameter as RustParameter}
+use Rattle.plain_parameters.specs.PlainParameters.{plain_parameter}
+use Rattle.plain_parameters.specs.declared.parameters.Parameter.{Parameter as RustParameter}
 use Rattle.plain_statements.specs.PlainJudged.{plain_judged_items}
 use Rattle.plain_units.specs.PlainStates.{plain_storage}
 use Rattle.plain_units.specs.Functions.{FoundFunction, found_as, named_function, function_with_result, with_result_gives, with_result_refused}

@@ -6,8 +6,8 @@ use Rattle.core_meaning.specs.declared.refusals.TypeKind.{TypeKind}
 use Rattle.core_meaning.specs.Entities.{Scope, function}
 use Rattle.core_meaning.specs.UnitNames.{Storage, signature_of, with_name, kind_or_incomplete, may_be_function}
 use Rattle.plain_scope.specs.PlainScope.{plain_scope, uses_of}
-use Rattle.plain_declarations.specs.PlainParameters.{plain_parameter}
-use Rattle.plain_declarations.specs.declared.parameters.Parameter.{Parameter as RustParameter}
+use Rattle.plain_parameters.specs.PlainParameters.{plain_parameter}
+use Rattle.plain_parameters.specs.declared.parameters.Parameter.{Parameter as RustParameter}
 use Rattle.plain_units.specs.PlainStates.{plain_storage}
 use Rattle.plain_units.specs.Functions.{kind_behind}
 use Rattle.plain_units.proofs.functions.kind_of_result.Goals as goal

@@ -3,7 +3,7 @@ use Rattle.c_tree.specs.Trees.{PlainTrees, plain_trees}
 use Rattle.core_meaning.specs.UnitNames.{UnitState}
 use Rattle.plain_scope.specs.PlainScope.{uses_of}
 use Rattle.plain_scope.specs.Judgements.{RefusedAs}
-use Rattle.plain_declarations.specs.PlainDeclared.{plain_based}
+use Rattle.plain_declarators.specs.PlainBased.{plain_based}
 use Rattle.plain_units.specs.PlainStates.{plain_state, plain_storage}
 use Rattle.plain_units.specs.Items.{declaration_item, declaration_gives, words_refused, declarators_refused}
 use Rattle.plain_units.proofs.items.declare_by_words.Goals as goal

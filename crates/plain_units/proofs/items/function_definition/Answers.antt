@@ -4,7 +4,7 @@ use Rattle.c_tree.specs.Trees.{PlainTree, PlainTrees, node, plain_tree, plain_tr
 use Rattle.core_meaning.specs.UnitNames.{UnitState, judged_item}
 use Rattle.plain_scope.specs.PlainScope.{uses_of}
 use Rattle.plain_scope.specs.Judgements.{RefusedAs}
-use Rattle.plain_declarations.specs.Sequences.{gives_of, refused_of}
+use Rattle.plain_declarators.specs.Sequences.{gives_of, refused_of}
 use Rattle.plain_units.specs.PlainStates.{plain_state}
 use Rattle.plain_units.specs.Items.{function_item, function_item_is}
 use Rattle.plain_units.proofs.items.function_definition.Goals as goal

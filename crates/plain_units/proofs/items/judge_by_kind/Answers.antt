@@ -3,7 +3,7 @@ use Rattle.c_tree.specs.declared.kinds.Kind.TheVariants as k
 use Rattle.c_tree.specs.Trees.{PlainTrees, node, plain_trees}
 use Rattle.core_meaning.specs.UnitNames.{UnitState, judged_item}
 use Rattle.plain_scope.specs.Judgements.{RefusedAs}
-use Rattle.plain_declarations.specs.Sequences.{refused_of}
+use Rattle.plain_declarators.specs.Sequences.{refused_of}
 use Rattle.plain_units.specs.PlainStates.{plain_state}
 use Rattle.plain_units.proofs.items.judge_by_kind.Goals as goal
 

@@ -3,7 +3,7 @@ use Rattle.c_tree.specs.Trees.{PlainTree, PlainTrees, node, plain_tree, plain_tr
 use Rattle.c_tree.specs.TreeLaws.{tree_kinds}
 use Rattle.core_meaning.specs.UnitNames.{UnitState, judged_item}
 use Rattle.plain_scope.specs.Judgements.{RefusedAs}
-use Rattle.plain_declarations.specs.Sequences.{refused_of}
+use Rattle.plain_declarators.specs.Sequences.{refused_of}
 use Rattle.plain_units.specs.PlainStates.{plain_state}
 use Rattle.plain_units.proofs.items.judge_item.Goals as goal
 

@@ -4,7 +4,7 @@ use Rattle.c_tree.specs.Trees.{PlainTrees, node, plain_tree, plain_trees}
 use Rattle.core_meaning.specs.UnitNames.{UnitState, judged_item}
 use Rattle.plain_scope.specs.PlainScope.{uses_of}
 use Rattle.plain_scope.specs.Judgements.{RefusedAs}
-use Rattle.plain_declarations.specs.Sequences.{gives_of, refused_of}
+use Rattle.plain_declarators.specs.Sequences.{gives_of, refused_of}
 use Rattle.plain_units.specs.PlainStates.{plain_state}
 use Rattle.plain_units.specs.Items.{tag_item, tag_item_is}
 use Rattle.plain_units.proofs.items.struct_declaration.Goals as goal

@@ -1,0 +1,2 @@
+pub mod PlainParameters
+pub mod Parameters
