@@ -1,4 +1,3 @@
 pub mod ChoiceTrees
 pub mod ItemLaws
 pub mod Leaves
-pub mod SpellingLaws

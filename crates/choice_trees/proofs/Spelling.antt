@@ -1,17 +1,13 @@
--- What the tree of a configuration spells.
-use Rattle.std.proofs.Common.{◌≡◌, ℕ, suc, Bool, true, false, List, [], ◌∷◌, map, refl, ap, ◌∙◌}
+-- The tree of a configuration spells the tokens that the configuration sees: by induction on trees, parts and alternatives at once.
+use Rattle.std.proofs.Common.{◌≡◌, ℕ, suc, Bool, true, false, List, [], ◌∷◌, refl, ap, ◌∙◌}
 use Rattle.std.specs.Prelude.{if◌then◌else◌, Some}
 use Rattle.cond_formula.specs.Conditions.{value}
 use Rattle.c_text.specs.Token.{PlainToken}
 use Rattle.c_tree.specs.declared.kinds.Kind.{Kind}
 use Rattle.c_tree.specs.declared.kinds.Kind.TheVariants.{Unit}
-use Rattle.c_tree.specs.Trees.{PlainTrees, written, all_written, spelled}
-use Rattle.choice_trees.specs.declared.trees.Forest.{Forest}
-use Rattle.choice_trees.specs.ChoiceTrees.{PlainItem, PlainChoices, PlainBranches, token, inner, no_choice, choice, no_branch, branch, plain_choices, needs_statement, semicolon, with_part, item_at, parts_at, branch_at, forest_at}
-use Rattle.choice_trees.specs.Leaves.{Leaf, item_leaves, parts_leaves, branch_leaves, forest_leaves}
-
-abbrev pub texts : List Leaf → List PlainToken
-texts leaves = map (λ l. l.text) leaves
+use Rattle.c_tree.specs.Trees.{PlainTrees, written, all_written}
+use Rattle.choice_trees.specs.ChoiceTrees.{PlainItem, PlainChoices, PlainBranches, token, inner, no_choice, choice, no_branch, branch, plain_choices, needs_statement, semicolon, with_part, item_at, parts_at, branch_at}
+use Rattle.choice_trees.specs.Leaves.{Leaf, texts, item_leaves, parts_leaves, branch_leaves, LeavesAreSpelled}
 
 module _ (on : ℕ → Bool) where
   mutual
@@ -33,6 +29,5 @@ module _ (on : ℕ → Bool) where
           | false ↦ branches_spell needed rest leaves parts behind same
         ]
 
-  -- the tokens that a configuration sees are those that its tree spells
-  pub leaves_spell : (forest : Forest) → texts (forest_leaves on forest) ≡ spelled (forest_at on forest)
-  leaves_spell forest = parts_spell Unit 0 (plain_choices forest.items.items) []
+pub leaves_are_spelled_lem : LeavesAreSpelled
+leaves_are_spelled_lem on forest = parts_spell on Unit 0 (plain_choices forest.items.items) []
