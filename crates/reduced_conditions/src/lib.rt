@@ -7,4 +7,5 @@ mod parts;
 mod same;
 
 pub use connectives::{both, either, without};
+pub use parts::is_implied;
 pub use same::{is_always, is_never, is_same};

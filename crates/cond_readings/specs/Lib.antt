@@ -1,0 +1,4 @@
+pub mod Readings
+pub mod Tests
+pub mod Settings
+pub mod TakenLaws
