@@ -1,6 +1,3 @@
-pub mod WordLemmas
-pub mod StartLemmas
-pub mod RowLemmas
 pub mod KeptLemmas
 pub mod MachineLemmas
 pub mod FrameLemmas

@@ -4,7 +4,7 @@ use Rattle.std.specs.Prelude.{replicate}
 use Rattle.c_tree.specs.declared.terminals.Terminal.{Terminal}
 use Rattle.c_tree.specs.Places as places
 use Rattle.c_tree.specs.Machine.{Making, Frame, frame, Outcome, moved, arrives, outcome}
-use Rattle.plain_parse.specs.PlainMoves.{skipping}
+use Rattle.grammar_moves.specs.PlainMoves.{skipping}
 
 module _ {A : Type 0} (making : Making A) where
   pub moved-skipping :

@@ -5,7 +5,7 @@ use Rattle.c_tree.specs.Machine as machine
 use Rattle.plain_parse.specs.declared.values.LowTree.{LowTree}
 use Rattle.plain_parse.specs.declared.values.Parts.{Parts}
 use Rattle.plain_parse.specs.declared.frames.Frame.{Frame}
-use Rattle.plain_parse.specs.PlainPlaces.{plain_place}
+use Rattle.grammar_moves.specs.PlainPlaces.{plain_place}
 
 abbrev pub plain_built : Option LowTree → Option PlainTree
 plain_built value = option_map (λ low. plain_tree low.tree) value

@@ -2,18 +2,16 @@
 
 ghost use Rattle.std.specs.Prelude.{◌≡◌, ◌++◌, [], ◌∷◌, map, replicate, Some, OnOk, IfOk};
 ghost use Rattle.c_tree.specs.Machine as machine;
-ghost use Rattle.plain_parse.specs.PlainPlaces.{plain_place, plain_around};
-ghost use Rattle.plain_parse.specs.PlainMoves.{plain_start, plain_node_start, begun_by};
+ghost use Rattle.grammar_moves.specs.PlainPlaces.{plain_place, plain_around};
+ghost use Rattle.grammar_moves.specs.PlainMoves.{plain_start, plain_node_start, begun_by};
 ghost use Rattle.plain_parse.specs.Kept.{of_kept};
 ghost use Rattle.plain_parse.specs.Frames.{plain_built, plain_frame, plain_frames};
 
-use crate::beginnings::{Beginning, NodeStart, Start};
 use crate::makings::of_nothing;
-use crate::places::Place;
-use crate::slots::Category;
 use crate::values::Built;
 use c_tree::Kind;
 use cond_formula::NoMemory;
+use grammar_moves::{Beginning, Category, NodeStart, Place, Start};
 use std::alloc::Global;
 
 /// A node that has begun: the place in it, and its parts so far.

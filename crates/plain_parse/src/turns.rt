@@ -5,21 +5,19 @@ ghost use Rattle.std.specs.Option.{option_copied};
 ghost use Rattle.c_tree.specs.declared.terminals.Terminal.{Terminal as Sort};
 ghost use Rattle.c_tree.specs.Trees.{PlainTree};
 ghost use Rattle.c_tree.specs.Machine as machine;
-ghost use Rattle.plain_parse.specs.PlainPlaces.{plain_place};
-ghost use Rattle.plain_parse.specs.PlainMoves.{plain_action};
+ghost use Rattle.grammar_moves.specs.PlainPlaces.{plain_place};
+ghost use Rattle.grammar_moves.specs.PlainMoves.{plain_action};
 ghost use Rattle.plain_parse.specs.Kept.{of_kept};
 ghost use Rattle.plain_parse.specs.Frames.{plain_built, plain_frames};
 ghost use Rattle.plain_parse.specs.Turns.{read_as, stepped, turned, LeftIfAgain};
 
-use crate::backs::back;
 use crate::frames::{Frame, enter, shift, skip, take_first};
 use crate::makings::{alone, of_nothing, of_parts, of_token};
-use crate::moves::{Action, next_move};
-use crate::places::Place;
 use crate::values::Built;
 use c_text::Token;
 use c_tree::Terminal;
 use cond_formula::NoMemory;
+use grammar_moves::{Action, Place, back, next_move};
 use std::alloc::Global;
 
 /// What a token leads to.

@@ -1,8 +1,8 @@
 use Rattle.std.proofs.Common.{◌∙◌, ap, sym, map}
 use Rattle.std.specs.Option.{option_copied}
 use Rattle.c_tree.specs.Machine.{moved, arrives, outcome}
-use Rattle.plain_parse.specs.PlainPlaces.{plain_place}
-use Rattle.plain_parse.specs.PlainMoves.{plain_action}
+use Rattle.grammar_moves.specs.PlainPlaces.{plain_place}
+use Rattle.grammar_moves.specs.PlainMoves.{plain_action}
 use Rattle.plain_parse.specs.Kept.{of_kept}
 use Rattle.plain_parse.specs.Frames.{plain_built, plain_frames}
 use Rattle.plain_parse.specs.Turns.{read_as}

@@ -1,0 +1,4 @@
+pub mod Slots
+pub mod PlainPlaces
+pub mod WordLists
+pub mod PlainMoves

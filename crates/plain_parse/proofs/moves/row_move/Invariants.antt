@@ -1,5 +1,0 @@
-use Rattle.plain_parse.proofs.RowLemmas.{Skipped}
-use Rattle.plain_parse.proofs.moves.row_move.Given as goal
-
-abbrev pub invariant-loop-place : goal.invariant-loop-place
-invariant-loop-place l = Skipped l.row l.slots l.read l.token l.skipped l.place
