@@ -1,0 +1,6 @@
+mod Behind
+mod SpineReads
+mod Leading
+mod Walks
+mod Sources
+mod TestLemmas

@@ -1,0 +1,4 @@
+pub mod WalkReads
+pub mod SourceReads
+pub mod Tests
+pub mod Laws
