@@ -1,13 +1,13 @@
 -- Directive lines where a condition holds.
-use Rattle.std.proofs.Common.{◌≡◌, ℕ, suc, ◌<◌, Bool, true, false, List, [], ◌∷◌, length, map, drop, IsTrue, Option, Some, None, refl, sym, ap, ◌∙◌, arith}
-use Rattle.std.specs.Prelude.{if◌then◌else◌, ◌||◌, ◌&&◌, not, is_some, option_map, IfSome, Vec, ◌≢◌}
+use Rattle.std.proofs.Common.{◌≡◌, ℕ, suc, ◌<◌, Bool, true, false, List, [], ◌∷◌, length, drop, IsTrue, Option, Some, None, refl, sym, ap, ◌∙◌, arith}
+use Rattle.std.specs.Prelude.{if◌then◌else◌, ◌||◌, ◌&&◌, not, is_some, IfSome, Vec, ◌≢◌}
 use Rattle.std.specs.declared.alloc.Global.{Global}
 use Rattle.std.specs.List.{list_any}
 use Rattle.std.specs.Str.{bytes_eq}
 use Rattle.std.specs.Cmp.Lexicographic.{bytes_decides}
 use Rattle.std.proofs.Math.Path.{fun_ext}
 use Rattle.c_text.specs.Token.{PlainToken}
-use Rattle.c_text.specs.Directives.{PlainMacro, PlainDirective, directive_of, define_line, undef_line, include_line}
+use Rattle.c_text.specs.Directives.{PlainMacro, PlainDirective, directive_of, define_line, undef_line}
 use Rattle.c_text.specs.declared.token.Token.{Token}
 use Rattle.c_text.specs.declared.macros.Macro.{Macro}
 use Rattle.pp_lines.specs.declared.forms.Directive.{Directive}

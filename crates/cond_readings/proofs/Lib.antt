@@ -1,5 +1,4 @@
 pub mod OptionLemmas
-pub mod PartLemmas
 pub mod SeenLemmas
 pub mod TestLemmas
 pub mod DirectiveLemmas

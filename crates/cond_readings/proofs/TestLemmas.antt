@@ -1,9 +1,7 @@
 -- The tokens of an expression one by one.
-use Rattle.std.proofs.Common.{◌≡◌, ℕ, zero, suc, ◌≤◌, Bool, List, [], ◌∷◌, ◌++◌, Option, Some, None, true, false, refl, ap, sym, ◌∙◌, arith}
-use Rattle.std.specs.Prelude.{codes, if◌then◌else◌, not, map}
+use Rattle.std.proofs.Common.{◌≡◌, ℕ, zero, suc, ◌≤◌, List, [], ◌∷◌, ◌++◌, Option, Some, None, true, false, refl, ap, sym, arith}
+use Rattle.std.specs.Prelude.{codes}
 use Rattle.std.proofs.lemmas.List.{append_assoc}
-use Rattle.cond_formula.specs.Conditions.{value}
-use Rattle.conditional.specs.Entries.{Entry, seen, under}
 use Rattle.c_text.specs.Token.{PlainToken}
 use Rattle.c_text.specs.Directives.{is_spelled}
 use Rattle.c_text.specs.Macros.{Table}

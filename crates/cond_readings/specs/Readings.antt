@@ -1,6 +1,6 @@
 -- A model of the code, not part of the meaning:
 -- what is seen of the reading of a unit where `is_on` says which features are on, and steps of the definitions that are taken there.
-use Rattle.std.specs.Prelude.{ℕ, Bool, true, false, List, ◌++◌, map, Option, Some, None, if◌then◌else◌}
+use Rattle.std.specs.Prelude.{ℕ, Bool, true, false, List, ◌++◌, Option, Some, None, if◌then◌else◌}
 use Rattle.cond_formula.specs.Conditions.{condition_of, value}
 use Rattle.c_text.specs.Token.{PlainToken}
 use Rattle.c_text.specs.Macros.{Table, feature}

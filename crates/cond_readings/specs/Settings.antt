@@ -1,9 +1,10 @@
 -- What the reading of a file stands on, and what an `#include` finds there.
-use Rattle.std.specs.Prelude.{◌≡◌, ◌↔◌, ℕ, ℤ, true, List, map, length, Option, Some, None, is_some}
+use Rattle.std.specs.Prelude.{◌≡◌, ◌↔◌, ℕ, ℤ, true, not, ◌&&◌, List, map, length, Option, Some, None, is_some, if◌then◌else◌}
 use Rattle.std.specs.List.{list_any}
 use Rattle.std.specs.Str.{bytes_eq}
 use Rattle.std.specs.String.{string_bytes}
 use Rattle.c_text.specs.Token.{PlainToken}
+use Rattle.c_text.specs.Directives.{PlainDirective, include_line}
 use Rattle.c_text.specs.Expressions.{HasValue}
 use Rattle.c_text.specs.Preprocessing as spec
 use Rattle.c_text.specs.Preprocessing.{Reading, Flow, Setting, on}
@@ -28,6 +29,13 @@ pub record IsSettingOf (place : Surroundings) (s : Setting) : Type 0 where
 pub record MayEnter (place : Surroundings) (source : Source) : Type 0 where
   pub may_include : place.may_include ≡ true
   pub among : IsAmong (length place.headers.now) source
+
+-- the file that an `#include` line names, where files may be read and no token of the line refuses; the same in all configurations
+abbrev pub named_by : Surroundings → PlainDirective → Option spec.Source
+named_by place (include_line names) =
+    if place.may_include && not (is_some (spec.refused_token names))
+    then spec.source_of (map string_bytes place.headers.now) place.name.now names else None
+named_by place other = None
 
 -- the file that is read next, if there is one
 abbrev pub entered : Option (spec.Source → Reading → Flow) → Option spec.Source → Reading → Flow

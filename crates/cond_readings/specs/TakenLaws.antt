@@ -1,6 +1,6 @@
 -- Laws, not part of the meaning:
 -- steps of the definitions that are taken where a condition holds.
-use Rattle.std.proofs.Common.{◌≡◌, ℕ, Bool, true, false, List, [], IsTrue, Option, Some, None, refl, sym, ap, ◌∙◌, append-nil}
+use Rattle.std.proofs.Common.{◌≡◌, Bool, true, false, List, [], IsTrue, Option, Some, None, refl, sym, ap, append-nil}
 use Rattle.std.specs.Prelude.{if◌then◌else◌, ◌||◌}
 use Rattle.std.specs.Option.{option_map}
 use Rattle.c_text.specs.Token.{PlainToken}

@@ -6,7 +6,7 @@ ghost use Rattle.std.specs.Str.{bytes_eq};
 ghost use Rattle.std.specs.String.{string_bytes};
 ghost use Rattle.c_text.specs.Token.{PlainToken, plain_token};
 ghost use Rattle.c_text.specs.PlainMacros.{plain_macro};
-ghost use Rattle.c_text.specs.Directives.{define_line, undef_line, include_line};
+ghost use Rattle.c_text.specs.Directives.{define_line, undef_line, include_line, directive_of};
 ghost use Rattle.c_text.specs.Preprocessing as spec;
 ghost use Rattle.c_text.specs.Preprocessing.{Setting, Reading, Flow, then_read};
 ghost use Rattle.cond_formula.specs.Features.{has};
@@ -15,9 +15,8 @@ ghost use Rattle.macro_table.specs.MacroTables.{macro_meaning, clashes, with_mac
 ghost use Rattle.pp_lines.specs.PlainDirectives.{plain_directive};
 ghost use Rattle.unit_files.specs.Inclusions.{plain_source};
 ghost use Rattle.cond_readings.specs.Readings.{reading_at, taken};
-ghost use Rattle.cond_readings.specs.Settings.{IsSettingOf, MayEnter, IsFound, entered};
+ghost use Rattle.cond_readings.specs.Settings.{IsSettingOf, MayEnter, IsFound, named_by, entered};
 
-use crate::implied::outside;
 use crate::places::Surroundings;
 use crate::readings::CondReading;
 use crate::refusals::{refuse, refuse_ignored};
@@ -25,7 +24,7 @@ use c_text::{Line, Macro, Token};
 use cond_formula::{Formula, NoMemory};
 use macro_table::MacroTable;
 use pp_lines::{Directive, directive};
-use reduced_conditions::both;
+use reduced_conditions::{both, outside};
 use std::alloc::Global;
 use unit_files::{Source, behind, source_of};
 
@@ -129,6 +128,7 @@ fn found_by(
 ) -> Result<Option<Source>, NoMemory>
     requires { length place.now.headers.now < 2 ^ 32 }
     ensures finds { IfOk result (λ found. IfSome found (λ source. MayEnter place.now source)) }
+    ensures named { IfOk result (λ found. option_map plain_source found ≡ named_by place.now (include_line (map plain_token names.now))) }
     ensures flow { IfOk result (λ found. (s : Setting) → IsSettingOf place.now s → (hash : PlainToken) (tokens : List PlainToken) (r : Reading)
         → IsFound s.deeper (option_map plain_source found) (spec.directed s r hash tokens (include_line (map plain_token names.now))) r) }
 {
@@ -149,6 +149,7 @@ fn include(
 ) -> Result<Option<Source>, NoMemory>
     requires { length place.now.headers.now < 2 ^ 32 }
     ensures finds { IfOk result (λ found. IfSome found (λ source. MayEnter place.now source)) }
+    ensures named { IfOk result (λ found. option_map plain_source found ≡ named_by place.now (include_line (map plain_token names.now))) }
     ensures flow { IfOk result (λ found. (c : List Bool) (s : Setting) → IsSettingOf place.now s → (hash : PlainToken) (tokens : List PlainToken) (next : Reading → Flow)
         → taken (value (has c) (condition_of here.now)) (λ r. then_read (spec.directed s r hash tokens (include_line (map plain_token names.now))) next) (reading_at (has c) (map string_bytes place.now.features.now) reading.old)
         ≡ taken (value (has c) (condition_of here.now)) (λ r. then_read (entered s.deeper (option_map plain_source found) r) next) (reading_at (has c) (map string_bytes place.now.features.now) reading.new)) }
@@ -172,6 +173,7 @@ fn directed(
 ) -> Result<Option<Source>, NoMemory>
     requires { length place.now.headers.now < 2 ^ 32 }
     ensures finds { IfOk result (λ found. IfSome found (λ source. MayEnter place.now source)) }
+    ensures named { IfOk result (λ found. option_map plain_source found ≡ named_by place.now (plain_directive says.now)) }
     ensures flow { IfOk result (λ found. (c : List Bool) (s : Setting) → IsSettingOf place.now s → (hash : PlainToken) (next : Reading → Flow)
         → taken (value (has c) (condition_of here.now)) (λ r. then_read (spec.directed s r hash (map plain_token tokens.now) (plain_directive says.now)) next) (reading_at (has c) (map string_bytes place.now.features.now) reading.old)
         ≡ taken (value (has c) (condition_of here.now)) (λ r. then_read (entered s.deeper (option_map plain_source found) r) next) (reading_at (has c) (map string_bytes place.now.features.now) reading.new)) }
@@ -204,6 +206,7 @@ pub fn read_directive(
 ) -> Result<Option<Source>, NoMemory>
     requires { length place.now.headers.now < 2 ^ 32 }
     ensures finds { IfOk result (λ found. IfSome found (λ source. MayEnter place.now source)) }
+    ensures named { IfOk result (λ found. option_map plain_source found ≡ named_by place.now (directive_of (map plain_token line.now.tokens.items))) }
     ensures flow { IfOk result (λ found. (c : List Bool) (s : Setting) → IsSettingOf place.now s → (next : Reading → Flow)
         → taken (value (has c) (condition_of here.now)) (λ r. then_read (spec.read_directive s r (map plain_token line.now.tokens.items)) next) (reading_at (has c) (map string_bytes place.now.features.now) reading.old)
         ≡ taken (value (has c) (condition_of here.now)) (λ r. then_read (entered s.deeper (option_map plain_source found) r) next) (reading_at (has c) (map string_bytes place.now.features.now) reading.new)) }

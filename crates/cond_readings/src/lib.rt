@@ -3,8 +3,8 @@
 #![tactic(auto)]
 
 mod directives;
-mod implied;
 mod places;
+mod questions;
 mod readings;
 mod refusals;
 mod tests;

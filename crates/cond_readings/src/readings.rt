@@ -11,13 +11,13 @@ ghost use Rattle.macro_table.specs.MacroTables.{table_at};
 ghost use Rattle.cond_tokens.specs.Streams.{tokens_at};
 ghost use Rattle.cond_readings.specs.Readings.{table_in, reading_at, unless_refused, with_tokens};
 
-use crate::implied::{covers, holds_nowhere};
+use crate::questions::holds_nowhere;
 use c_text::Token;
 use cond_formula::{Formula, NoMemory, Oracle};
 use cond_tokens::CondToken;
 use conditional::{CondList, Guarded};
 use macro_table::{MacroTable, Macros};
-use reduced_conditions::{both, either};
+use reduced_conditions::{both, either, is_implied};
 use std::alloc::Global;
 use std::mem;
 
@@ -114,7 +114,7 @@ impl CondReading {
         ensures kept { O.admits oracle.new ≡ O.admits oracle.old }
         ensures done { IsTrue result → (c : List Bool) → IsTrue (value (has c) (O.admits oracle.old)) → IsTrue (value (has c) (condition_of here.now)) → (features : List (List ℕ)) → reading_at (has c) features self.now ≡ None }
     {
-        if covers(&self.refused, here) {
+        if is_implied(&self.refused, here) {
             return true;
         }
         holds_nowhere(oracle, here)

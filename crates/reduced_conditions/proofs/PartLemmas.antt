@@ -1,5 +1,5 @@
 -- What one of several conditions says.
-use Rattle.std.proofs.Common.{◌≡◌, ℕ, zero, suc, ◌<◌, Bool, true, false, not, ◌&&◌, ◌||◌, List, [], ◌∷◌, length, get_or, map, IsTrue, refl, sym, ap, ◌∙◌, arith}
+use Rattle.std.proofs.Common.{◌≡◌, ℕ, zero, suc, ◌<◌, Bool, true, false, not, ◌&&◌, ◌||◌, List, [], ◌∷◌, length, get_or, IsTrue, refl, sym, ap, ◌∙◌, arith}
 use Rattle.cond_formula.specs.declared.formulas.Formula.{Formula}
 use Rattle.cond_formula.specs.Conditions.{condition_of, conditions_of, value, all_true, any_true}
 
@@ -67,3 +67,17 @@ opposite_either a false h = ap (λ (k : Bool). k || false) (sym h)
 pub not_opposite : (a b : Bool) → IsTrue a → a ≡ not b → b ≡ false
 not_opposite a true is h = sym is ∙ h
 not_opposite a false is h = refl
+
+-- ---- one part more of a conjunction
+
+and_assoc : (k p r : Bool) → ((k && p) && r) ≡ (k && (p && r))
+and_assoc true p r = refl
+and_assoc false p r = refl
+
+pub kept_same : (k p r new all : Bool) → new ≡ (k && p) → (k && (p && r)) ≡ all → (new && r) ≡ all
+kept_same k p r new all e h = ap (λ (b : Bool). b && r) e ∙ and_assoc k p r ∙ h
+
+pub kept_true : (k p r new : Bool) → (IsTrue (k && p) → IsTrue new) → IsTrue (k && (p && r)) → IsTrue (new && r)
+kept_true true true r new e h = ap (λ (b : Bool). b && r) (e refl) ∙ h
+kept_true true false r new e h = cc
+kept_true false p r new e h = cc

@@ -3,6 +3,7 @@
 ghost use Rattle.std.specs.Prelude.{◌≡◌, ℕ, Bool, not, ◌&&◌, ◌||◌, IfOk};
 ghost use Rattle.cond_formula.specs.Conditions.{condition_of, value};
 
+use crate::elsewhere::outside;
 use crate::parts::{exclude_each_other, is_implied};
 use crate::same::is_opposite;
 use cond_formula::{Formula, NoMemory};
@@ -38,7 +39,8 @@ pub fn either(alloc: Global, a: Formula, b: Formula) -> Result<Formula, NoMemory
     if is_opposite(&a, &b) {
         return Ok(Formula::True);
     }
-    let f = Formula::or(alloc, a, b)?;
+    let elsewhere = outside(alloc, &b, &a)?;
+    let f = Formula::or(alloc, a, elsewhere)?;
     Ok(f)
 }
 

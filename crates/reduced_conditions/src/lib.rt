@@ -3,9 +3,11 @@
 #![tactic(auto)]
 
 mod connectives;
+mod elsewhere;
 mod parts;
 mod same;
 
 pub use connectives::{both, either, without};
+pub use elsewhere::outside;
 pub use parts::is_implied;
 pub use same::{is_always, is_never, is_same};

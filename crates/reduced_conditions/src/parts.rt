@@ -7,8 +7,7 @@ use crate::same::{is_always, is_never, is_opposite, is_same};
 use cond_formula::Formula;
 
 fn has_part(parts: &[Formula], f: &Formula) -> bool
-    ensures all { IsTrue result → (on : ℕ → Bool) → IsTrue (all_true on (conditions_of parts.now)) → IsTrue (value on (condition_of f.now)) }
-    ensures some { IsTrue result → (on : ℕ → Bool) → IsTrue (value on (condition_of f.now)) → IsTrue (any_true on (conditions_of parts.now)) }
+    ensures { IsTrue result → (on : ℕ → Bool) → IsTrue (all_true on (conditions_of parts.now)) → IsTrue (value on (condition_of f.now)) }
 {
     for part in parts {
         if is_same(part, f) {
@@ -29,19 +28,41 @@ fn has_opposite(parts: &[Formula], f: &Formula) -> bool
     false
 }
 
-/// Whether the parts of the second formula show that the first is true wherever the second is.
+// Whether the first formula is written as the second, or as a conjunction with that among its parts.
+#[tactic(auto, using(cond_formula::specs::ConditionLaws::formula_kinds))]
+fn says(a: &Formula, b: &Formula) -> bool
+    ensures { IsTrue result → (on : ℕ → Bool) → IsTrue (value on (condition_of a.now)) → IsTrue (value on (condition_of b.now)) }
+{
+    if is_same(a, b) {
+        return true;
+    }
+    if let Formula::And(parts) = a {
+        return has_part(parts, b);
+    }
+    false
+}
+
+fn says_one(a: &Formula, parts: &[Formula]) -> bool
+    ensures { IsTrue result → (on : ℕ → Bool) → IsTrue (value on (condition_of a.now)) → IsTrue (any_true on (conditions_of parts.now)) }
+{
+    for part in parts {
+        if says(a, part) {
+            return true;
+        }
+    }
+    false
+}
+
+/// Whether the parts of the formulas show that the first is true wherever the second is.
 #[tactic(auto, using(cond_formula::specs::ConditionLaws::formula_kinds))]
 pub fn is_implied(a: &Formula, b: &Formula) -> bool
     ensures { IsTrue result → (on : ℕ → Bool) → IsTrue (value on (condition_of b.now)) → IsTrue (value on (condition_of a.now)) }
 {
-    if is_always(a) || is_never(b) || is_same(a, b) {
+    if is_always(a) || is_never(b) || says(b, a) {
         return true;
     }
-    if let Formula::And(parts) = b {
-        return has_part(parts, a);
-    }
     if let Formula::Or(parts) = a {
-        return has_part(parts, b);
+        return says_one(b, parts);
     }
     false
 }

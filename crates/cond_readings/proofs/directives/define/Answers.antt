@@ -1,5 +1,5 @@
 use Rattle.std.proofs.Common.{◌≡◌, ℕ, Bool, true, false, List, map, drop, ap, sym, ◌∙◌}
-use Rattle.std.specs.Prelude.{◌||◌, ◌&&◌, is_some, if◌then◌else◌, Option, None, Some}
+use Rattle.std.specs.Prelude.{◌||◌, is_some}
 use Rattle.std.specs.List.{list_any}
 use Rattle.std.specs.Str.{bytes_eq}
 use Rattle.std.specs.String.{string_bytes}
@@ -10,7 +10,7 @@ use Rattle.c_text.specs.PlainMacros.{plain_macro}
 use Rattle.c_text.specs.Directives.{define_line}
 use Rattle.c_text.specs.Preprocessing.{Reading, directed, refused_token}
 use Rattle.cond_tokens.specs.Streams.{tokens_at}
-use Rattle.macro_table.specs.MacroTables.{table_at, macro_meaning, clashes}
+use Rattle.macro_table.specs.MacroTables.{table_at}
 use Rattle.cond_readings.specs.Readings.{reading_at, unless_refused}
 use Rattle.cond_readings.specs.TakenLaws.{taken-refuses}
 use Rattle.cond_readings.proofs.OptionLemmas.{left_false, right_false, nothing_is}

@@ -1,20 +1,15 @@
-use Rattle.std.proofs.Common.{◌≡◌, ℕ, Bool, List, map, drop, length, ap, sym, ◌∙◌, subst}
-use Rattle.std.specs.Prelude.{◌||◌, ◌&&◌, not, is_some, Option, None, Some, IfSome, option_map}
+use Rattle.std.proofs.Common.{List, map, ap, sym, ◌∙◌}
 use Rattle.std.specs.String.{string_bytes}
 use Rattle.cond_formula.specs.Features.{has}
-use Rattle.cond_formula.specs.Conditions.{Condition, condition_of, value}
+use Rattle.cond_formula.specs.Conditions.{condition_of, value}
 use Rattle.c_text.specs.declared.token.Token.{Token}
 use Rattle.c_text.specs.Token.{plain_token}
-use Rattle.c_text.specs.Directives.{PlainDirective, directive_of, define_line, undef_line, include_line}
+use Rattle.c_text.specs.Directives.{define_line, undef_line, include_line}
 use Rattle.c_text.specs.PlainMacros.{plain_macro}
-use Rattle.c_text.specs.Preprocessing as spec
-use Rattle.c_text.specs.Preprocessing.{Reading, directed, refused_token, then_read}
-use Rattle.unit_files.specs.declared.inclusions.Source.{Source}
-use Rattle.unit_files.specs.Inclusions.{plain_source, IsAmong}
+use Rattle.c_text.specs.Preprocessing.{Reading, directed, then_read}
 use Rattle.pp_lines.specs.declared.forms.Directive.{Directive}
 use Rattle.pp_lines.specs.PlainDirectives.{plain_directive}
-use Rattle.cond_readings.specs.Readings.{reading_at, unless_refused, taken, came_to}
-use Rattle.cond_readings.specs.Settings.{entered, IsFound}
+use Rattle.cond_readings.specs.Readings.{reading_at, taken}
 use Rattle.cond_readings.proofs.DirectiveLemmas.{step-then}
 use Rattle.cond_readings.proofs.directives.directed.Goals as goal
 

@@ -1,19 +1,14 @@
-use Rattle.std.proofs.Common.{◌≡◌, ℕ, Bool, List, map, drop, length, ap, sym, ◌∙◌, subst}
-use Rattle.std.specs.Prelude.{◌||◌, ◌&&◌, not, is_some, Option, None, Some, IfSome, option_map}
+use Rattle.std.proofs.Common.{map, ap, sym, ◌∙◌}
+use Rattle.std.specs.Prelude.{option_map}
 use Rattle.std.specs.String.{string_bytes}
 use Rattle.cond_formula.specs.Features.{has}
 use Rattle.cond_formula.specs.Conditions.{Condition, condition_of, value}
 use Rattle.c_text.specs.Token.{plain_token}
-use Rattle.c_text.specs.Directives.{PlainDirective, directive_of, define_line, undef_line, include_line}
-use Rattle.c_text.specs.PlainMacros.{plain_macro}
-use Rattle.c_text.specs.Preprocessing as spec
-use Rattle.c_text.specs.Preprocessing.{Reading, directed, refused_token, then_read}
-use Rattle.unit_files.specs.declared.inclusions.Source.{Source}
-use Rattle.unit_files.specs.Inclusions.{plain_source, IsAmong}
-use Rattle.pp_lines.specs.declared.forms.Directive.{Directive}
-use Rattle.pp_lines.specs.PlainDirectives.{plain_directive}
-use Rattle.cond_readings.specs.Readings.{reading_at, unless_refused, taken, came_to}
-use Rattle.cond_readings.specs.Settings.{entered, IsFound}
+use Rattle.c_text.specs.Directives.{include_line}
+use Rattle.c_text.specs.Preprocessing.{Reading, directed}
+use Rattle.unit_files.specs.Inclusions.{plain_source}
+use Rattle.cond_readings.specs.Readings.{reading_at, unless_refused}
+use Rattle.cond_readings.specs.Settings.{entered}
 use Rattle.cond_readings.proofs.OptionLemmas.{is_some_map}
 use Rattle.cond_readings.proofs.DirectiveLemmas.{found-then, refused-then, found-some, found-nothing}
 use Rattle.cond_readings.proofs.directives.include.Goals as goal

@@ -1,5 +1,5 @@
 use Rattle.std.proofs.Common.{◌≡◌, ℕ, Bool, true, false, List, map, drop, ap, sym, ◌∙◌}
-use Rattle.std.specs.Prelude.{◌||◌, ◌&&◌, is_some, if◌then◌else◌, Option, None, Some}
+use Rattle.std.specs.Prelude.{◌||◌, is_some, if◌then◌else◌}
 use Rattle.std.specs.List.{list_any}
 use Rattle.std.specs.Str.{bytes_eq}
 use Rattle.std.specs.String.{string_bytes}

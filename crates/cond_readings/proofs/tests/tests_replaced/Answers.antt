@@ -1,5 +1,5 @@
-use Rattle.std.proofs.Common.{◌≡◌, ℕ, ◌+◌, Bool, List, ◌∷◌, map, drop, ap, sym, ◌∙◌}
-use Rattle.std.specs.Prelude.{if◌then◌else◌, Option, None}
+use Rattle.std.proofs.Common.{◌≡◌, ◌+◌, Bool, List, ◌∷◌, map, drop, ap, sym, ◌∙◌}
+use Rattle.std.specs.Prelude.{if◌then◌else◌, None}
 use Rattle.std.proofs.lemmas.List.{drop_more}
 use Rattle.cond_formula.specs.Features.{has}
 use Rattle.c_text.specs.declared.token.Token.{Token}

@@ -1,4 +1,4 @@
-use Rattle.std.proofs.Common.{◌≡◌, Bool, List, ap, ◌∙◌}
+use Rattle.std.proofs.Common.{List, ap, ◌∙◌}
 use Rattle.std.specs.Prelude.{if◌then◌else◌, None, Some}
 use Rattle.cond_formula.specs.Conditions.{condition_of, value}
 use Rattle.c_text.specs.Token.{PlainToken, plain_token}

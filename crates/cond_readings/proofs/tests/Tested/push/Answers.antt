@@ -1,8 +1,8 @@
-use Rattle.std.proofs.Common.{◌≡◌, Bool, List, [], ◌∷◌, ◌++◌, map, ap, ◌∙◌}
+use Rattle.std.proofs.Common.{[], ◌∷◌, ◌++◌, map, ap, ◌∙◌}
 use Rattle.std.specs.Prelude.{if◌then◌else◌}
 use Rattle.std.proofs.lemmas.List.{map-append}
 use Rattle.cond_formula.specs.declared.formulas.Formula.{True}
-use Rattle.cond_formula.specs.Conditions.{Condition, condition_of, value}
+use Rattle.cond_formula.specs.Conditions.{Condition, value}
 use Rattle.cond_formula.specs.ConditionLaws.{condition_of-True}
 use Rattle.c_text.specs.Token.{PlainToken, plain_token}
 use Rattle.conditional.specs.Entries.{seen}

@@ -1,4 +1,4 @@
-use Rattle.std.proofs.Common.{◌≡◌, ℕ, List, map, ap, sym, ◌∙◌, ◌++◌, ◌∷◌, []}
+use Rattle.std.proofs.Common.{ℕ, List, map, ap, sym, ◌∙◌}
 use Rattle.cond_formula.specs.Features.{has}
 use Rattle.c_text.specs.Token.{plain_token, PlainToken}
 use Rattle.c_text.specs.Preprocessing.{tests_replaced}

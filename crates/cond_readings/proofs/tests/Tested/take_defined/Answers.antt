@@ -1,7 +1,6 @@
 use Rattle.std.proofs.Common.{◌≡◌, ℕ, List, Bool, map, ap, sym, ◌∙◌, ◌++◌, ◌∷◌, []}
 use Rattle.std.specs.Prelude.{Option, Some, is_some}
 use Rattle.cond_formula.specs.Features.{has}
-use Rattle.cond_formula.specs.Conditions.{condition_of, value}
 use Rattle.c_text.specs.declared.token.TokenKind.TheVariants.{Number}
 use Rattle.c_text.specs.Token.{plain_token, PlainToken}
 use Rattle.c_text.specs.Preprocessing as spec

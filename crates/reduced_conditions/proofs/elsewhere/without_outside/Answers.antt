@@ -1,9 +1,9 @@
-use Rattle.std.proofs.Common.{◌≡◌, ℕ, ◌+◌, Bool, List, ◌∷◌, ◌&&◌, drop, ap, sym, ◌∙◌}
+use Rattle.std.proofs.Common.{◌≡◌, ◌+◌, List, ◌∷◌, ◌&&◌, drop, ap, sym, ◌∙◌}
 use Rattle.std.proofs.lemmas.List.{drop_more}
 use Rattle.cond_formula.specs.declared.formulas.Formula.{Formula}
 use Rattle.cond_formula.specs.Conditions.{condition_of, conditions_of, value, all_true}
-use Rattle.cond_readings.proofs.PartLemmas.{kept-same, kept-true}
-use Rattle.cond_readings.proofs.implied.without_outside.Goals as goal
+use Rattle.reduced_conditions.proofs.PartLemmas.{kept_same, kept_true}
+use Rattle.reduced_conditions.proofs.elsewhere.without_outside.Goals as goal
 
 pub loop-part-preserved : goal.loop-part-preserved
 loop-part-preserved c =
@@ -14,9 +14,9 @@ loop-part-preserved c =
     let after = drop (i + 1) parts in
     let next : drop i parts ≡ part ∷ after = drop_more parts i part c.loop-part-test.true ∙ ap (λ (p : Formula). p ∷ after) (sym c.part-item.is) in (
       λ on off.
-          kept-same (value on (condition_of k)) (value on (condition_of part)) (all_true on (conditions_of after)) (value on (condition_of c.in_ok-kept.kept)) (all_true on (conditions_of parts)) (c.in_ok-kept.ensures.same on off)
+          kept_same (value on (condition_of k)) (value on (condition_of part)) (all_true on (conditions_of after)) (value on (condition_of c.in_ok-kept.kept)) (all_true on (conditions_of parts)) (c.in_ok-kept.ensures.same on off)
           (ap (λ (ps : List Formula). value on (condition_of k) && all_true on (conditions_of ps)) (sym next) ∙ c.loop-part.invariant.0 on off),
       λ on all.
-          kept-true (value on (condition_of k)) (value on (condition_of part)) (all_true on (conditions_of after)) (value on (condition_of c.in_ok-kept.kept)) (c.in_ok-kept.ensures.wider on)
+          kept_true (value on (condition_of k)) (value on (condition_of part)) (all_true on (conditions_of after)) (value on (condition_of c.in_ok-kept.kept)) (c.in_ok-kept.ensures.wider on)
           (ap (λ (ps : List Formula). value on (condition_of k) && all_true on (conditions_of ps)) (sym next) ∙ c.loop-part.invariant.1 on all),
     )

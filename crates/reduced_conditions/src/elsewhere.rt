@@ -1,50 +1,12 @@
-//! What is known of conditions without asking an oracle.
-ghost use Rattle.std.specs.Prelude.{◌≡◌, ◌&&◌, ℕ, Bool, false, List, IsTrue, IfOk};
-ghost use Rattle.cond_formula.specs.Features.{has};
-ghost use Rattle.cond_formula.specs.Conditions.{condition_of, conditions_of, value, all_true, any_true};
+//! What a condition says where another is false.
 
-use cond_formula::{Formula, May, NoMemory, Oracle};
-use reduced_conditions::{both, is_implied, is_never};
+ghost use Rattle.std.specs.Prelude.{◌≡◌, ◌&&◌, ℕ, Bool, false, IsTrue, IfOk};
+ghost use Rattle.cond_formula.specs.Conditions.{condition_of, conditions_of, value, all_true};
+
+use crate::connectives::both;
+use crate::parts::is_implied;
+use cond_formula::{Formula, NoMemory};
 use std::alloc::Global;
-
-fn has_implied_part(parts: &[Formula], here: &Formula) -> bool
-    ensures { IsTrue result → (on : ℕ → Bool) → IsTrue (value on (condition_of here.now)) → IsTrue (any_true on (conditions_of parts.now)) }
-{
-    for part in parts {
-        if is_implied(part, here) {
-            return true;
-        }
-    }
-    false
-}
-
-/// Whether the first condition, or one part of it, is plainly true wherever the second is.
-#[tactic(auto, using(cond_formula::specs::ConditionLaws::formula_kinds))]
-pub fn covers(whole: &Formula, here: &Formula) -> bool
-    ensures { IsTrue result → (on : ℕ → Bool) → IsTrue (value on (condition_of here.now)) → IsTrue (value on (condition_of whole.now)) }
-{
-    if is_implied(whole, here) {
-        return true;
-    }
-    if let Formula::Or(parts) = whole {
-        return has_implied_part(parts, here);
-    }
-    false
-}
-
-/// Whether no configuration that the oracle admits is known to make the condition true.
-pub fn holds_nowhere<O: Oracle>(oracle: &mut O, when: &Formula) -> bool
-    ensures kept { O.admits oracle.new ≡ O.admits oracle.old }
-    ensures never { IsTrue result → (c : List Bool) → IsTrue (value (has c) (O.admits oracle.old)) → value (has c) (condition_of when.now) ≡ false }
-{
-    if is_never(when) {
-        return true;
-    }
-    match oracle.may(when) {
-        May::No => true,
-        May::Maybe => false,
-    }
-}
 
 // Whether the condition says that the other is false.
 #[tactic(auto, using(cond_formula::specs::ConditionLaws::formula_kinds))]

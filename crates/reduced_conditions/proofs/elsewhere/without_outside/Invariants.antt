@@ -1,6 +1,6 @@
 use Rattle.std.proofs.Common.{◌≡◌, ℕ, Bool, false, ◌&&◌, IsTrue, drop}
 use Rattle.cond_formula.specs.Conditions.{condition_of, conditions_of, value, all_true}
-use Rattle.cond_readings.proofs.implied.without_outside.Given as goal
+use Rattle.reduced_conditions.proofs.elsewhere.without_outside.Given as goal
 
 abbrev pub invariant-loop-part : goal.invariant-loop-part
 invariant-loop-part l =
