@@ -27,8 +27,8 @@ impl<'a> Machine<'a> {
     {
         match items {
             [] => {
-                push(&mut self.control.operands, Operand::Ending(Ending::Falls))?;
-                Ok(Flow::Goes)
+                let flow = self.put_ending(Ending::Falls)?;
+                Ok(flow)
             }
             [item, rest @ ..] => {
                 let flow = self.begin_item(item, rest)?;
@@ -73,22 +73,16 @@ impl<'a> Machine<'a> {
                 Ok(Flow::Goes)
             }
             Some(Ending::Breaks) => {
-                push(&mut self.control.operands, Operand::Ending(Ending::Breaks))?;
-                Ok(Flow::Goes)
+                let flow = self.put_ending(Ending::Breaks)?;
+                Ok(flow)
             }
             Some(Ending::Continues) => {
-                push(
-                    &mut self.control.operands,
-                    Operand::Ending(Ending::Continues),
-                )?;
-                Ok(Flow::Goes)
+                let flow = self.put_ending(Ending::Continues)?;
+                Ok(flow)
             }
             Some(Ending::Returns(value)) => {
-                push(
-                    &mut self.control.operands,
-                    Operand::Ending(Ending::Returns(value)),
-                )?;
-                Ok(Flow::Goes)
+                let flow = self.put_ending(Ending::Returns(value))?;
+                Ok(flow)
             }
         }
     }

@@ -27,13 +27,19 @@ impl<'a> Machine<'a> {
     ) -> Result<Flow, NoMemory>
         ensures { IfOk result (λ flow. ComesTo flow (built_in_outcome built_in (map plain_value arguments.entry.items) self.old) self.new) }
     {
-        let flow = match built_in {
-            BuiltIn::Putchar => self.call_putchar(&arguments)?,
-            BuiltIn::Getchar => self.call_getchar(&arguments)?,
-            BuiltIn::Puts => self.call_puts(&arguments)?,
-            BuiltIn::Exit => self.call_exit(&arguments),
-        };
+        let flow = self.answer(built_in, &arguments)?;
         Ok(flow)
+    }
+
+    fn answer(&mut self, built_in: BuiltIn, arguments: &[Value<'a>]) -> Result<Flow, NoMemory>
+        ensures { IfOk result (λ flow. ComesTo flow (built_in_outcome built_in (map plain_value arguments.now) self.old) self.new) }
+    {
+        match built_in {
+            BuiltIn::Putchar => self.call_putchar(arguments),
+            BuiltIn::Getchar => self.call_getchar(arguments),
+            BuiltIn::Puts => self.call_puts(arguments),
+            BuiltIn::Exit => Ok(self.call_exit(arguments)),
+        }
     }
 
     fn call_putchar(&mut self, arguments: &[Value<'a>]) -> Result<Flow, NoMemory>

@@ -1,10 +1,10 @@
 //! Statements (6.8).
-ghost use Rattle.std.specs.Prelude.{IfOk};
+ghost use Rattle.std.specs.Prelude.{IfOk, Some};
 ghost use Rattle.core_meaning.specs.Plain.{plain_expression, plain_statement, plain_items};
 ghost use Rattle.core_meaning.specs.Program as program_form;
 ghost use Rattle.interp_actions.specs.Forms.{plain_turns, plain_ending};
 ghost use Rattle.interp_actions.specs.Actions as plain;
-ghost use Rattle.variant_interp.specs.Machines.{Does};
+ghost use Rattle.variant_interp.specs.Machines.{Does, ComesTo, given_outcome};
 
 use crate::machine::Machine;
 use cond_formula::NoMemory;
@@ -28,9 +28,9 @@ impl<'a> Machine<'a> {
                 step,
                 body,
             } => self.begin_loop(*asks_first, condition, step, body),
-            Statement::Break => self.begin_break(),
-            Statement::Continue => self.begin_continue(),
-            Statement::Return => self.begin_return(),
+            Statement::Break => self.put_ending(Ending::Breaks),
+            Statement::Continue => self.put_ending(Ending::Continues),
+            Statement::Return => self.put_ending(Ending::Returns(Value::Nothing)),
             Statement::ReturnValue(value) => self.begin_return_value(value),
         }
     }
@@ -82,30 +82,11 @@ impl<'a> Machine<'a> {
         Ok(Flow::Goes)
     }
 
-    fn begin_break(&mut self) -> Result<Flow, NoMemory>
-        ensures { IfOk result (λ flow. Does flow (plain.statement_action program_form.break_loop) self.old self.new) }
+    /// How a statement ended is on top.
+    pub fn put_ending(&mut self, ending: Ending<'a>) -> Result<Flow, NoMemory>
+        ensures { IfOk result (λ flow. ComesTo flow (given_outcome (Some (plain.ending_operand (plain_ending ending.entry))) self.old) self.new) }
     {
-        push(&mut self.control.operands, Operand::Ending(Ending::Breaks))?;
-        Ok(Flow::Goes)
-    }
-
-    fn begin_continue(&mut self) -> Result<Flow, NoMemory>
-        ensures { IfOk result (λ flow. Does flow (plain.statement_action program_form.continue_loop) self.old self.new) }
-    {
-        push(
-            &mut self.control.operands,
-            Operand::Ending(Ending::Continues),
-        )?;
-        Ok(Flow::Goes)
-    }
-
-    fn begin_return(&mut self) -> Result<Flow, NoMemory>
-        ensures { IfOk result (λ flow. Does flow (plain.statement_action program_form.return_nothing) self.old self.new) }
-    {
-        push(
-            &mut self.control.operands,
-            Operand::Ending(Ending::Returns(Value::Nothing)),
-        )?;
+        push(&mut self.control.operands, Operand::Ending(ending))?;
         Ok(Flow::Goes)
     }
 
