@@ -26,10 +26,7 @@ impl<'a> Machine<'a> {
         ensures { IfOk result (λ flow. Does flow (plain.items_action (plain_items items.now)) self.old self.new) }
     {
         match items {
-            [] => {
-                let flow = self.put_ending(Ending::Falls)?;
-                Ok(flow)
-            }
+            [] => self.put_ending(Ending::Falls),
             [item, rest @ ..] => {
                 let flow = self.begin_item(item, rest)?;
                 Ok(flow)
@@ -68,22 +65,10 @@ impl<'a> Machine<'a> {
     {
         match self.control.take_ending() {
             None => Ok(Flow::Fails),
-            Some(Ending::Falls) => {
-                push(&mut self.control.actions, Action::Items(rest))?;
-                Ok(Flow::Goes)
-            }
-            Some(Ending::Breaks) => {
-                let flow = self.put_ending(Ending::Breaks)?;
-                Ok(flow)
-            }
-            Some(Ending::Continues) => {
-                let flow = self.put_ending(Ending::Continues)?;
-                Ok(flow)
-            }
-            Some(Ending::Returns(value)) => {
-                let flow = self.put_ending(Ending::Returns(value))?;
-                Ok(flow)
-            }
+            Some(Ending::Falls) => self.put_items(rest),
+            Some(Ending::Breaks) => self.put_ending(Ending::Breaks),
+            Some(Ending::Continues) => self.put_ending(Ending::Continues),
+            Some(Ending::Returns(value)) => self.put_ending(Ending::Returns(value)),
         }
     }
 

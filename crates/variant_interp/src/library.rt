@@ -27,8 +27,7 @@ impl<'a> Machine<'a> {
     ) -> Result<Flow, NoMemory>
         ensures { IfOk result (λ flow. ComesTo flow (built_in_outcome built_in (map plain_value arguments.entry.items) self.old) self.new) }
     {
-        let flow = self.answer(built_in, &arguments)?;
-        Ok(flow)
+        self.answer(built_in, &arguments)
     }
 
     fn answer(&mut self, built_in: BuiltIn, arguments: &[Value<'a>]) -> Result<Flow, NoMemory>

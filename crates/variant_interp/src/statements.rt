@@ -19,7 +19,7 @@ impl<'a> Machine<'a> {
         ensures { IfOk result (λ flow. Does flow (plain.statement_action (plain_statement statement.now)) self.old self.new) }
     {
         match statement {
-            Statement::Block(items) => self.begin_block(items),
+            Statement::Block(items) => self.put_items(items),
             Statement::Expression(expression) => self.begin_evaluate(expression),
             Statement::If(condition, first, second) => self.begin_if(condition, first, second),
             Statement::Loop {
@@ -35,8 +35,9 @@ impl<'a> Machine<'a> {
         }
     }
 
-    fn begin_block(&mut self, items: &'a [Item]) -> Result<Flow, NoMemory>
-        ensures { IfOk result (λ flow. Does flow (plain.statement_action (program_form.block (plain_items items.now))) self.old self.new) }
+    /// The items of a block come next.
+    pub fn put_items(&mut self, items: &'a [Item]) -> Result<Flow, NoMemory>
+        ensures { IfOk result (λ flow. Does flow (plain.items_action (plain_items items.now)) self.old self.new) }
     {
         push(&mut self.control.actions, Action::Items(items))?;
         Ok(Flow::Goes)
