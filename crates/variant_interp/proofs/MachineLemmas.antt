@@ -1,5 +1,6 @@
 -- How an action of a machine is shown from another.
-use Rattle.std.proofs.Common.{◌≡◌, List, ◌∷◌, map, refl, sym, ◌∙◌, ap, Option, Some, None}
+use Rattle.std.proofs.Common.{◌≡◌, List, ◌∷◌, map, refl, sym, ◌∙◌, ap, Option, Some, None, Result, IfOk}
+use Rattle.std.proofs.lemmas.Result.{IfOk-weaker}
 use Rattle.core_meaning.specs.Plain.{plain_program}
 use Rattle.core_meaning.specs.Outcomes.{Outcome, after}
 use Rattle.core_meaning.specs.Meaning.{Ending}
@@ -42,6 +43,17 @@ does_alone Fails action old control steps =
     fails_behind old.output.items _ (steps.undefined (program_of old) old.frame.types.now old.frame.slots.items old.frame.bound (state_of old))
 does_alone (Exits status) action old control steps = absurd steps
 does_alone Stops action old control steps = absurd steps
+
+-- the same of what they answer, which want of memory leaves open
+pub do_with : {E : Type 0} (r : Result Flow E) (action : PlainAction) (old : Machine) (control : Control) (memory : Memory) → IfOk r (λ flow. StepsWith flow action old.control control old.memory memory) → IfOk r (λ flow. Does flow action old (record old { control = control; memory = memory }))
+do_with r action old control memory =
+    IfOk-weaker r (λ flow. StepsWith flow action old.control control old.memory memory) (λ flow. Does flow action old (record old { control = control; memory = memory }))
+    (λ flow. does_with flow action old control memory)
+
+pub do_alone : {E : Type 0} (r : Result Flow E) (action : PlainAction) (old : Machine) (control : Control) → IfOk r (λ flow. Steps flow action old.control control) → IfOk r (λ flow. Does flow action old (record old { control = control }))
+do_alone r action old control =
+    IfOk-weaker r (λ flow. Steps flow action old.control control) (λ flow. Does flow action old (record old { control = control }))
+    (λ flow. does_alone flow action old control)
 
 -- an operand is put, if there is one
 pub comes_given : (flow : Flow) (o : Option PlainOperand) (old : Machine) (control : Control) → PutsGiven flow o old.control control → ComesTo flow (given_outcome o old) (record old { control = control })

@@ -19,88 +19,77 @@ impl<'a> Machine<'a> {
     pub fn begin_value(&mut self, expression: &'a Expression) -> Result<Flow, NoMemory>
         ensures { IfOk result (λ flow. Does flow (plain.expression_action (plain_expression expression.now)) self.old self.new) }
     {
-        let flow = begin_expression(&mut self.control, self.alloc, expression)?;
-        Ok(flow)
+        begin_expression(&mut self.control, self.alloc, expression)
     }
 
     /// The value on top is used.
     pub fn use_value(&mut self) -> Result<Flow, NoMemory>
         ensures { IfOk result (λ flow. Does flow plain.use_action self.old self.new) }
     {
-        let flow = use_value(&mut self.control)?;
-        Ok(flow)
+        use_value(&mut self.control)
     }
 
     /// The value on top is used as a scalar.
     pub fn use_scalar(&mut self) -> Result<Flow, NoMemory>
         ensures { IfOk result (λ flow. Does flow plain.scalar_action self.old self.new) }
     {
-        let flow = use_scalar(&mut self.control)?;
-        Ok(flow)
+        use_scalar(&mut self.control)
     }
 
     /// The value on top is a condition (6.8.4.1).
     pub fn test(&mut self) -> Result<Flow, NoMemory>
         ensures { IfOk result (λ flow. Does flow plain.test_action self.old self.new) }
     {
-        let flow = test(&mut self.control)?;
-        Ok(flow)
+        test(&mut self.control)
     }
 
     /// The value on top is a pointer to a place (6.5.3.2).
     pub fn target(&mut self) -> Result<Flow, NoMemory>
         ensures { IfOk result (λ flow. Does flow plain.target_action self.old self.new) }
     {
-        let flow = target(&mut self.control)?;
-        Ok(flow)
+        target(&mut self.control)
     }
 
     /// The scalar on top is converted to an integer type (6.3.1.3).
     pub fn convert(&mut self, ty: IntegerType) -> Result<Flow, NoMemory>
         ensures { IfOk result (λ flow. Does flow (plain.convert_action ty) self.old self.new) }
     {
-        let flow = convert(&mut self.control, ty)?;
-        Ok(flow)
+        convert(&mut self.control, ty)
     }
 
     /// `!` of the condition on top (6.5.3.3).
     pub fn not(&mut self) -> Result<Flow, NoMemory>
         ensures { IfOk result (λ flow. Does flow plain.not_action self.old self.new) }
     {
-        let flow = not(&mut self.control)?;
-        Ok(flow)
+        not(&mut self.control)
     }
 
     /// The condition on top as a number (6.5.13, 6.5.14).
     pub fn truth_value(&mut self) -> Result<Flow, NoMemory>
         ensures { IfOk result (λ flow. Does flow plain.truth_action self.old self.new) }
     {
-        let flow = truth_value(&mut self.control)?;
-        Ok(flow)
+        truth_value(&mut self.control)
     }
 
     /// The value on top isn't kept (6.3.2.2).
     pub fn nothing(&mut self) -> Result<Flow, NoMemory>
         ensures { IfOk result (λ flow. Does flow plain.nothing_action self.old self.new) }
     {
-        let flow = nothing(&mut self.control)?;
-        Ok(flow)
+        nothing(&mut self.control)
     }
 
     /// `&&` behind its left operand (6.5.13).
     pub fn and(&mut self, right: &'a Expression) -> Result<Flow, NoMemory>
         ensures { IfOk result (λ flow. Does flow (plain.and_action (plain_expression right.now)) self.old self.new) }
     {
-        let flow = and(&mut self.control, right)?;
-        Ok(flow)
+        and(&mut self.control, right)
     }
 
     /// `||` behind its left operand (6.5.14).
     pub fn or(&mut self, right: &'a Expression) -> Result<Flow, NoMemory>
         ensures { IfOk result (λ flow. Does flow (plain.or_action (plain_expression right.now)) self.old self.new) }
     {
-        let flow = or(&mut self.control, right)?;
-        Ok(flow)
+        or(&mut self.control, right)
     }
 
     /// `?:` behind its condition (6.5.15).
@@ -111,32 +100,28 @@ impl<'a> Machine<'a> {
     ) -> Result<Flow, NoMemory>
         ensures { IfOk result (λ flow. Does flow (plain.choose_action (plain_expression first.now) (plain_expression second.now)) self.old self.new) }
     {
-        let flow = choose(&mut self.control, first, second)?;
-        Ok(flow)
+        choose(&mut self.control, first, second)
     }
 
     /// A pointer to the place on top (6.5.3.2).
     pub fn address(&mut self) -> Result<Flow, NoMemory>
         ensures { IfOk result (λ flow. Does flow plain.address_action self.old self.new) }
     {
-        let flow = address(&mut self.control)?;
-        Ok(flow)
+        address(&mut self.control)
     }
 
     /// A pointer to the first element of the array on top (6.3.2.1).
     pub fn first_element(&mut self) -> Result<Flow, NoMemory>
         ensures { IfOk result (λ flow. Does flow plain.first_action self.old self.new) }
     {
-        let flow = to_first_element(&mut self.control)?;
-        Ok(flow)
+        to_first_element(&mut self.control)
     }
 
     /// The end of an expression statement (6.8.3).
     pub fn falls(&mut self) -> Result<Flow, NoMemory>
         ensures { IfOk result (λ flow. Does flow plain.falls_action self.old self.new) }
     {
-        let flow = falls(&mut self.control)?;
-        Ok(flow)
+        falls(&mut self.control)
     }
 
     /// An `if` behind its condition (6.8.4.1).
@@ -151,55 +136,48 @@ impl<'a> Machine<'a> {
     pub fn return_value(&mut self) -> Result<Flow, NoMemory>
         ensures { IfOk result (λ flow. Does flow plain.return_value_action self.old self.new) }
     {
-        let flow = return_value(&mut self.control)?;
-        Ok(flow)
+        return_value(&mut self.control)
     }
 
     /// The operation on the two scalars on top (6.5.5 to 6.5.12).
     pub fn operate(&mut self, op: Operation) -> Result<Flow, NoMemory>
         ensures { IfOk result (λ flow. Does flow (plain.operate_action op) self.old self.new) }
     {
-        let flow = operate(&mut self.control, self.alloc, &self.memory, op)?;
-        Ok(flow)
+        operate(&mut self.control, self.alloc, &self.memory, op)
     }
 
     /// What stands at the place on top (6.3.2.1).
     pub fn read(&mut self) -> Result<Flow, NoMemory>
         ensures { IfOk result (λ flow. Does flow plain.read_action self.old self.new) }
     {
-        let flow = read(&mut self.control, self.alloc, &self.memory)?;
-        Ok(flow)
+        read(&mut self.control, self.alloc, &self.memory)
     }
 
     /// The member with this number of the struct on top (6.5.2.3).
     pub fn member(&mut self, number: u32) -> Result<Flow, NoMemory>
         ensures { IfOk result (λ flow. Does flow (plain.member_action number) self.old self.new) }
     {
-        let flow = member(&mut self.control, &self.memory, number)?;
-        Ok(flow)
+        member(&mut self.control, &self.memory, number)
     }
 
     /// The value on top goes to the place below it (6.5.16.1).
     pub fn write(&mut self) -> Result<Flow, NoMemory>
         ensures { IfOk result (λ flow. Does flow plain.write_action self.old self.new) }
     {
-        let flow = write(&mut self.control, self.alloc, &mut self.memory)?;
-        Ok(flow)
+        write(&mut self.control, self.alloc, &mut self.memory)
     }
 
     /// A compound assignment behind its operands; the value is the new one (6.5.16.2).
     pub fn update(&mut self, change: Change) -> Result<Flow, NoMemory>
         ensures { IfOk result (λ flow. Does flow (plain.update_action change) self.old self.new) }
     {
-        let flow = update(&mut self.control, self.alloc, &mut self.memory, change)?;
-        Ok(flow)
+        update(&mut self.control, self.alloc, &mut self.memory, change)
     }
 
     /// The same, but the value is the old one (6.5.2.4).
     pub fn update_after(&mut self, change: Change) -> Result<Flow, NoMemory>
         ensures { IfOk result (λ flow. Does flow (plain.update_after_action change) self.old self.new) }
     {
-        let flow = update_after(&mut self.control, self.alloc, &mut self.memory, change)?;
-        Ok(flow)
+        update_after(&mut self.control, self.alloc, &mut self.memory, change)
     }
 }

@@ -122,8 +122,7 @@ impl<'a> Machine<'a> {
     pub fn call_without(&mut self, function: u32) -> Result<Flow, NoMemory>
         ensures { IfOk result (λ flow. Does flow (plain.call_action function []) self.old self.new) }
     {
-        let flow = self.call(function, Vec::new(self.alloc))?;
-        Ok(flow)
+        self.call(function, Vec::new(self.alloc))
     }
 
     fn call(&mut self, function: u32, arguments: Vec<Value<'a>>) -> Result<Flow, NoMemory>
@@ -143,14 +142,8 @@ impl<'a> Machine<'a> {
         ensures { IfOk result (λ flow. (f : ℕ) → slice_get (program_of self.old).functions f ≡ Some (plain_function called.now) → Does flow (plain.call_action f (map plain_value arguments.entry.items)) self.old self.new) }
     {
         match called {
-            Function::BuiltIn(built_in) => {
-                let flow = self.call_built_in(*built_in, arguments)?;
-                Ok(flow)
-            }
-            Function::Defined(definition) => {
-                let flow = self.call_defined(definition, arguments)?;
-                Ok(flow)
-            }
+            Function::BuiltIn(built_in) => self.call_built_in(*built_in, arguments),
+            Function::Defined(definition) => self.call_defined(definition, arguments),
         }
     }
 
@@ -189,10 +182,7 @@ impl<'a> Machine<'a> {
                 push(&mut self.control.actions, Action::Items(body))?;
                 Ok(Flow::Goes)
             }
-            Some(value) => {
-                let flow = self.enter_with(slot, value, values, body)?;
-                Ok(flow)
-            }
+            Some(value) => self.enter_with(slot, value, values, body),
         }
     }
 

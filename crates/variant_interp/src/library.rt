@@ -57,8 +57,7 @@ impl<'a> Machine<'a> {
         ensures { IfOk result (λ flow. ComesTo flow (built_in_outcome built_in_form.Getchar (map plain_value arguments.now) self.old) self.new) }
     {
         if arguments.is_empty() {
-            let flow = self.getchar()?;
-            Ok(flow)
+            self.getchar()
         } else {
             Ok(Flow::Fails)
         }
@@ -105,14 +104,10 @@ impl<'a> Machine<'a> {
         ensures { IfOk result (λ flow. ComesTo flow (built_in_outcome built_in_form.Getchar [] self.old) self.new) }
     {
         match self.input {
-            [] => {
-                let flow = self.put_number(-1)?;
-                Ok(flow)
-            }
+            [] => self.put_number(-1),
             [byte, rest @ ..] => {
                 self.input = rest;
-                let flow = self.put_number(i128::from(*byte))?;
-                Ok(flow)
+                self.put_number(i128::from(*byte))
             }
         }
     }
@@ -135,8 +130,7 @@ impl<'a> Machine<'a> {
     {
         self.output.extend_from_slice(text)?;
         self.output.push(b'\n')?;
-        let flow = self.put_number(0)?;
-        Ok(flow)
+        self.put_number(0)
     }
 }
 

@@ -166,14 +166,8 @@ impl<'a> Machine<'a> {
     {
         match self.control.take_truth() {
             None => Ok(Flow::Fails),
-            Some(true) => {
-                let flow = self.begin_turn(turns)?;
-                Ok(flow)
-            }
-            Some(false) => {
-                let flow = self.leave_loop(turns, Ending::Falls)?;
-                Ok(flow)
-            }
+            Some(true) => self.begin_turn(turns),
+            Some(false) => self.leave_loop(turns, Ending::Falls),
         }
     }
 
@@ -198,22 +192,10 @@ impl<'a> Machine<'a> {
     {
         match self.control.take_ending() {
             None => Ok(Flow::Fails),
-            Some(Ending::Falls) => {
-                let flow = self.begin_step(turns)?;
-                Ok(flow)
-            }
-            Some(Ending::Continues) => {
-                let flow = self.begin_step(turns)?;
-                Ok(flow)
-            }
-            Some(Ending::Breaks) => {
-                let flow = self.leave_loop(turns, Ending::Falls)?;
-                Ok(flow)
-            }
-            Some(Ending::Returns(value)) => {
-                let flow = self.leave_loop(turns, Ending::Returns(value))?;
-                Ok(flow)
-            }
+            Some(Ending::Falls) => self.begin_step(turns),
+            Some(Ending::Continues) => self.begin_step(turns),
+            Some(Ending::Breaks) => self.leave_loop(turns, Ending::Falls),
+            Some(Ending::Returns(value)) => self.leave_loop(turns, Ending::Returns(value)),
         }
     }
 

@@ -82,10 +82,7 @@ impl<'a> Machine<'a> {
     {
         match held_at(&self.frame, number as usize) {
             None => Ok(Flow::Fails),
-            Some(object) => {
-                let flow = put_object(&mut self.control, self.alloc, object)?;
-                Ok(flow)
-            }
+            Some(object) => put_object(&mut self.control, self.alloc, object),
         }
     }
 
@@ -100,28 +97,24 @@ impl<'a> Machine<'a> {
         ensures { IfOk result (λ flow. Does flow (plain.place_action (program_form.literal number)) self.old self.new) }
     {
         let object = self.program.globals.len() + number as usize;
-        let flow = put_object(&mut self.control, self.alloc, object)?;
-        Ok(flow)
+        put_object(&mut self.control, self.alloc, object)
     }
 
     fn to_target(&mut self, pointer: &'a Expression) -> Result<Flow, NoMemory>
         ensures { IfOk result (λ flow. Does flow (plain.place_action (program_form.target (plain_expression pointer.now))) self.old self.new) }
     {
-        let flow = begin_target(&mut self.control, pointer)?;
-        Ok(flow)
+        begin_target(&mut self.control, pointer)
     }
 
     fn to_member(&mut self, inner: &'a Place, number: u32) -> Result<Flow, NoMemory>
         ensures { IfOk result (λ flow. Does flow (plain.place_action (program_form.member (plain_place inner.now) number)) self.old self.new) }
     {
-        let flow = begin_member(&mut self.control, inner, number)?;
-        Ok(flow)
+        begin_member(&mut self.control, inner, number)
     }
 
     fn to_temporary(&mut self, ty: &'a CType, value: &'a Expression) -> Result<Flow, NoMemory>
         ensures { IfOk result (λ flow. Does flow (plain.place_action (program_form.temporary (plain_type ty.now) (plain_expression value.now))) self.old self.new) }
     {
-        let flow = begin_temporary(&mut self.control, ty, value)?;
-        Ok(flow)
+        begin_temporary(&mut self.control, ty, value)
     }
 }
