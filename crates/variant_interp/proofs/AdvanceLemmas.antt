@@ -1,5 +1,6 @@
 -- How a machine advances, and where it ends.
-use Rattle.std.proofs.Common.{◌≡◌, List, [], ◌∷◌, map, sym, ap, ◌∙◌, append-nil}
+use Rattle.std.proofs.Common.{◌≡◌, List, [], ◌∷◌, map, sym, ap, ◌∙◌, append-nil, Result, IfOk}
+use Rattle.std.proofs.lemmas.Result.{IfOk-weaker}
 use Rattle.core_meaning.specs.Outcomes.{after, give}
 use Rattle.core_meaning.specs.Values.{number, pointer, Value, nothing, scalar, whole}
 use Rattle.core_meaning.specs.Meaning.{Ending, returns}
@@ -23,6 +24,12 @@ does_advances Goes action old middle new does same = does ∙ same
 does_advances (Exits status) action old middle new does same = ap answer_of (sym same ∙ does)
 does_advances Stops action old middle new does same = ap answer_of (sym same ∙ does)
 does_advances Failed action old middle new does same = ap answer_of (sym same ∙ does)
+
+-- the same of an answer, which want of memory leaves open
+pub do_advance : {E : Type 0} (r : Result Flow E) (action : Action) (old middle new : Machine) → IfOk r (λ flow. DoesAction flow action middle new) → outcome_on action middle ≡ outcome_of old → IfOk r (λ flow. Advances flow old new)
+do_advance r action old middle new does same =
+    IfOk-weaker r (λ flow. DoesAction flow action middle new) (λ flow. Advances flow old new)
+    (λ flow done. does_advances flow action old middle new done same) does
 
 -- without actions the run has come to the ending on top
 pub ended_outcome : (m : Machine) → actions_of m.control ≡ [] → outcome_of m ≡ after m.output.items (on_ending (λ e rest. give e) (operands_in m.control) (state_of m))

@@ -124,3 +124,30 @@ plain_stacks_come m control ts os wanted same_actions same_operands same =
     ap (λ ts. after m.output.items (finish (program_of m) ts m.frame.bound (plain_frame m.frame.types.now m.frame.slots.items) (operands_in control) (state_of m))) same_actions
     ∙ (ap (λ os. after m.output.items (finish (program_of m) ts m.frame.bound (plain_frame m.frame.types.now m.frame.slots.items) os (state_of m))) same_operands
     ∙ same)
+
+-- ---- the same of answers, which want of memory leaves open
+
+pub do_from : {E : Type 0} (r : Result Flow E) (first second : PlainAction) (old middle new : Machine) → outcome_with first middle ≡ outcome_with second old → IfOk r (λ flow. Does flow first middle new) → IfOk r (λ flow. Does flow second old new)
+do_from r first second old middle new same =
+    IfOk-weaker r (λ flow. Does flow first middle new) (λ flow. Does flow second old new)
+    (λ flow. does_from flow first second old middle new same)
+
+pub come_given : {E : Type 0} (r : Result Flow E) (o : Option PlainOperand) (old : Machine) (control : Control) → IfOk r (λ flow. PutsGiven flow o old.control control) → IfOk r (λ flow. ComesTo flow (given_outcome o old) (record old { control = control }))
+come_given r o old control =
+    IfOk-weaker r (λ flow. PutsGiven flow o old.control control) (λ flow. ComesTo flow (given_outcome o old) (record old { control = control }))
+    (λ flow. comes_given flow o old control)
+
+pub come_is : {E : Type 0} (r : Result Flow E) (wanted : Outcome Ending) (action : PlainAction) (old new : Machine) → IfOk r (λ flow. ComesTo flow wanted new) → wanted ≡ outcome_with action old → IfOk r (λ flow. Does flow action old new)
+come_is r wanted action old new comes same =
+    IfOk-weaker r (λ flow. ComesTo flow wanted new) (λ flow. Does flow action old new)
+    (λ flow come. comes_is flow wanted action old new come same) comes
+
+pub come_same : {E : Type 0} (r : Result Flow E) (first second : Outcome Ending) (new : Machine) → IfOk r (λ flow. ComesTo flow first new) → first ≡ second → IfOk r (λ flow. ComesTo flow second new)
+come_same r first second new comes same =
+    IfOk-weaker r (λ flow. ComesTo flow first new) (λ flow. ComesTo flow second new)
+    (λ flow come. comes_same flow first second new come same) comes
+
+pub do_come : {E : Type 0} (r : Result Flow E) (wanted : Outcome Ending) (action : PlainAction) (middle new : Machine) → IfOk r (λ flow. Does flow action middle new) → outcome_with action middle ≡ wanted → IfOk r (λ flow. ComesTo flow wanted new)
+do_come r wanted action middle new does same =
+    IfOk-weaker r (λ flow. Does flow action middle new) (λ flow. ComesTo flow wanted new)
+    (λ flow does. does_comes flow wanted action middle new does same) does

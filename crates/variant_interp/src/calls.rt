@@ -36,10 +36,7 @@ impl<'a> Machine<'a> {
     {
         match self.control.take_value() {
             None => Ok(Flow::Fails),
-            Some(value) => {
-                let flow = self.temporary_with(ty, value)?;
-                Ok(flow)
-            }
+            Some(value) => self.temporary_with(ty, value),
         }
     }
 
@@ -70,10 +67,7 @@ impl<'a> Machine<'a> {
     {
         match self.control.take_value() {
             None => Ok(Flow::Fails),
-            Some(value) => {
-                let flow = self.with_argument(function, arguments, values, value)?;
-                Ok(flow)
-            }
+            Some(value) => self.with_argument(function, arguments, values, value),
         }
     }
 
@@ -87,8 +81,7 @@ impl<'a> Machine<'a> {
         ensures { IfOk result (λ flow. Does flow (plain.arguments_action function (plain_arguments arguments.now) (plain_value value.entry ∷ reverse (map plain_value values.entry.items))) self.old self.new) }
     {
         values.push(value)?;
-        let flow = self.next_argument(function, arguments, values)?;
-        Ok(flow)
+        self.next_argument(function, arguments, values)
     }
 
     fn next_argument(
@@ -100,10 +93,7 @@ impl<'a> Machine<'a> {
         ensures { IfOk result (λ flow. Does flow (plain.arguments_action function (plain_arguments arguments.now) (reverse (map plain_value values.entry.items))) self.old self.new) }
     {
         match arguments {
-            [] => {
-                let flow = self.call(function, values)?;
-                Ok(flow)
-            }
+            [] => self.call(function, values),
             [argument, rest @ ..] => {
                 then_argument(&mut self.control, function, rest, values)?;
                 push_two(
@@ -131,10 +121,7 @@ impl<'a> Machine<'a> {
         let program = self.program;
         match program.functions.get(function as usize) {
             None => Ok(Flow::Fails),
-            Some(called) => {
-                let flow = self.call_of(called, arguments)?;
-                Ok(flow)
-            }
+            Some(called) => self.call_of(called, arguments),
         }
     }
 
@@ -198,10 +185,7 @@ impl<'a> Machine<'a> {
         let types = self.frame.types;
         match types.get(slot) {
             None => Ok(Flow::Fails),
-            Some(ty) => {
-                let flow = self.enter_slot(slot, ty, value, values, body)?;
-                Ok(flow)
-            }
+            Some(ty) => self.enter_slot(slot, ty, value, values, body),
         }
     }
 

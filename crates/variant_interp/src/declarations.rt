@@ -27,10 +27,7 @@ impl<'a> Machine<'a> {
     {
         match items {
             [] => self.put_ending(Ending::Falls),
-            [item, rest @ ..] => {
-                let flow = self.begin_item(item, rest)?;
-                Ok(flow)
-            }
+            [item, rest @ ..] => self.begin_item(item, rest),
         }
     }
 
@@ -78,10 +75,7 @@ impl<'a> Machine<'a> {
         let types = self.frame.types;
         match types.get(slot as usize) {
             None => Ok(Flow::Fails),
-            Some(ty) => {
-                let flow = self.local_of(slot, ty, parts, rest)?;
-                Ok(flow)
-            }
+            Some(ty) => self.local_of(slot, ty, parts, rest),
         }
     }
 
@@ -98,8 +92,7 @@ impl<'a> Machine<'a> {
     {
         let object = self.declare(slot as usize, ty)?;
         push(&mut self.control.actions, Action::Items(rest))?;
-        let flow = self.initialise(Initialiser { object, ty, parts })?;
-        Ok(flow)
+        self.initialise(Initialiser { object, ty, parts })
     }
 
     /// Makes the object of a slot, which ends behind what is done next.
@@ -146,10 +139,7 @@ impl<'a> Machine<'a> {
     {
         match target.parts {
             [] => Ok(Flow::Goes),
-            [part, rest @ ..] => {
-                let flow = self.begin_part(target, part, rest)?;
-                Ok(flow)
-            }
+            [part, rest @ ..] => self.begin_part(target, part, rest),
         }
     }
 
@@ -185,10 +175,7 @@ impl<'a> Machine<'a> {
     {
         match self.control.take_value() {
             None => Ok(Flow::Fails),
-            Some(value) => {
-                let flow = self.put_part(target, &part.path, rest, value)?;
-                Ok(flow)
-            }
+            Some(value) => self.put_part(target, &part.path, rest, value),
         }
     }
 
@@ -221,10 +208,7 @@ impl<'a> Machine<'a> {
                     .fill_missing(self.alloc, target.object, target.ty, target.parts)?;
                 Ok(Flow::Goes)
             }
-            [part, rest @ ..] => {
-                let flow = self.begin_part(target, part, rest)?;
-                Ok(flow)
-            }
+            [part, rest @ ..] => self.begin_part(target, part, rest),
         }
     }
 }

@@ -46,10 +46,7 @@ impl<'a> Machine<'a> {
     {
         match number_argument(arguments) {
             None => Ok(Flow::Fails),
-            Some(number) => {
-                let flow = self.putchar(number)?;
-                Ok(flow)
-            }
+            Some(number) => self.putchar(number),
         }
     }
 
@@ -68,10 +65,7 @@ impl<'a> Machine<'a> {
     {
         match pointer_argument(arguments) {
             None => Ok(Flow::Fails),
-            Some(pointer) => {
-                let flow = self.puts(pointer)?;
-                Ok(flow)
-            }
+            Some(pointer) => self.puts(pointer),
         }
     }
 
@@ -87,8 +81,7 @@ impl<'a> Machine<'a> {
     fn put_number(&mut self, number: i128) -> Result<Flow, NoMemory>
         ensures { IfOk result (λ flow. ComesTo flow (given_outcome (Some (plain.value_operand (plain_form.scalar (plain_form.number number)))) self.old) self.new) }
     {
-        let flow = put_scalar(&mut self.control, Some(Scalar::Number(number)))?;
-        Ok(flow)
+        put_scalar(&mut self.control, Some(Scalar::Number(number)))
     }
 
     fn putchar(&mut self, number: i128) -> Result<Flow, NoMemory>
@@ -117,10 +110,7 @@ impl<'a> Machine<'a> {
     {
         match text_at(self.alloc, &self.memory, pointer)? {
             None => Ok(Flow::Fails),
-            Some(text) => {
-                let flow = self.put_line(&text)?;
-                Ok(flow)
-            }
+            Some(text) => self.put_line(&text),
         }
     }
 

@@ -54,10 +54,7 @@ impl<'a> Machine<'a> {
     {
         match take_action(&mut self.control) {
             None => Ok(self.end()),
-            Some(action) => {
-                let flow = self.step(action)?;
-                Ok(flow)
-            }
+            Some(action) => self.step(action),
         }
     }
 

@@ -136,10 +136,7 @@ impl<'a> Machine<'a> {
     {
         match self.control.take_value() {
             None => Ok(Flow::Fails),
-            Some(value) => {
-                let flow = self.asks_past(value, turns)?;
-                Ok(flow)
-            }
+            Some(value) => self.asks_past(value, turns),
         }
     }
 

@@ -89,8 +89,7 @@ impl<'a> Machine<'a> {
     fn global(&mut self, number: u32) -> Result<Flow, NoMemory>
         ensures { IfOk result (λ flow. Does flow (plain.place_action (program_form.global number)) self.old self.new) }
     {
-        let flow = put_object(&mut self.control, self.alloc, number as usize)?;
-        Ok(flow)
+        put_object(&mut self.control, self.alloc, number as usize)
     }
 
     fn literal(&mut self, number: u32) -> Result<Flow, NoMemory>

@@ -6,19 +6,19 @@ use Rattle.interp_actions.specs.Stacks.{actions_of, operands_of}
 use Rattle.interp_actions.specs.Actions.{asking_action, asks_action}
 use Rattle.variant_interp.specs.Machines.{program_of, state_of}
 use Rattle.interp_actions.specs.StackLaws.{fails_behind}
-use Rattle.variant_interp.proofs.MachineLemmas.{does_from}
+use Rattle.variant_interp.proofs.MachineLemmas.{do_from}
 use Rattle.variant_interp.proofs.machine.Machine.asks_again.Goals as goal
 
 pub returns-in-None : goal.returns-in-None
 returns-in-None c = fails_behind _ _ (c.in-None.ensures.none _ _)
 
-pub returns-in_ok-flow-in-Some : goal.returns-in_ok-flow-in-Some
-returns-in_ok-flow-in-Some c =
+pub returns-in-Some : goal.returns-in-Some
+returns-in-Some c =
     let m = c.args.self.now in
     let p = program_of m in
     let l = plain_turns c.args.turns in
-    does_from c.in_ok-flow-in-Some.flow (asking_action l) (asks_action l) m (record m { control = c.take_value.new.self }) c.asks_past.new.self
+    do_from c.asks_past.result (asking_action l) (asks_action l) m (record m { control = c.take_value.new.self }) c.asks_past.new.self
     (ap (after m.output.items)
     (ap (λ ts. finish p (asking_action l ∷ plain_actions m.frame.types.now m.frame.slots.items ts) m.frame.bound (plain_frame m.frame.types.now m.frame.slots.items) (map plain_operand (operands_of c.take_value.new.self)) (state_of m)) c.take_value.ensures.actions
     ∙ sym (ap (λ os. finish p (asks_action l ∷ plain_actions m.frame.types.now m.frame.slots.items (actions_of m.control)) m.frame.bound (plain_frame m.frame.types.now m.frame.slots.items) (map plain_operand os) (state_of m)) c.in-Some.ensures.some)))
-    c.in_ok-flow-in-Some.ensures
+    c.asks_past.ensures

@@ -6,7 +6,7 @@ use Rattle.core_meaning.specs.declared.program.BuiltIn.TheVariants.{Putchar}
 use Rattle.core_cells.specs.Forms.{plain_value}
 use Rattle.variant_interp.specs.Machines.{program_of, state_of, built_in_outcome}
 use Rattle.variant_interp.proofs.LibraryLemmas.{only_number, putchar_fails}
-use Rattle.variant_interp.proofs.MachineLemmas.{comes_same}
+use Rattle.variant_interp.proofs.MachineLemmas.{come_same}
 use Rattle.variant_interp.proofs.OutputLemmas.{built_in_fails}
 use Rattle.variant_interp.proofs.machine.Machine.call_putchar.Goals as goal
 
@@ -16,11 +16,11 @@ returns-in-None c =
     let vs = map plain_value c.args.arguments.now in
     built_in_fails m Putchar vs (putchar_fails (program_of m) vs (state_of m) (sym c.number_argument.ensures ∙ c.in-None.is))
 
-pub returns-in_ok-flow-in-Some : goal.returns-in_ok-flow-in-Some
-returns-in_ok-flow-in-Some c =
+pub returns-in-Some : goal.returns-in-Some
+returns-in-Some c =
     let m = c.args.self.now in
     let vs = map plain_value c.args.arguments.now in
     let z = c.in-Some.number in
-    comes_same c.in_ok-flow-in-Some.flow (built_in_outcome Putchar (scalar (number (to_z w128 (of_z w128 z))) ∷ []) m) (built_in_outcome Putchar vs m) c.putchar.new.self c.in_ok-flow-in-Some.ensures
+    come_same c.putchar.result (built_in_outcome Putchar (scalar (number (to_z w128 (of_z w128 z))) ∷ []) m) (built_in_outcome Putchar vs m) c.putchar.new.self c.putchar.ensures
     (ap (λ (y : ℤ). built_in_outcome Putchar (scalar (number y) ∷ []) m) (to_z-of_z w128 z (search rules))
     ∙ ap (λ values. built_in_outcome Putchar values m) (sym (only_number vs z (sym c.number_argument.ensures ∙ c.in-Some.is))))

@@ -4,7 +4,7 @@ use Rattle.core_meaning.specs.declared.program.BuiltIn.TheVariants.{Puts}
 use Rattle.core_cells.specs.Forms.{plain_pointer, plain_value}
 use Rattle.variant_interp.specs.Machines.{program_of, state_of, built_in_outcome}
 use Rattle.variant_interp.proofs.LibraryLemmas.{only_pointer, puts_fails}
-use Rattle.variant_interp.proofs.MachineLemmas.{comes_same}
+use Rattle.variant_interp.proofs.MachineLemmas.{come_same}
 use Rattle.variant_interp.proofs.OutputLemmas.{built_in_fails}
 use Rattle.variant_interp.proofs.machine.Machine.call_puts.Goals as goal
 
@@ -14,9 +14,9 @@ returns-in-None c =
     let vs = map plain_value c.args.arguments.now in
     built_in_fails m Puts vs (puts_fails (program_of m) vs (state_of m) (sym c.pointer_argument.ensures ∙ ap (λ p. option_map plain_pointer (option_copied p)) c.in-None.is))
 
-pub returns-in_ok-flow-in-Some : goal.returns-in_ok-flow-in-Some
-returns-in_ok-flow-in-Some c =
+pub returns-in-Some : goal.returns-in-Some
+returns-in-Some c =
     let m = c.args.self.now in
     let vs = map plain_value c.args.arguments.now in
-    comes_same c.in_ok-flow-in-Some.flow _ (built_in_outcome Puts vs m) c.puts.new.self c.in_ok-flow-in-Some.ensures
+    come_same c.puts.result _ (built_in_outcome Puts vs m) c.puts.new.self c.puts.ensures
     (ap (λ values. built_in_outcome Puts values m) (sym (only_pointer vs _ (sym c.pointer_argument.ensures ∙ ap (λ p. option_map plain_pointer (option_copied p)) c.in-Some.is))))

@@ -6,7 +6,7 @@ use Rattle.core_cells.specs.Forms.{plain_value}
 use Rattle.interp_actions.specs.Actions.{enter_action}
 use Rattle.variant_interp.specs.Machines.{entered_outcome}
 use Rattle.variant_interp.proofs.CallLemmas.{entered_known, entered_missing}
-use Rattle.variant_interp.proofs.MachineLemmas.{comes_is}
+use Rattle.variant_interp.proofs.MachineLemmas.{come_is}
 use Rattle.variant_interp.proofs.machine.Machine.enter_with.Goals as goal
 
 pub returns-in-None : goal.returns-in-None
@@ -16,8 +16,8 @@ returns-in-None c =
     entered_missing m c.args.slot (plain_value c.args.value) (reverse (map plain_value c.args.values.items)) (plain_items c.args.body.now)
     (slice_get-map plain_type types c.args.slot ∙ ap (option_map plain_type) (slice_get_past types c.args.slot c.in-None.ensures.lookup.3))
 
-pub returns-in_ok-flow-in-Some : goal.returns-in_ok-flow-in-Some
-returns-in_ok-flow-in-Some c =
+pub returns-in-Some : goal.returns-in-Some
+returns-in-Some c =
     let m = c.args.self.now in
     let types = m.frame.types.now in
     let i = c.args.slot in
@@ -25,6 +25,6 @@ returns-in_ok-flow-in-Some c =
     let v = plain_value c.args.value in
     let vs = reverse (map plain_value c.args.values.items) in
     let body = plain_items c.args.body.now in
-    comes_is c.in_ok-flow-in-Some.flow (entered_outcome i (plain_type ty) v vs body m) (enter_action i (v ∷ vs) body) m c.enter_slot.new.self c.in_ok-flow-in-Some.ensures
+    come_is c.enter_slot.result (entered_outcome i (plain_type ty) v vs body m) (enter_action i (v ∷ vs) body) m c.enter_slot.new.self c.enter_slot.ensures
     (entered_known m i (plain_type ty) v vs body
     (slice_get-map plain_type types i ∙ ap (option_map plain_type) (slice_get_read types (length types) i ty refl c.in-Some.ensures.lookup.3.0 c.in-Some.ensures.lookup.1)))

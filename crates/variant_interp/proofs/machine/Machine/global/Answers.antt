@@ -3,12 +3,12 @@ use Rattle.core_meaning.specs.Program as program_form
 use Rattle.core_meaning.specs.Values.{at}
 use Rattle.interp_actions.specs.Actions as plain
 use Rattle.variant_interp.specs.Machines.{given_outcome}
-use Rattle.variant_interp.proofs.MachineLemmas.{comes_is, comes_given}
+use Rattle.variant_interp.proofs.MachineLemmas.{come_is, come_given}
 use Rattle.variant_interp.proofs.machine.Machine.global.Goals as goal
 
 pub returns : goal.returns
 returns c =
     let m = c.args.self.now in
     let o = Some (plain.place_operand (at c.args.number [])) in
-    comes_is c.in_ok-flow.flow (given_outcome o m) (plain.place_action (program_form.global c.args.number)) m (record m { control = c.put_object.new.control })
-    (comes_given c.in_ok-flow.flow o m c.put_object.new.control c.in_ok-flow.ensures) refl
+    come_is c.put_object.result (given_outcome o m) (plain.place_action (program_form.global c.args.number)) m (record m { control = c.put_object.new.control })
+    (come_given c.put_object.result o m c.put_object.new.control c.put_object.ensures) refl

@@ -3,17 +3,17 @@ use Rattle.core_meaning.specs.Plain.{plain_part}
 use Rattle.interp_actions.specs.Actions.{initialise_action, parts_action}
 use Rattle.interp_actions.specs.Forms.{plain_initialiser}
 use Rattle.variant_interp.proofs.ListLemmas.{first_of}
-use Rattle.variant_interp.proofs.MachineLemmas.{does_from}
+use Rattle.variant_interp.proofs.MachineLemmas.{do_from}
 use Rattle.variant_interp.proofs.PartLemmas.{initialiser_begins}
 use Rattle.variant_interp.proofs.machine.Machine.initialise.Goals as goal
 
-pub returns-in_ok-flow-in-len1-up : goal.returns-in_ok-flow-in-len1-up
-returns-in_ok-flow-in-len1-up c =
+pub returns-in-len1-up : goal.returns-in-len1-up
+returns-in-len1-up c =
     let m = c.args.self.now in
     let x = plain_initialiser c.args.target in
     let xs = c.args.target.parts.now in
     let first = c.part-item.result in
     let left = take (length xs - 1) (drop 1 xs) in
-    does_from c.in_ok-flow-in-len1-up.flow (parts_action x (map plain_part (first ∷ left))) (initialise_action x) m m c.begin_part.new.self
+    do_from c.begin_part.result (parts_action x (map plain_part (first ∷ left))) (initialise_action x) m m c.begin_part.new.self
     (initialiser_begins m x (plain_part first) (map plain_part left) (ap (map plain_part) (first_of xs first c.in-len1-up.len_at_least c.part-item.is)))
-    c.in_ok-flow-in-len1-up.ensures
+    c.begin_part.ensures

@@ -3,14 +3,14 @@ use Rattle.core_meaning.specs.Plain.{plain_item, plain_items}
 use Rattle.interp_actions.specs.Actions.{items_action}
 use Rattle.variant_interp.specs.Machines.{outcome_with}
 use Rattle.variant_interp.proofs.ListLemmas.{first_of}
-use Rattle.variant_interp.proofs.MachineLemmas.{does_from}
+use Rattle.variant_interp.proofs.MachineLemmas.{do_from}
 use Rattle.variant_interp.proofs.machine.Machine.items.Goals as goal
 
-pub returns-in_ok-flow-in-len1-up : goal.returns-in_ok-flow-in-len1-up
-returns-in_ok-flow-in-len1-up c =
+pub returns-in-len1-up : goal.returns-in-len1-up
+returns-in-len1-up c =
     let m = c.args.self.now in
     let xs = c.args.items.now in
     let x = c.item-item.result in
-    does_from c.in_ok-flow-in-len1-up.flow (items_action (plain_item x (plain_items (take (length xs - 1) (drop 1 xs))))) (items_action (plain_items xs)) m m c.begin_item.new.self
+    do_from c.begin_item.result (items_action (plain_item x (plain_items (take (length xs - 1) (drop 1 xs))))) (items_action (plain_items xs)) m m c.begin_item.new.self
     (ap (λ ys. outcome_with (items_action (plain_items ys)) m) (sym (first_of xs x c.in-len1-up.len_at_least c.item-item.is)))
-    c.in_ok-flow-in-len1-up.ensures
+    c.begin_item.ensures

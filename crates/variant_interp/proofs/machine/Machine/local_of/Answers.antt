@@ -4,7 +4,7 @@ use Rattle.core_meaning.specs.Plain.{plain_items, plain_part}
 use Rattle.interp_actions.specs.Actions.{PlainInitialiser, initialise_action}
 use Rattle.interp_actions.specs.Forms.{plain_actions}
 use Rattle.variant_interp.specs.Machines.{declared_outcome}
-use Rattle.variant_interp.proofs.MachineLemmas.{does_comes}
+use Rattle.variant_interp.proofs.MachineLemmas.{do_come}
 use Rattle.variant_interp.proofs.PositionLemmas.{local_begins}
 use Rattle.variant_interp.proofs.machine.Machine.local_of.Goals as goal
 
@@ -15,7 +15,7 @@ returns c =
     let t = plain_type c.args.ty.now in
     let parts = map plain_part c.args.parts.now in
     let x : PlainInitialiser = record { object = c.in_ok-object.object; ty = t; parts = parts } in
-    does_comes c.in_ok-flow.flow (declared_outcome c.args.slot t parts (plain_items c.args.rest.now) old) (initialise_action x)
-    (record middle { control = (record middle.control { actions = c.push.new.stack }) }) c.initialise.new.self c.in_ok-flow.ensures
+    do_come c.initialise.result (declared_outcome c.args.slot t parts (plain_items c.args.rest.now) old) (initialise_action x)
+    (record middle { control = (record middle.control { actions = c.push.new.stack }) }) c.initialise.new.self c.initialise.ensures
     (local_begins old middle (record middle.control { actions = c.push.new.stack }) c.args.slot x c.args.rest.now c.in_ok-object.ensures.declared c.in_ok-object.ensures.number
     (ap (plain_actions middle.frame.types.now middle.frame.slots.items) c.in_ok-push.ensures) refl)

@@ -5,15 +5,15 @@ use Rattle.interp_actions.specs.Finish.{finish}
 use Rattle.interp_actions.specs.Stacks.{actions_of, operands_of}
 use Rattle.variant_interp.specs.declared.machine.Machine.{Machine}
 use Rattle.variant_interp.specs.Machines.{program_of, state_of}
-use Rattle.variant_interp.proofs.AdvanceLemmas.{does_advances, advances_from}
+use Rattle.variant_interp.proofs.AdvanceLemmas.{do_advance, advances_from}
 use Rattle.variant_interp.proofs.machine.Machine.next.Goals as goal
 
-pub returns-in_ok-flow-in-Some : goal.returns-in_ok-flow-in-Some
-returns-in_ok-flow-in-Some c =
+pub returns-in-Some : goal.returns-in-Some
+returns-in-Some c =
     let m = c.args.self.now in
     let taken = c.take_action.new.control in
     let middle : Machine = record m { control = taken } in
-    does_advances c.in_ok-flow-in-Some.flow c.in-Some.action m middle c.step.new.self c.in_ok-flow-in-Some.ensures
+    do_advance c.step.result c.in-Some.action m middle c.step.new.self c.step.ensures
     (ap (λ os. after m.output.items (finish (program_of m) (plain_actions m.frame.types.now m.frame.slots.items (c.in-Some.action ∷ actions_of taken)) m.frame.bound (plain_frame m.frame.types.now m.frame.slots.items) (map plain_operand os) (state_of m))) c.take_action.ensures.operands
     ∙ ap (λ ts. after m.output.items (finish (program_of m) (plain_actions m.frame.types.now m.frame.slots.items ts) m.frame.bound (plain_frame m.frame.types.now m.frame.slots.items) (map plain_operand (operands_of m.control)) (state_of m))) (sym c.in-Some.ensures.some))
 

@@ -7,21 +7,21 @@ use Rattle.interp_actions.specs.Pieces.{operands_in}
 use Rattle.interp_actions.specs.Stacks.{actions_of}
 use Rattle.variant_interp.specs.Machines.{outcome_with}
 use Rattle.variant_interp.proofs.ListLemmas.{first_of, none_left, all_given}
-use Rattle.variant_interp.proofs.MachineLemmas.{does_from, plain_stacks_come}
+use Rattle.variant_interp.proofs.MachineLemmas.{do_from, plain_stacks_come}
 use Rattle.variant_interp.proofs.machine.Machine.next_argument.Goals as goal
 
-pub returns-in_ok-flow-in-empty : goal.returns-in_ok-flow-in-empty
-returns-in_ok-flow-in-empty c =
+pub returns-in-empty : goal.returns-in-empty
+returns-in-empty c =
     let m = c.args.self.now in
     let f = c.args.function in
     let es = c.args.arguments.now in
     let items = c.args.values.items in
     let before = reverse (map plain_value items) in
-    does_from c.in_ok-flow-in-empty.flow (call_action f (map plain_value items)) (arguments_action f (plain_arguments es) before) m m c.call.new.self
+    do_from c.call.result (call_action f (map plain_value items)) (arguments_action f (plain_arguments es) before) m m c.call.new.self
     (sym
     (ap (λ xs. outcome_with (arguments_action f (plain_arguments xs) before) m) (none_left es c.in-empty.len_below)
     ∙ ap (λ vs. outcome_with (call_action f vs) m) (all_given items)))
-    c.in_ok-flow-in-empty.ensures
+    c.call.ensures
 
 pub returns-in_ok-push_two-in-len1-up : goal.returns-in_ok-push_two-in-len1-up
 returns-in_ok-push_two-in-len1-up c =

@@ -4,15 +4,15 @@ use Rattle.interp_actions.specs.Actions.{parts_action}
 use Rattle.interp_actions.specs.Forms.{plain_initialiser}
 use Rattle.variant_interp.specs.Machines.{outcome_with}
 use Rattle.variant_interp.proofs.ListLemmas.{first_of}
-use Rattle.variant_interp.proofs.MachineLemmas.{does_from}
+use Rattle.variant_interp.proofs.MachineLemmas.{do_from}
 use Rattle.variant_interp.proofs.machine.Machine.parts_left.Goals as goal
 
-pub returns-in_ok-flow-in-len1-up : goal.returns-in_ok-flow-in-len1-up
-returns-in_ok-flow-in-len1-up c =
+pub returns-in-len1-up : goal.returns-in-len1-up
+returns-in-len1-up c =
     let m = c.args.self.now in
     let x = plain_initialiser c.args.target in
     let xs = c.args.rest.now in
     let first = c.part-item.result in
-    does_from c.in_ok-flow-in-len1-up.flow (parts_action x (map plain_part (first ∷ take (length xs - 1) (drop 1 xs)))) (parts_action x (map plain_part xs)) m m c.begin_part.new.self
+    do_from c.begin_part.result (parts_action x (map plain_part (first ∷ take (length xs - 1) (drop 1 xs)))) (parts_action x (map plain_part xs)) m m c.begin_part.new.self
     (ap (λ ys. outcome_with (parts_action x (map plain_part ys)) m) (sym (first_of xs first c.in-len1-up.len_at_least c.part-item.is)))
-    c.in_ok-flow-in-len1-up.ensures
+    c.begin_part.ensures

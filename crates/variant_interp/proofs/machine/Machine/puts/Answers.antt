@@ -5,7 +5,7 @@ use Rattle.core_cells.specs.Forms.{plain_pointer}
 use Rattle.core_memory.specs.MemoryForms.{plain_memory}
 use Rattle.core_memory.specs.TextForms.{plain_text}
 use Rattle.variant_interp.specs.Machines.{program_of, built_in_outcome, line_outcome}
-use Rattle.variant_interp.proofs.MachineLemmas.{comes_same}
+use Rattle.variant_interp.proofs.MachineLemmas.{come_same}
 use Rattle.variant_interp.proofs.OutputLemmas.{puts_known, puts_undefined}
 use Rattle.variant_interp.proofs.TextLemmas.{text_same}
 use Rattle.variant_interp.proofs.machine.Machine.puts.Goals as goal
@@ -16,11 +16,11 @@ returns-in-None c =
     let q = plain_pointer c.args.pointer.now in
     puts_undefined m q (sym (text_same (program_of m) (plain_memory m.memory) q) ∙ (sym c.in_ok-text_at.ensures ∙ ap plain_text c.in-None.is))
 
-pub returns-in_ok-flow-in-Some : goal.returns-in_ok-flow-in-Some
-returns-in_ok-flow-in-Some c =
+pub returns-in-Some : goal.returns-in-Some
+returns-in-Some c =
     let m = c.args.self.now in
     let q = plain_pointer c.args.pointer.now in
     let bytes = c.in-Some.text.items in
-    comes_same c.in_ok-flow-in-Some.flow (line_outcome c.deref.result.now m) (built_in_outcome Puts (scalar (pointer q) ∷ []) m) c.put_line.new.self
-    c.in_ok-flow-in-Some.ensures
+    come_same c.put_line.result (line_outcome c.deref.result.now m) (built_in_outcome Puts (scalar (pointer q) ∷ []) m) c.put_line.new.self
+    c.put_line.ensures
     (ap (λ b. line_outcome b m) c.deref.ensures.value ∙ sym (puts_known m q bytes (sym (text_same (program_of m) (plain_memory m.memory) q) ∙ (sym c.in_ok-text_at.ensures ∙ ap plain_text c.in-Some.is))))

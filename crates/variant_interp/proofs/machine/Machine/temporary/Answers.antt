@@ -5,16 +5,16 @@ use Rattle.interp_actions.specs.Actions.{temporary_action}
 use Rattle.interp_actions.specs.StackLaws.{fails_behind}
 use Rattle.variant_interp.specs.declared.machine.Machine.{Machine}
 use Rattle.variant_interp.specs.Machines.{temporary_outcome}
-use Rattle.variant_interp.proofs.MachineLemmas.{comes_is, operand_taken}
+use Rattle.variant_interp.proofs.MachineLemmas.{come_is, operand_taken}
 use Rattle.variant_interp.proofs.machine.Machine.temporary.Goals as goal
 
 pub returns-in-None : goal.returns-in-None
 returns-in-None c = fails_behind _ _ (c.in-None.ensures.none _ _)
 
-pub returns-in_ok-flow-in-Some : goal.returns-in_ok-flow-in-Some
-returns-in_ok-flow-in-Some c =
+pub returns-in-Some : goal.returns-in-Some
+returns-in-Some c =
     let m = c.args.self.now in
     let middle : Machine = record m { control = c.take_value.new.self } in
     let t = plain_type c.args.ty.now in
-    comes_is c.in_ok-flow-in-Some.flow (temporary_outcome t (plain_value c.in-Some.value) middle) (temporary_action t) m c.temporary_with.new.self c.in_ok-flow-in-Some.ensures
+    come_is c.temporary_with.result (temporary_outcome t (plain_value c.in-Some.value) middle) (temporary_action t) m c.temporary_with.new.self c.temporary_with.ensures
     (operand_taken m c.take_value.new.self (operand.Value c.in-Some.value) (temporary_action t) c.take_value.ensures.actions c.in-Some.ensures.some)

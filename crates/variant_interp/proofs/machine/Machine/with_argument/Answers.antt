@@ -4,7 +4,7 @@ use Rattle.core_cells.specs.Forms.{plain_value}
 use Rattle.interp_actions.specs.Actions.{arguments_action}
 use Rattle.variant_interp.specs.Machines.{outcome_with}
 use Rattle.variant_interp.proofs.ListLemmas.{pushed_value}
-use Rattle.variant_interp.proofs.MachineLemmas.{does_from}
+use Rattle.variant_interp.proofs.MachineLemmas.{do_from}
 use Rattle.variant_interp.proofs.machine.Machine.with_argument.Goals as goal
 
 pub returns : goal.returns
@@ -14,6 +14,6 @@ returns c =
     let rest = plain_arguments c.args.arguments.now in
     let items = c.args.values.items in
     let v = c.args.value in
-    does_from c.in_ok-flow.flow (arguments_action f rest (reverse (map plain_value c.push.new.self.items))) (arguments_action f rest (plain_value v ∷ reverse (map plain_value items))) m m c.next_argument.new.self
+    do_from c.next_argument.result (arguments_action f rest (reverse (map plain_value c.push.new.self.items))) (arguments_action f rest (plain_value v ∷ reverse (map plain_value items))) m m c.next_argument.new.self
     (ap (λ before. outcome_with (arguments_action f rest before) m) (ap (λ xs. reverse (map plain_value xs)) c.in_ok-push.ensures.items ∙ pushed_value items v))
-    c.in_ok-flow.ensures
+    c.next_argument.ensures

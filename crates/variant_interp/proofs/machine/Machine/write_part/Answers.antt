@@ -7,20 +7,20 @@ use Rattle.interp_actions.specs.Forms.{plain_initialiser}
 use Rattle.interp_actions.specs.StackLaws.{fails_behind}
 use Rattle.variant_interp.specs.declared.machine.Machine.{Machine}
 use Rattle.variant_interp.specs.Machines.{written_outcome}
-use Rattle.variant_interp.proofs.MachineLemmas.{comes_is, operand_taken}
+use Rattle.variant_interp.proofs.MachineLemmas.{come_is, operand_taken}
 use Rattle.variant_interp.proofs.machine.Machine.write_part.Goals as goal
 
 pub returns-in-None : goal.returns-in-None
 returns-in-None c = fails_behind _ _ (c.in-None.ensures.none _ _)
 
-pub returns-in_ok-flow-in-Some : goal.returns-in_ok-flow-in-Some
-returns-in_ok-flow-in-Some c =
+pub returns-in-Some : goal.returns-in-Some
+returns-in-Some c =
     let m = c.args.self.now in
     let middle : Machine = record m { control = c.take_value.new.self } in
     let x = plain_initialiser c.args.target in
     let left = map plain_part c.args.rest.now in
     let action = write_part_action x (plain_part c.args.part.now).path left in
     let v = plain_value c.in-Some.value in
-    comes_is c.in_ok-flow-in-Some.flow (written_outcome x (path_from c.deref.result.now) left v middle) action m c.put_part.new.self c.in_ok-flow-in-Some.ensures
+    come_is c.put_part.result (written_outcome x (path_from c.deref.result.now) left v middle) action m c.put_part.new.self c.put_part.ensures
     (ap (λ path. written_outcome x (path_from path) left v middle) c.deref.ensures.value
     ∙ operand_taken m c.take_value.new.self (operand.Value c.in-Some.value) action c.take_value.ensures.actions c.in-Some.ensures.some)
