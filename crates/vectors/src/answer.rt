@@ -13,7 +13,7 @@ pub(crate) struct Answer {
 }
 
 /// A second copy of the files.
-fn copy_of(alloc: Global, files: &Files) -> Result<Files, AllocError> {
+pub(crate) fn copy_of(alloc: Global, files: &Files) -> Result<Files, AllocError> {
     let mut list = Vec::new(alloc);
     for file in &files.list {
         let name = file.name.clone()?;

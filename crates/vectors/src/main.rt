@@ -1,7 +1,8 @@
 //! Runs the vectors: commands over stores in memory, each with the answer that is wanted.
 //!
 //! The answers were computed by a program of its own, so they test the definitions too. Each case
-//! that differs is printed, and at the end of a file how many of its cases agree.
+//! that differs is printed, and at the end of a file how many of its cases agree. Then the streams of the
+//! projects of the cases are compared with what preprocessing gives, configuration by configuration.
 #![tactic(auto)]
 
 #[cfg(test)]
@@ -15,6 +16,7 @@ mod fields;
 mod rows;
 #[cfg(test)]
 mod run_rows;
+mod streams;
 mod suites;
 #[cfg(test)]
 mod tokens_rows;
@@ -24,6 +26,9 @@ use crate::suites::{SUITES, run};
 fn main(rt: HostRuntime) -> anyhow::Result<()> {
     for suite in &SUITES {
         run(&rt, suite)?;
+    }
+    for file in &["tokens.tsv", "macros.tsv"] {
+        streams::run(&rt, file)?;
     }
     Ok(())
 }

@@ -1,0 +1,4 @@
+pub mod Truths
+pub mod Groups
+pub mod Walks
+pub mod Streams

@@ -1,0 +1,24 @@
+//! Prints the streams of the projects that it is called with: of a project with few features what is seen in each configuration,
+//! of others how many tokens they have and how large the conditions are.
+#![tactic(auto)]
+
+mod projects;
+mod shown;
+mod sizes;
+
+use std::alloc::Global;
+use std::env;
+use std::rt::{Env, Files};
+
+fn run<R: Files + Env + Print + AllocGlobal>(rt: &R) -> anyhow::Result<()> {
+    let alloc: Global = rt.alloc();
+    let names: Vec<String> = env::args(rt)?.skip(1).collect(alloc)?;
+    for name in &names {
+        projects::show_project(rt, name)?;
+    }
+    Ok(())
+}
+
+fn main(rt: HostRuntime) -> anyhow::Result<()> {
+    run(&rt)
+}
