@@ -60,7 +60,7 @@ pub lines-at : {X : Type 0} (form : X → PlainLine) (lines : List X) (i : ℕ) 
 lines-at form lines i line h is = ap (λ ls. map form ls) (drop_more lines i line h ∙ ap (λ l. l ∷ drop (i + 1) lines) (sym is))
 
 -- a source of the project is a source of the definition
-among-files : (these : Sources) (s : spec.Sources) (source : Source) → AreSources these s → IsAmong (length these.files.now) source → IsAmong (length s.files) source
+pub among-files : (these : Sources) (s : spec.Sources) (source : Source) → AreSources these s → IsAmong (length these.files.now) source → IsAmong (length s.files) source
 among-files these s source are there =
     subst (λ (n : ℕ). IsAmong n source) (sym (length-map these.files.now plain_file) ∙ sym (ap length are.files)) there
 

@@ -2,5 +2,12 @@ pub mod RunLemmas
 pub mod GroupLemmas
 pub mod WalkLemmas
 pub mod ConditionLemmas
+pub mod WatchLemmas
+pub mod ReadLemmas
+pub mod SeenLemmas
+pub mod InclusionLemmas
 pub mod FileLemmas
 pub mod StreamLemmas
+pub mod LineLemmas
+pub mod SourceLemmas
+pub mod ActiveLemmas

@@ -12,7 +12,8 @@ use Rattle.cond_formula.specs.Conditions.{Condition, Always, condition_of, value
 use Rattle.cond_tokens.specs.Streams.{tokens_at}
 use Rattle.c_text.specs.Macros.{Table, Meaning, feature}
 use Rattle.c_text.specs.Token.{PlainToken}
-use Rattle.c_text.specs.Preprocessing.{Reading, Flow, Refusal, Sources, Syntax, Outcome, IsSyntaxOf, IsPreprocessed, on, refused, gives, is_refused, unbalanced, outcome_of, preprocessed, read_source, project_file, most_nested, at_start, feature_token}
+use Rattle.c_text.specs.Preprocessing.{Reading, Flow, Refusal, Source, Sources, Syntax, Outcome, IsSyntaxOf, IsPreprocessed, on, refused, gives, is_refused, unbalanced, outcome_of, preprocessed, read_source, project_file, most_nested, at_start, feature_token}
+use Rattle.active_tokens.specs.Active.{reads_of_source, reads_of_unit}
 use Rattle.project_file.specs.Projects.{names_from, names_on}
 use Rattle.macro_table.specs.MacroTables.{table_at}
 use Rattle.macro_table.specs.Features.{is_feature_on}
@@ -20,6 +21,7 @@ use Rattle.unit_outcomes.specs.Laws.{HasFiles, UnitsHaveOutcomes}
 use Rattle.cond_readings.specs.Readings.{came_to, taken, reading_at, table_in}
 use Rattle.cond_readings.specs.declared.readings.CondReading.{CondReading}
 use Rattle.cond_pp.specs.Streams.{IsStreamAt}
+use Rattle.cond_pp.specs.Watches.{read_where}
 
 -- ---- where a reading begins
 
@@ -64,6 +66,13 @@ unit-read features s x number place when start new when_is start_is number_is re
     ∙ ap (λ (a : Condition). taken (value features a) (λ r. read_source s x most_nested (project_file number) r) start) when_is
     ∙ ap (λ (o : Option Reading). taken true (λ r. read_source s x most_nested (project_file number) r) o) start_is
     ∙ ap (λ (n : ℕ). came_to (preprocessed s x n)) number_is
+
+-- what it reads
+pub unit-reads : (features : ℕ → Bool) (s : Sources) (x : Syntax) (misplaced : Source → List PlainToken) (number place : ℕ) (when : Condition) (start : Option Reading) → when ≡ Always → start ≡ Some (at_start s) → number ≡ place → read_where (value features when) (λ r. reads_of_source s x misplaced most_nested (project_file number) r) start ≡ reads_of_unit s x misplaced place
+unit-reads features s x misplaced number place when start when_is start_is number_is =
+    ap (λ (a : Condition). read_where (value features a) (λ r. reads_of_source s x misplaced most_nested (project_file number) r) start) when_is
+    ∙ ap (λ (o : Option Reading). read_where true (λ r. reads_of_source s x misplaced most_nested (project_file number) r) o) start_is
+    ∙ ap (λ (n : ℕ). reads_of_unit s x misplaced n) number_is
 
 -- ---- what becomes of a unit
 

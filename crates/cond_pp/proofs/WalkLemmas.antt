@@ -21,7 +21,7 @@ use Rattle.cond_pp.specs.Groups.{PlainGroup, Fits, AllFit, open_at, level_at, re
 use Rattle.cond_pp.specs.Walks.{IsFit, ahead, including, after_file}
 use Rattle.cond_pp.proofs.GroupLemmas.{read-is, read-inside, group-is, alone-is}
 
-under-none : (b : Bool) → under {P = PlainToken} b [] ≡ []
+pub under-none : (b : Bool) → under {P = PlainToken} b [] ≡ []
 under-none true = refl
 under-none false = refl
 

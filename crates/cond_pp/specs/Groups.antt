@@ -1,5 +1,6 @@
 -- The open groups, and what is done with them in a configuration.
-use Rattle.std.specs.Prelude.{◌≡◌, ℕ, Bool, true, false, List, [], ◌∷◌, map, reverse, All, IsTrue, Option, Some, None}
+use Rattle.std.specs.Prelude.{◌≡◌, ℕ, Bool, true, false, List, [], ◌∷◌, map, reverse, All, IsTrue, Option, Some, None, if◌then◌else◌}
+use Rattle.c_text.specs.Trees.{Role, begins, begins_branch, begins_last, closes, stands_alone}
 use Rattle.cond_formula.specs.Conditions.{Condition, condition_of, value}
 use Rattle.file_walks.specs.Walk.{Open, reads, waits, passed, skipped}
 use Rattle.cond_pp.specs.declared.groups.CondGroup.{CondGroup}
@@ -40,6 +41,22 @@ AllFit on entered groups = All (λ g. Fits on entered g) groups
 abbrev pub read_in : Condition → List PlainGroup → Condition
 read_in entered [] = entered
 read_in entered (g ∷ outer) = g.reads_when
+
+-- where a directive line is read: a branch or the end of a group wherever the group is; behind `#else` only where that branch is
+abbrev pub branch_read_in : Condition → List PlainGroup → Condition
+branch_read_in entered [] = entered
+branch_read_in entered (g ∷ outer) = if g.last then g.reads_when else g.within
+
+abbrev pub end_read_in : Condition → List PlainGroup → Condition
+end_read_in entered [] = entered
+end_read_in entered (g ∷ outer) = g.within
+
+abbrev pub line_read_in : Role → Condition → List PlainGroup → Condition
+line_read_in begins entered groups = read_in entered groups
+line_read_in begins_branch entered groups = branch_read_in entered groups
+line_read_in begins_last entered groups = branch_read_in entered groups
+line_read_in closes entered groups = end_read_in entered groups
+line_read_in stands_alone entered groups = read_in entered groups
 
 abbrev pub innermost : List PlainGroup → Option PlainGroup
 innermost [] = None

@@ -2,3 +2,5 @@ pub mod Truths
 pub mod Groups
 pub mod Walks
 pub mod Streams
+pub mod Watches
+pub mod Laws

@@ -1,12 +1,18 @@
 //! Preprocessing of one unit in all configurations at once (ISO/IEC 9899:2011, 6.10).
 #![tactic(auto)]
 
+mod activity;
 mod branches;
 mod conditions;
 mod groups;
+mod laws;
+mod projects;
 mod runs;
 mod streams;
 mod units;
 mod walk;
+mod watch;
 
+pub use activity::{active, defined_at};
+pub use laws::streams_come_from_active;
 pub use streams::preprocess_all;

@@ -1,5 +1,5 @@
 //! What a unit gives in all configurations.
-ghost use Rattle.std.specs.Prelude.{◌≡◌, ◌+◌, ◌<◌, ◌≤◌, List, Bool, map, length, All, IsTrue, IfOk};
+ghost use Rattle.std.specs.Prelude.{◌≡◌, ◌<◌, ◌≤◌, List, Bool, map, length, All, IsTrue, IfOk};
 ghost use Rattle.cond_formula.specs.Features.{has};
 ghost use Rattle.cond_formula.specs.Conditions.{value};
 ghost use Rattle.text_edits.specs.Files.{plain_files};
@@ -8,26 +8,15 @@ ghost use Rattle.project_store.specs.Reads.{names_of};
 ghost use Rattle.cond_pp.specs.Streams.{IsStreamAt};
 ghost use Rattle.plain_pp.specs.Units.{sources_of, file_of};
 
-use crate::units::read_source;
-use cond_formula::{Formula, NoMemory, Oracle};
+use crate::projects::read_unit;
+use crate::watch::Watch;
+use cond_formula::{NoMemory, Oracle};
 use cond_readings::CondReading;
 use cond_tokens::CondStream;
 use project_file::Project;
 use std::alloc::Global;
 use text_edits::Files;
-use unit_files::{Source, Sources};
 use unit_outcomes::units_have_outcomes;
-
-/// How deep files may be nested in a unit.
-const MOST_NESTED: u32 = 16;
-
-fn unit_number(headers: usize, unit: u32, files: usize) -> u32
-    requires there { headers + unit < files }
-    requires few { files < 4294967295 }
-    ensures { result ≡ headers + unit }
-{
-    headers as u32 + unit
-}
 
 /// The tokens of a unit in all configurations, and where it is refused. `files` are the project's headers and then its
 /// units, and `unit` is the place of the unit among the units.
@@ -46,23 +35,8 @@ pub fn preprocess_all<O: Oracle>(
     ensures streams { IfOk result (λ stream. (c : List Bool) → IsTrue (value (has c) (O.admits oracle.old)) → IsStreamAt (has c) (sources_of (project_view project.now) (plain_files files.now) (has c)) (file_of (project_view project.now) unit) stream) }
 {
     units_have_outcomes();
-    let mut reading = CondReading::new(alloc);
-    let sources = Sources {
-        files: files.list.as_slice(),
-        headers: project.headers.as_slice(),
-        features: project.features.as_slice(),
-    };
-    let number = unit_number(project.headers.len(), unit, files.list.len());
-    let source = Source::ProjectFile(number);
-    read_source(
-        alloc,
-        &sources,
-        source,
-        Formula::True,
-        MOST_NESTED,
-        &mut reading,
-        oracle,
-    )?;
+    let mut watch = Watch::idle();
+    let reading = read_unit(alloc, project, files, unit, oracle, &mut watch)?;
     let CondReading {
         table: _,
         tokens,

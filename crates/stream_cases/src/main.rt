@@ -1,8 +1,10 @@
 //! Prints the streams of the projects that it is called with: of a project with few features what is seen in each configuration,
-//! of others how many tokens they have and how large the conditions are.
+//! and which tokens of its files are active there and while which names, of others how many tokens they have and how large the
+//! conditions are.
 #![tactic(auto)]
 
 mod projects;
+mod readings;
 mod shown;
 mod sizes;
 

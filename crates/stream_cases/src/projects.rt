@@ -4,6 +4,7 @@ ghost use Rattle.text_edits.specs.Files.{plain_files};
 ghost use Rattle.project_file.specs.View.{project_view};
 ghost use Rattle.project_store.specs.Reads.{names_of};
 
+use crate::readings::show_readings;
 use crate::shown::show_stream;
 use crate::sizes::show_sizes;
 use anyhow::{Context, Result};
@@ -55,6 +56,7 @@ fn show_units<R: Print + AllocGlobal>(rt: &R, project: &Project, files: &Files) 
             show_sizes(rt, &stream)?;
         } else {
             show_stream(rt, project.features.len(), &stream)?;
+            show_readings(rt, project, files, number as u32, project.features.len())?;
         }
     }
     Ok(())

@@ -1,0 +1,7 @@
+#ifdef A
+int a;
+#else
+int b;
+#else
+int c;
+#endif
