@@ -15,7 +15,7 @@ use Rattle.c_tree.specs.Grammar.{expression, arguments, cast_type, cast_types, a
 use Rattle.c_tree.proofs.TerminalCases.{one_of, same-true}
 use Rattle.core_meaning.specs.Program.{PlainArguments, no_argument, argument, literal, update, update_after}
 use Rattle.core_meaning.specs.Checking.{Entity, file_entity, Checked, refused, ◌>>=◌, give, or_broken, uses}
-use Rattle.core_meaning.specs.Entities.{Local, Signature, Sort, variable, function, FileName, Scope, local_in, number_of}
+use Rattle.core_meaning.specs.Entities.{Local, Signature, Sort, variable, function, FileName, Scope, local_in, entity_number}
 use Rattle.core_meaning.specs.Typing.{Operand, Typed, of_object, loaded}
 use Rattle.core_meaning.specs.Expressions.{judged, judged_arguments, text_bytes, first_text, first_token, stepped, prefixed, cast_to, arithmetic_words, selected, indexed, Callee, callee, callee_of_name, callee_of_sort, count_entries, may_be_called, result_of_call, passed as passed_argument, condition_value, chosen, combined_by, combined, operator_named, written_place, assignment}
 use Rattle.core_meaning.specs.declared.refusals.TypeKind.TheVariants.{BadOperand}
@@ -322,12 +322,12 @@ module _ (at : ℕ → Entity) (taken : Room) (scope : Scope) where
       skip_texts parts texts r (λ s. Goal at taken scope (Operands at taken scope) h r.found s (judged scope (node k.Texts parts))) (λ s g. g)
       (quietly at taken scope (Operands at taken scope) h r (judged scope (node k.Texts parts)) rel
       (yields_both (λ bytes. text_bytes parts ≡ Some bytes) (Operands at taken scope) (or_broken (text_bytes parts))
-      (λ bytes. or_broken (first_text parts) >>= (λ first. give (of_object first (array_of char (length bytes + 1)) (literal (number_of scope.numbers.literals bytes)) true)))
+      (λ bytes. or_broken (first_text parts) >>= (λ first. give (of_object first (array_of char (length bytes + 1)) (literal (entity_number scope.numbers.literals bytes)) true)))
       (yields_some (text_bytes parts) (bytes_known parts texts holds))
       (λ bytes e. yields_both (λ first. first_text parts ≡ Some first) (Operands at taken scope) (or_broken (first_text parts))
-      (λ first. give (of_object first (array_of char (length bytes + 1)) (literal (number_of scope.numbers.literals bytes)) true))
+      (λ first. give (of_object first (array_of char (length bytes + 1)) (literal (entity_number scope.numbers.literals bytes)) true))
       (yields_some (first_text parts) (first_known parts texts some))
-      (λ first f. yields (Operands at taken scope) (of_object first (array_of char (length bytes + 1)) (literal (number_of scope.numbers.literals bytes)) true) tt))))
+      (λ first f. yields (Operands at taken scope) (of_object first (array_of char (length bytes + 1)) (literal (entity_number scope.numbers.literals bytes)) true) tt))))
 
   cast_read :
       (open_ close : PlainToken) (words : PlainTrees) (inner : PlainTree) → is_name open_ ≡ false → is_name close ≡ false

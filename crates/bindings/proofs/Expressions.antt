@@ -16,7 +16,7 @@ use Rattle.c_tree.specs.Grammar.{are_texts, any_part, are_words, are_words_of, i
 use Rattle.c_tree.proofs.TerminalCases.{one_of, same-true}
 use Rattle.core_meaning.specs.Program.{PlainExpression, PlainPlace, PlainArguments, no_argument, argument, literal, update, update_after, constant}
 use Rattle.core_meaning.specs.Checking.{Entity, local_entity, file_entity, struct_entity, member_entity, Checked, ◌>>=◌, give, unless_so, found_or, or_broken, uses}
-use Rattle.core_meaning.specs.Entities.{Local, Sort, variable, function, FileName, Scope, local_in, number_of}
+use Rattle.core_meaning.specs.Entities.{Local, Sort, variable, function, FileName, Scope, local_in, entity_number}
 use Rattle.core_meaning.specs.Typing.{Operand, Typed, of_object, loaded, Designation}
 use Rattle.core_meaning.specs.Expressions.{judged, judged_arguments, single_operand, name_operand, file_name_operand, file_operand, number_operand, character_operand, character_value, text_bytes, joined_bytes, first_text, first_token, stepped, prefixed, cast_to, arithmetic_words, selected, member_of, member_in, member_operand, member_of_target, struct_place, is_free, indexed, Callee, callee, callee_unless_local, callee_of_name, callee_of_sort, count_entries, may_be_called, result_of_call, passed as passed_argument, condition_value, chosen, combined_by, combined, operator_named, written_place, assignment, valued}
 use Rattle.core_meaning.specs.declared.refusals.TypeKind.TheVariants.{Incomplete, NoMember}
@@ -176,9 +176,9 @@ module _ (at : ℕ → Entity) (taken : Room) (scope : Scope) where
       by : (sort : Sort) → MadeSort scope.tags sort → Goal Operands h r.found (used token r) (file_operand scope token sort)
       by (variable ty) made =
           let f = (rel.names token.text n e).found in
-          then_quietly Anything Operands h r.found (used token r) (uses (file_entity token.text)) (λ bound. give (of_object token ty (Rattle.core_meaning.specs.Program.global (number_of scope.numbers.globals token.text)) true))
+          then_quietly Anything Operands h r.found (used token r) (uses (file_entity token.text)) (λ bound. give (of_object token ty (Rattle.core_meaning.specs.Program.global (entity_number scope.numbers.globals token.text)) true))
           (use_of r h token (file_entity token.text) f.by refl (or_else_none (look_up ordinary token.text r.blocks) (look_up ordinary token.text r.file) (rel.no_local token.text hidden) ∙ f.entry) f.first rel)
-          (λ x a. yields Operands (of_object token ty (Rattle.core_meaning.specs.Program.global (number_of scope.numbers.globals token.text)) true) made)
+          (λ x a. yields Operands (of_object token ty (Rattle.core_meaning.specs.Program.global (entity_number scope.numbers.globals token.text)) true) made)
       by (function signature) made = tt
 
   -- a parameter of a declaration that defines no function

@@ -19,6 +19,6 @@ abbrev pub steps_of : List Step → List refutations.Step
 steps_of steps = map step_of steps
 
 -- The least assignment, or a refutation.
-abbrev pub IsAnswer : ℕ → List (List ℤ) → Found → Type 0
-IsAnswer vars clauses (Least values) = IsLeast vars clauses values.items
-IsAnswer vars clauses (Refuted steps) = IsRefutation vars clauses (steps_of steps.items)
+abbrev pub IsFound : ℕ → List (List ℤ) → Found → Type 0
+IsFound vars clauses (Least values) = IsLeast vars clauses values.items
+IsFound vars clauses (Refuted steps) = IsRefutation vars clauses (steps_of steps.items)

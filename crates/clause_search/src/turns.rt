@@ -4,7 +4,7 @@ ghost use Rattle.std.specs.Prelude.{◌≡◌, ℕ, ◌+◌, ◌<◌, pos, true,
 ghost use Rattle.std.specs.List.{list_all};
 ghost use Rattle.refute_check.specs.Clauses.{is_clause};
 ghost use Rattle.refute_check.specs.Steps.{step_fault};
-ghost use Rattle.clause_search.specs.Answers.{literals_of, steps_of, IsAnswer};
+ghost use Rattle.clause_search.specs.Answers.{literals_of, steps_of, IsFound};
 ghost use Rattle.clause_search.specs.Known.{known_of, IsRefutedAt};
 ghost use Rattle.clause_search.specs.Following.{numbered};
 ghost use Rattle.clause_search.specs.Searches.{IsSearching, IsKnown, AreValued, HasTurned};
@@ -41,7 +41,7 @@ enum Turn {
 pub fn search(alloc: Global, vars: u32, clauses: &[Vec<i32>]) -> Result<Found, NoMemory>
     requires few { vars < 2147483648 }
     requires formed { IsTrue (list_all (is_clause vars) (literals_of clauses.now)) }
-    ensures { IfOk result (IsAnswer vars (literals_of clauses.now)) }
+    ensures { IfOk result (IsFound vars (literals_of clauses.now)) }
 {
     let mut state = begun(alloc, clauses.len())?;
     for _ in 0..u64::MAX {

@@ -5,7 +5,7 @@ use Rattle.project_store.specs.States.{StoreState, Stands, IsAbsent}
 use Rattle.quick_form.specs.Renaming.{renamed_bytes, token_count}
 use Rattle.quick_rename.specs.declared.Answer.{Answer as File}
 use Rattle.quick_rename.specs.declared.Answer.TheVariants as file
-use Rattle.quick_rename.specs.Answer.{IsRenamed, IsAnswer, HasPlace}
+use Rattle.quick_rename.specs.Answer.{IsRenamed, AnswersRenaming, HasPlace}
 use Rattle.command_promises.specs.Courses.{Saying, Deed, reads, says, IsThere, Comes}
 use Rattle.command_promises.specs.Sayings.{ComesToUnread}
 use Rattle.command_quick.specs.Words.{Renaming}
@@ -30,9 +30,9 @@ unread_file r store absent = record {
 }
 
 -- what the renaming answers is said
-pub renamed_said : (r : Renaming) (bytes old new : List ℕ) (a : File) (content : Vec ℕ _) (tokens : ℕ) (what : Saying) → old ≡ r.old → new ≡ r.new → IsAnswer old new bytes a → a ≡ file.Renamed content tokens → what ≡ says_renamed r content.items tokens → OfBytes r bytes (says what)
+pub renamed_said : (r : Renaming) (bytes old new : List ℕ) (a : File) (content : Vec ℕ _) (tokens : ℕ) (what : Saying) → old ≡ r.old → new ≡ r.new → AnswersRenaming old new bytes a → a ≡ file.Renamed content tokens → what ≡ says_renamed r content.items tokens → OfBytes r bytes (says what)
 renamed_said r bytes old new a content tokens what p q h e is =
-    let k : IsRenamed old new bytes content.items tokens = subst (IsAnswer old new bytes) e h in
+    let k : IsRenamed old new bytes content.items tokens = subst (AnswersRenaming old new bytes) e h in
     let m : IsRenamed r.old r.new bytes content.items tokens = subst (λ o. IsRenamed o r.new bytes content.items tokens) p (subst (λ w. IsRenamed old w bytes content.items tokens) q k) in
     inl (m.takes, ap (λ x. says x) (is ∙ (ap (λ b. says_renamed r b tokens) m.renamed_is ∙ ap (λ n. says_renamed r (renamed_bytes r.old r.new bytes) n) m.tokens_are)))
 

@@ -23,7 +23,7 @@ use Rattle.cond_macros.proofs.NameLemmas.{some_body}
 use Rattle.cond_macros.specs.declared.calls.Call.{Call}
 use Rattle.cond_macros.specs.Owned.{IsOwn, AreOwn}
 use Rattle.cond_macros.specs.Pieces.{Piece, some_open, ended}
-use Rattle.cond_macros.specs.Readings.{Reads}
+use Rattle.cond_macros.specs.Readings.{ListBecomes}
 use Rattle.cond_macros.specs.CondCalls.{held_at, call_entry, calls_at}
 use Rattle.cond_macros.proofs.ArgumentLemmas.{or_false}
 use Rattle.cond_macros.proofs.RunLemmas.{held_pushed, open_cases}
@@ -55,16 +55,16 @@ calls_pushed on xs longer x is =
 
 module _ (exact : Bool) (table : spec.Table) (deeper : spec.Deeper) (active : List (List ℕ)) (on : ℕ → Bool) where
   pub reads_next : (xs rest : List (Guarded Item)) (x : Guarded Item) (i : ℕ) (s : Option Piece) (b : Option (List spec.Item)) → i < length xs → x ≡ get_or xs i x → rest ≡ drop (i + 1) xs →
-      Reads exact table deeper active s (items_at on (drop i xs)) b →
-      Reads exact table deeper active s (if◌then◌else◌ (value on (condition_of x.when)) (item_at on x.what ∷ items_at on rest) (items_at on rest)) b
+      ListBecomes exact table deeper active s (items_at on (drop i xs)) b →
+      ListBecomes exact table deeper active s (if◌then◌else◌ (value on (condition_of x.when)) (item_at on x.what ∷ items_at on rest) (items_at on rest)) b
   reads_next xs rest x i s b within is e reads =
-      subst (λ (l : List spec.Item). Reads exact table deeper active s l b)
+      subst (λ (l : List spec.Item). ListBecomes exact table deeper active s l b)
       (seen_next (item_at on) on xs x i within is ∙ ap (λ (l : List (Guarded Item)). if◌then◌else◌ (value on (condition_of x.when)) (item_at on x.what ∷ items_at on l) (items_at on l)) (sym e)) reads
 
-  pub reads_moved : (xs rest : List (Guarded Item)) (s : Option Piece) (b : Option (List spec.Item)) → rest ≡ xs → Reads exact table deeper active s (items_at on rest) b → Reads exact table deeper active s (items_at on xs) b
-  reads_moved xs rest s b e reads = subst (λ (l : List (Guarded Item)). Reads exact table deeper active s (items_at on l) b) e reads
+  pub reads_moved : (xs rest : List (Guarded Item)) (s : Option Piece) (b : Option (List spec.Item)) → rest ≡ xs → ListBecomes exact table deeper active s (items_at on rest) b → ListBecomes exact table deeper active s (items_at on xs) b
+  reads_moved xs rest s b e reads = subst (λ (l : List (Guarded Item)). ListBecomes exact table deeper active s (items_at on l) b) e reads
 
-  pub reads_done : (xs : List (Guarded Item)) (i : ℕ) (s : Option Piece) (b : Option (List spec.Item)) → length xs ≤ i → Reads exact table deeper active s (items_at on (drop i xs)) b → ended s ≡ b
+  pub reads_done : (xs : List (Guarded Item)) (i : ℕ) (s : Option Piece) (b : Option (List spec.Item)) → length xs ≤ i → ListBecomes exact table deeper active s (items_at on (drop i xs)) b → ended s ≡ b
   reads_done xs i s b past reads = end_reads exact table deeper active s b (reads_moved [] (drop i xs) s b (drop_all i xs past) reads)
 
 pub own_at : (xs : List (Guarded Item)) (x : Guarded Item) (i : ℕ) → i < length xs → x ≡ get_or xs i x → AreOwn xs → IsOwn x.what

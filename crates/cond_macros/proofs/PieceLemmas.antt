@@ -8,7 +8,7 @@ use Rattle.c_text.specs.Macros as spec
 use Rattle.cond_bodies.specs.Cores.{core, cores}
 use Rattle.cond_macros.specs.Looked.{looked}
 use Rattle.cond_macros.specs.Pieces.{Held, Piece, nothing_done, unless_refused, also, under_piece, items_piece, given_piece, open_piece, some_open, ended, without_calls, brought_again, progress_piece, turn_piece, turn_pieces, outside_piece}
-use Rattle.cond_macros.specs.Readings.{look, prepended, IsSound, behind, goes_on, IsSoundPiece, Reads}
+use Rattle.cond_macros.specs.Readings.{look, prepended, IsSound, behind, goes_on, IsSoundPiece, ListBecomes}
 use Rattle.cond_macros.proofs.Cores.{in_call_twice, core-brought, cores-brought}
 
 -- ---- pieces are a monoid
@@ -169,7 +169,7 @@ module _ (exact : Bool) (table : spec.Table) (deeper : spec.Deeper) (active : Li
       ∙ ap (prepended done) (sym (look-call_then held.call.name given (spec.outside table deeper active rest)))
   inside_goes done held item own rest (spec.goes_on next) first is = one_open done (record { call = next; first = held.first }) rest
 
-  moved : (p q : Option Piece) (rest : List spec.Item) (becomes : Option (List spec.Item)) → p ≡ q → Reads exact table deeper active q rest becomes → Reads exact table deeper active p rest becomes
+  moved : (p q : Option Piece) (rest : List spec.Item) (becomes : Option (List spec.Item)) → p ≡ q → ListBecomes exact table deeper active q rest becomes → ListBecomes exact table deeper active p rest becomes
   moved p q rest becomes e reads = rw e reads
 
   -- the name of a call stays
@@ -199,8 +199,8 @@ module _ (exact : Bool) (table : spec.Table) (deeper : spec.Deeper) (active : Li
 
   -- one item more, in a configuration
   turned_reads : (done : List spec.Item) (calls : List Held) (present : Bool) (item : spec.Item) (own : PlainToken) (rest : List spec.Item) (becomes : Option (List spec.Item)) → (exact ≡ true → own ≡ item.token) →
-      Reads exact table deeper active (Some (record { done = done; open_calls = calls })) (if present then item ∷ rest else rest) becomes →
-      Reads exact table deeper active (also (also (Some (record { done = done; open_calls = [] })) (turn_pieces exact table deeper active present calls item own)) (under_piece (present && not (some_open calls)) (outside_piece exact table deeper active item own (spec.treatment_of table active item rest)))) rest becomes
+      ListBecomes exact table deeper active (Some (record { done = done; open_calls = calls })) (if present then item ∷ rest else rest) becomes →
+      ListBecomes exact table deeper active (also (also (Some (record { done = done; open_calls = [] })) (turn_pieces exact table deeper active present calls item own)) (under_piece (present && not (some_open calls)) (outside_piece exact table deeper active item own (spec.treatment_of table active item rest)))) rest becomes
   turned_reads done [] true item own rest becomes is before =
       let start : Option Piece = Some (record { done = done; open_calls = [] }) in
       let piece = outside_piece exact table deeper active item own (spec.treatment_of table active item rest) in
@@ -226,7 +226,7 @@ module _ (exact : Bool) (table : spec.Table) (deeper : spec.Deeper) (active : Li
       outside ≡ (present && not (some_open piece.open_calls)) →
       middle ≡ also (without_calls (unless_refused refused piece)) (turn_pieces exact table deeper active present piece.open_calls item own) →
       after ≡ also middle (under_piece outside (outside_piece exact table deeper active item own (spec.treatment_of table active item rest))) →
-      Reads exact table deeper active (unless_refused refused piece) (if present then item ∷ rest else rest) becomes → Reads exact table deeper active after rest becomes
+      ListBecomes exact table deeper active (unless_refused refused piece) (if present then item ∷ rest else rest) becomes → ListBecomes exact table deeper active after rest becomes
   step_reads true piece present outside item own rest becomes middle after is is_outside is_middle is_after before =
       moved after None rest becomes (is_after ∙ ap (λ (p : Option Piece). also p (under_piece outside (outside_piece exact table deeper active item own (spec.treatment_of table active item rest)))) is_middle) (record { sound = tt; same = before.same })
   step_reads false piece present outside item own rest becomes middle after is is_outside is_middle is_after before =
@@ -236,7 +236,7 @@ module _ (exact : Bool) (table : spec.Table) (deeper : spec.Deeper) (active : Li
       (turned_reads piece.done piece.open_calls present item own rest becomes is before)
 
   -- where no item is left
-  pub end_reads : (so_far : Option Piece) (becomes : Option (List spec.Item)) → Reads exact table deeper active so_far [] becomes → ended so_far ≡ becomes
+  pub end_reads : (so_far : Option Piece) (becomes : Option (List spec.Item)) → ListBecomes exact table deeper active so_far [] becomes → ended so_far ≡ becomes
   end_reads None becomes reads = reads.same
   end_reads (Some piece) becomes reads = by_calls piece.done piece.open_calls reads.sound ∙ reads.same where
     by_calls : (done : List spec.Item) (calls : List Held) → IsSound exact calls → ended (Some (record { done = done; open_calls = calls })) ≡ prepended done (behind exact table deeper active calls [])
@@ -244,7 +244,7 @@ module _ (exact : Bool) (table : spec.Table) (deeper : spec.Deeper) (active : Li
     by_calls done (held ∷ []) sound = refl
     by_calls done (held ∷ other ∷ calls) sound = absurd sound
 
-  pub begin_reads : (items : List spec.Item) → Reads exact table deeper active nothing_done items (look exact (spec.outside table deeper active items))
+  pub begin_reads : (items : List spec.Item) → ListBecomes exact table deeper active nothing_done items (look exact (spec.outside table deeper active items))
   begin_reads items = record { sound = tt; same = unchanged (look exact (spec.outside table deeper active items)) } where
     unchanged : (o : Option (List spec.Item)) → prepended [] o ≡ o
     unchanged None = refl

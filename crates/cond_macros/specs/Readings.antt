@@ -35,6 +35,6 @@ module _ (exact : Bool) (table : spec.Table) (deeper : spec.Deeper) (active : Li
   IsSoundPiece (Some piece) = IsSound exact piece.open_calls
 
   -- with these items still to be read, the list becomes this
-  pub record Reads (so_far : Option Piece) (rest : List spec.Item) (becomes : Option (List spec.Item)) : Type 0 where
+  pub record ListBecomes (so_far : Option Piece) (rest : List spec.Item) (becomes : Option (List spec.Item)) : Type 0 where
     pub sound : IsSoundPiece so_far
     pub same : goes_on so_far rest ≡ becomes

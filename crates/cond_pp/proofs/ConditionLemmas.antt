@@ -13,7 +13,7 @@ use Rattle.c_text.specs.Preprocessing.{Refusal, holds, fails, by_value, by_repla
 use Rattle.pp_lines.specs.declared.expressions.Value.{Value}
 use Rattle.pp_lines.specs.declared.expressions.Value.TheVariants.{Number, Refused}
 use Rattle.cond_macros.specs.Outcomes.{is_bad_call, tokens_of}
-use Rattle.cond_readings.specs.Settings.{AreValues}
+use Rattle.unit_files.specs.Settings.{AreValues}
 use Rattle.cond_pp.specs.Truths.{came_out, truth_of_value, is_met, is_bad, any_met, any_bad}
 
 -- ---- the value of an expression

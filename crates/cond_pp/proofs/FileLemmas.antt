@@ -10,13 +10,13 @@ use Rattle.c_text.specs.Lines.{PlainLine, plain_line, AreItsLines}
 use Rattle.c_text.specs.Preprocessing.{Reading, Flow, Setting, Syntax, on, then_read, IsSyntaxOf, setting}
 use Rattle.c_text.specs.declared.line.Line.{Line}
 use Rattle.file_walks.specs.Walk.{Walk, step, finished, walked, start}
-use Rattle.unit_files.specs.SourceFiles.{deeper_of, AreSources, number_of, text_of, its_lines}
+use Rattle.unit_files.specs.SourceFiles.{deeper_of, AreSources, source_number, text_of, its_lines}
 use Rattle.unit_files.specs.Inclusions.{plain_source, IsAmong}
 use Rattle.unit_files.specs.Laws.{SourcesAreWalked}
 use Rattle.unit_files.specs.declared.inclusions.Source.{Source}
 use Rattle.unit_files.specs.declared.sources.Sources.{Sources}
 use Rattle.cond_readings.specs.Readings.{came_to, taken}
-use Rattle.cond_readings.specs.Settings.{entered}
+use Rattle.unit_files.specs.Settings.{entered}
 use Rattle.cond_readings.specs.TakenLaws.{came-then, taken-same}
 use Rattle.cond_pp.specs.declared.walk.CondWalker.{CondWalker}
 use Rattle.cond_pp.specs.declared.walk.Inclusion.{Inclusion}
@@ -65,12 +65,12 @@ among-files these s source are there =
     subst (λ (n : ℕ). IsAmong n source) (sym (length-map these.files.now plain_file) ∙ sym (ap length are.files)) there
 
 -- before the first line
-pub file-starts : SourcesAreWalked → (these : Sources) (s : spec.Sources) (x : Syntax) → AreSources these s → IsSyntaxOf s x → (source : Source) → IsAmong (length these.files.now) source → (more file : ℕ) (text : List ℕ) (all slice lines : List Line) → file ≡ number_of (plain_source source) → text ≡ text_of s (plain_source source) → AreItsLines file text (map plain_line all) → slice ≡ all → map plain_line lines ≡ its_lines (plain_source source) (map plain_line slice) → (features : ℕ → Bool) (w : CondWalker) (when : Formula) (o : Option Reading) → w.entered ≡ when → w.run.items ≡ [] → groups_of w.groups ≡ [] → ahead features w (λ v. walked (setting s x (plain_source source) (deeper_of s x more)) v (map plain_line lines)) o ≡ taken (value features (condition_of when)) (λ r. spec.read_source s x more (plain_source source) r) o
+pub file-starts : SourcesAreWalked → (these : Sources) (s : spec.Sources) (x : Syntax) → AreSources these s → IsSyntaxOf s x → (source : Source) → IsAmong (length these.files.now) source → (more file : ℕ) (text : List ℕ) (all slice lines : List Line) → file ≡ source_number (plain_source source) → text ≡ text_of s (plain_source source) → AreItsLines file text (map plain_line all) → slice ≡ all → map plain_line lines ≡ its_lines (plain_source source) (map plain_line slice) → (features : ℕ → Bool) (w : CondWalker) (when : Formula) (o : Option Reading) → w.entered ≡ when → w.run.items ≡ [] → groups_of w.groups ≡ [] → ahead features w (λ v. walked (setting s x (plain_source source) (deeper_of s x more)) v (map plain_line lines)) o ≡ taken (value features (condition_of when)) (λ r. spec.read_source s x more (plain_source source) r) o
 file-starts are_walked these s x are_sources is source there more file text all slice lines file_is text_is are slice_is lines_are features w when o entered_is run_is groups_are =
     let p = plain_source source in
     let st = setting s x p (deeper_of s x more) in
-    let its : AreItsLines (number_of p) (text_of s p) (map plain_line all) =
-    subst (λ (t : List ℕ). AreItsLines (number_of p) t (map plain_line all)) text_is (subst (λ (n : ℕ). AreItsLines n text (map plain_line all)) file_is are)
+    let its : AreItsLines (source_number p) (text_of s p) (map plain_line all) =
+    subst (λ (t : List ℕ). AreItsLines (source_number p) t (map plain_line all)) text_is (subst (λ (n : ℕ). AreItsLines n text (map plain_line all)) file_is are)
     in
     let its_are : map plain_line lines ≡ its_lines p (map plain_line all) = lines_are ∙ ap (λ (ls : List Line). its_lines p (map plain_line ls)) slice_is in
     let e = value features (condition_of w.entered) in

@@ -12,7 +12,7 @@ use Rattle.file_walks.specs.Walk.{Walk, Open, reads, waits, passed, skipped, are
 use Rattle.cond_readings.specs.Readings.{unless_refused, came_to, taken}
 use Rattle.cond_pp.specs.Truths.{came_out}
 use Rattle.cond_pp.specs.Groups.{PlainGroup, Fits, AllFit, open_at, level_at, read_in, left}
-use Rattle.cond_readings.specs.Settings.{entered}
+use Rattle.unit_files.specs.Settings.{entered}
 use Rattle.cond_readings.specs.TakenLaws.{taken-off, taken-same}
 
 -- ---- where lines are read

@@ -8,9 +8,10 @@ use Rattle.c_text.specs.Directives.{PlainDirective, include_line, directive_of}
 use Rattle.c_text.specs.Preprocessing as spec
 use Rattle.c_text.specs.Preprocessing.{Reading, Refusal, Flow, Setting, on, unless, then_read, included, directed, read_directive, source_of, refused_token}
 use Rattle.active_tokens.specs.Reads.{Read, Following, unless_refused, included_reads, reads_of_inclusion}
-use Rattle.cond_readings.specs.declared.places.Surroundings.{Surroundings}
+use Rattle.unit_files.specs.declared.surroundings.Surroundings.{Surroundings}
 use Rattle.cond_readings.specs.Readings.{came_to, taken}
-use Rattle.cond_readings.specs.Settings.{IsSettingOf, named_by, entered}
+use Rattle.unit_files.specs.Settings.{IsSettingOf, entered}
+use Rattle.cond_readings.specs.Settings.{named_by}
 use Rattle.unit_files.specs.Inclusions.{plain_source}
 use Rattle.cond_pp.specs.declared.walk.Inclusion.{Inclusion}
 use Rattle.cond_pp.specs.Walks.{reads_included}

@@ -16,7 +16,7 @@ use Rattle.file_walks.specs.Nests as nests
 use Rattle.unit_files.specs.declared.inclusions.Source.{Source}
 use Rattle.unit_files.specs.declared.sources.Sources.{Sources}
 use Rattle.unit_files.specs.Inclusions.{plain_source, IsAmong}
-use Rattle.unit_files.specs.SourceFiles.{AreSources, deeper_of, number_of, text_of, its_lines}
+use Rattle.unit_files.specs.SourceFiles.{AreSources, deeper_of, source_number, text_of, its_lines}
 use Rattle.read_walks.specs.SourceReads.{deeper_reads_of, following_in}
 use Rattle.read_walks.specs.WalkReads.{reads_at_flush, reads_of_step, reads_of_walk}
 use Rattle.read_walks.specs.Laws.{LinesLeadOn, WalksAreOne, SourceReadsAreWalked, TestIsJoined, TestIsByToken}
@@ -98,13 +98,13 @@ line-carried lead_on one joined sought s f features w v line rest lines found o 
 
 -- ---- the lines of a file
 
-pub file-starts-reads : SourceReadsAreWalked → TestIsByToken → (these : Sources) (s : spec.Sources) (x : Syntax) → AreSources these s → (are : IsSyntaxOf s x) (misplaced : spec.Source → List PlainToken) → AreMisplaced are misplaced → (source : Source) → IsAmong (length these.files.now) source → (more file : ℕ) (text : List ℕ) (all slice lines : List Line) → file ≡ number_of (plain_source source) → text ≡ text_of s (plain_source source) → AreItsLines file text (map plain_line all) → slice ≡ all → map plain_line lines ≡ its_lines (plain_source source) (map plain_line slice) → (features : ℕ → Bool) (w : CondWalker) (when : Formula) (o : Option Reading) (sought : Option PlainSought) (before : Bool) → w.entered ≡ when → w.run.items ≡ [] → groups_of w.groups ≡ [] → (before || is_read_in sought (reads_ahead features w (λ v. reads_of_walk (setting s x (plain_source source) (deeper_of s x more)) (following_in s x misplaced more (plain_source source)) v (map plain_line lines)) o)) ≡ (before || is_read_in sought (read_where (value features (condition_of when)) (λ r. reads_of_source s x misplaced more (plain_source source) r) o))
+pub file-starts-reads : SourceReadsAreWalked → TestIsByToken → (these : Sources) (s : spec.Sources) (x : Syntax) → AreSources these s → (are : IsSyntaxOf s x) (misplaced : spec.Source → List PlainToken) → AreMisplaced are misplaced → (source : Source) → IsAmong (length these.files.now) source → (more file : ℕ) (text : List ℕ) (all slice lines : List Line) → file ≡ source_number (plain_source source) → text ≡ text_of s (plain_source source) → AreItsLines file text (map plain_line all) → slice ≡ all → map plain_line lines ≡ its_lines (plain_source source) (map plain_line slice) → (features : ℕ → Bool) (w : CondWalker) (when : Formula) (o : Option Reading) (sought : Option PlainSought) (before : Bool) → w.entered ≡ when → w.run.items ≡ [] → groups_of w.groups ≡ [] → (before || is_read_in sought (reads_ahead features w (λ v. reads_of_walk (setting s x (plain_source source) (deeper_of s x more)) (following_in s x misplaced more (plain_source source)) v (map plain_line lines)) o)) ≡ (before || is_read_in sought (read_where (value features (condition_of when)) (λ r. reads_of_source s x misplaced more (plain_source source) r) o))
 file-starts-reads are_walked by_tokens these s x are_sources is misplaced are_misplaced source there more file text all slice lines file_is text_is are slice_is lines_are features w when o sought before entered_is run_is groups_are =
     let p = plain_source source in
     let st = setting s x p (deeper_of s x more) in
     let f = following_in s x misplaced more p in
-    let its : AreItsLines (number_of p) (text_of s p) (map plain_line all) =
-    subst (λ (t : List ℕ). AreItsLines (number_of p) t (map plain_line all)) text_is (subst (λ (n : ℕ). AreItsLines n text (map plain_line all)) file_is are)
+    let its : AreItsLines (source_number p) (text_of s p) (map plain_line all) =
+    subst (λ (t : List ℕ). AreItsLines (source_number p) t (map plain_line all)) text_is (subst (λ (n : ℕ). AreItsLines n text (map plain_line all)) file_is are)
     in
     let its_are : map plain_line lines ≡ its_lines p (map plain_line all) = lines_are ∙ ap (λ (ls : List Line). its_lines p (map plain_line ls)) slice_is in
     let e = value features (condition_of w.entered) in

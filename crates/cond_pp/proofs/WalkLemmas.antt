@@ -12,7 +12,7 @@ use Rattle.c_text.specs.Preprocessing.{Reading, Flow, Setting, on, refused, then
 use Rattle.c_text.specs.Trees.{Role, role_of}
 use Rattle.file_walks.specs.Walk.{Walk, Open, flushed, are_read, text_read, end_of_file, reads, waits, group_read, branch_read, directive_read, by_role}
 use Rattle.cond_readings.specs.Readings.{unless_refused, came_to, taken}
-use Rattle.cond_readings.specs.Settings.{entered}
+use Rattle.unit_files.specs.Settings.{entered}
 use Rattle.cond_readings.specs.TakenLaws.{taken-then, taken-off, taken-refuses, with-none}
 use Rattle.cond_pp.specs.declared.groups.OpenGroups.{OpenGroups}
 use Rattle.cond_pp.specs.declared.walk.CondWalker.{CondWalker}

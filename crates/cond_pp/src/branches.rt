@@ -10,16 +10,16 @@ ghost use Rattle.c_text.specs.Preprocessing.{Setting, Reading, Flow};
 ghost use Rattle.file_walks.specs.Walk.{Walk, Open, reads, waits, branch_read};
 ghost use Rattle.cond_readings.specs.Readings.{reading_at, taken, unless_refused};
 ghost use Rattle.cond_pp.specs.Groups.{Fits, plain_group, open_at};
-ghost use Rattle.cond_readings.specs.Settings.{IsSettingOf};
+ghost use Rattle.unit_files.specs.Settings.{IsSettingOf};
 
 use crate::conditions::{CondTruth, condition_at};
 use crate::groups::CondGroup;
 use c_text::Line;
 use cond_formula::{Formula, NoMemory, Oracle};
-use cond_readings::{CondReading, Surroundings, refuse_ignored};
+use cond_readings::{CondReading, refuse_ignored};
 use reduced_conditions::{both, without};
 use std::alloc::Global;
-use unit_files::behind;
+use unit_files::{Surroundings, behind};
 
 /// A branch of a group that begins with a line.
 #[derive(Clone, Copy)]

@@ -11,7 +11,7 @@ ghost use Rattle.pp_lines.specs.declared.expressions.Value.{Value};
 ghost use Rattle.cond_expressions.specs.Values.{values_at};
 ghost use Rattle.cond_tokens.specs.Streams.{plain_entry, tokens_at};
 ghost use Rattle.macro_table.specs.Features.{macros_at};
-ghost use Rattle.cond_readings.specs.Settings.{AreValues};
+ghost use Rattle.unit_files.specs.Settings.{AreValues};
 ghost use Rattle.cond_pp.specs.Truths.{truth_at, came_out, truth_of_value, is_met, is_bad};
 
 use c_text::{Line, Token};

@@ -13,10 +13,11 @@ ghost use Rattle.cond_pp.specs.Truths.{always_entry};
 use c_text::Token;
 use cond_formula::{Formula, NoMemory, Oracle};
 use cond_macros::{CondReplacement, replaced};
-use cond_readings::{CondReading, Surroundings, refuse_in_run};
+use cond_readings::{CondReading, refuse_in_run};
 use conditional::Guarded;
 use reduced_conditions::both;
 use std::alloc::Global;
+use unit_files::Surroundings;
 
 // The tokens as a list in which each is present everywhere.
 #[tactic(auto, using(cond_formula::specs::ConditionLaws::formula_kinds))]

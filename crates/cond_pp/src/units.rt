@@ -11,7 +11,7 @@ ghost use Rattle.read_walks.specs.SourceReads.{deeper_reads_of};
 ghost use Rattle.unit_files.specs.Inclusions.{plain_source, IsAmong};
 ghost use Rattle.unit_files.specs.SourceFiles.{AreSources, AreSmall, deeper_of};
 ghost use Rattle.cond_readings.specs.Readings.{reading_at, taken};
-ghost use Rattle.cond_readings.specs.Settings.{IsSettingOf};
+ghost use Rattle.unit_files.specs.Settings.{IsSettingOf};
 ghost use Rattle.cond_pp.specs.Walks.{including, reads_included};
 ghost use Rattle.cond_pp.specs.Watches.{is_seen, read_where};
 
@@ -19,10 +19,10 @@ use crate::walk::{CondWalker, Inclusion};
 use crate::watch::Watch;
 use c_lexer::lex;
 use cond_formula::{Formula, NoMemory, Oracle};
-use cond_readings::{CondReading, Surroundings};
+use cond_readings::CondReading;
 use read_walks::{lines_lead_on, reads_are_tested, source_reads_are_walked, walks_are_one};
 use std::alloc::Global;
-use unit_files::{Source, Sources, its_lines, number_of, sources_are_walked};
+use unit_files::{Source, Sources, Surroundings, its_lines, source_number, sources_are_walked};
 
 // What the reading of a source stands on, where so many files more may be nested.
 fn place_of<'a>(sources: &Sources<'a>, source: Source, more: u32) -> Surroundings<'a>
@@ -105,7 +105,7 @@ pub fn read_source<O: Oracle>(
     walks_are_one();
     reads_are_tested();
     let text = sources.text_of(source);
-    let file = number_of(source);
+    let file = source_number(source);
     let all = lex(alloc, file, text)?;
     let lines = its_lines(source, all.as_slice());
     let place = place_of(sources, source, more);

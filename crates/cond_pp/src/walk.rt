@@ -13,7 +13,7 @@ ghost use Rattle.file_walks.specs.Walk.{Walk, flushed, text_read, group_read, br
 ghost use Rattle.read_walks.specs.WalkReads.{reads_at_flush, reads_of_step};
 ghost use Rattle.cond_readings.specs.Readings.{reading_at, unless_refused};
 ghost use Rattle.cond_pp.specs.Groups.{groups_of, read_in, branch_read_in, end_read_in, line_read_in};
-ghost use Rattle.cond_readings.specs.Settings.{IsSettingOf, MayEnter};
+ghost use Rattle.unit_files.specs.Settings.{IsSettingOf, MayEnter};
 ghost use Rattle.cond_pp.specs.Walks.{IsFit, ahead, after_file, reads_ahead, reads_included, reads_named};
 ghost use Rattle.cond_pp.specs.Watches.{is_seen, read_where};
 
@@ -23,10 +23,10 @@ use crate::runs::read_run;
 use crate::watch::Watch;
 use c_text::{Line, Token};
 use cond_formula::{Formula, NoMemory, Oracle};
-use cond_readings::{CondReading, Surroundings, read_directive};
+use cond_readings::{CondReading, read_directive};
 use read_walks::{reads_are_tested, walks_are_one};
 use std::alloc::Global;
-use unit_files::{Role, Source, role_of};
+use unit_files::{Role, Source, Surroundings, role_of};
 
 /// A file that is read next, and where.
 #[derive(Drop)]

@@ -15,11 +15,12 @@ ghost use Rattle.cond_pp.specs.Watches.{is_seen, read_where};
 
 use c_text::{FileToken, Token};
 use cond_formula::{Formula, NoMemory};
-use cond_readings::{CondReading, Surroundings};
+use cond_readings::CondReading;
 use macro_table::Macros;
 use reduced_conditions::{both, either, without};
 use std::alloc::Global;
 use std::mem;
+use unit_files::Surroundings;
 
 /// A token of a file, while a name is defined if one is given.
 #[derive(Clone, Copy)]

@@ -21,8 +21,9 @@ use Rattle.macro_table.specs.Features.{is_feature_on}
 use Rattle.cond_readings.specs.Readings.{unless_refused, came_to, taken}
 use Rattle.unit_files.specs.declared.inclusions.Source.{Source}
 use Rattle.unit_files.specs.Inclusions.{IsAmong}
-use Rattle.cond_readings.specs.declared.places.Surroundings.{Surroundings}
-use Rattle.cond_readings.specs.Settings.{entered, IsFound, MayEnter}
+use Rattle.unit_files.specs.declared.surroundings.Surroundings.{Surroundings}
+use Rattle.unit_files.specs.Settings.{entered, MayEnter}
+use Rattle.cond_readings.specs.Settings.{IsFound}
 use Rattle.cond_readings.specs.TakenLaws.{taken-then, taken-refuses, taken-same}
 
 -- ---- a definition kept under a condition that says nothing of where the name is defined

@@ -15,9 +15,9 @@ ghost use Rattle.macro_table.specs.MacroTables.{macro_meaning, clashes, with_mac
 ghost use Rattle.pp_lines.specs.PlainDirectives.{plain_directive};
 ghost use Rattle.unit_files.specs.Inclusions.{plain_source};
 ghost use Rattle.cond_readings.specs.Readings.{reading_at, taken};
-ghost use Rattle.cond_readings.specs.Settings.{IsSettingOf, MayEnter, IsFound, named_by, entered};
+ghost use Rattle.unit_files.specs.Settings.{IsSettingOf, MayEnter, entered};
+ghost use Rattle.cond_readings.specs.Settings.{IsFound, named_by};
 
-use crate::places::Surroundings;
 use crate::readings::CondReading;
 use crate::refusals::{refuse, refuse_ignored};
 use c_text::{Line, Macro, Token};
@@ -26,18 +26,7 @@ use macro_table::MacroTable;
 use pp_lines::{Directive, directive};
 use reduced_conditions::{both, outside};
 use std::alloc::Global;
-use unit_files::{Source, behind, source_of};
-
-fn is_feature(features: &[String], name: &[u8]) -> bool
-    ensures { result ≡ list_any (bytes_eq name.now) (map string_bytes features.now) }
-{
-    for feature in features {
-        if name == feature.as_bytes() {
-            return true;
-        }
-    }
-    false
-}
+use unit_files::{Source, Surroundings, behind, is_feature, source_of};
 
 // Whether no `#define` line with these tokens may define the name.
 fn bars_define(features: &[String], name: &[u8], tokens: &[Token]) -> bool

@@ -3,14 +3,12 @@
 #![tactic(auto)]
 
 mod directives;
-mod places;
 mod questions;
 mod readings;
 mod refusals;
 mod tests;
 
 pub use directives::read_directive;
-pub use places::Surroundings;
 pub use readings::CondReading;
 pub use refusals::{is_refused, refuse, refuse_ignored, refuse_in_run};
 pub use tests::tests_replaced;

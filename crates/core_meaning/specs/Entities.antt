@@ -69,8 +69,8 @@ local_in [] name = None
 local_in (innermost ∷ others) name = or_else (innermost name) (local_in others name)
 
 -- a name that has no number has the number 0, while numbers aren't known yet
-abbrev pub number_of : Table ℕ → List ℕ → ℕ
-number_of numbers name = elim (numbers name) as (λ x. ℕ) [ Some n ↦ n | None ↦ 0 ]
+abbrev pub entity_number : Table ℕ → List ℕ → ℕ
+entity_number numbers name = elim (numbers name) as (λ x. ℕ) [ Some n ↦ n | None ↦ 0 ]
 
 -- the structs as a table of tags
 abbrev pub tags_of : List Struct → List PlainTag

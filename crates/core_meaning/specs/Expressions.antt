@@ -21,7 +21,7 @@ use Rattle.core_meaning.specs.declared.expressions.Change.TheVariants as change
 use Rattle.core_meaning.specs.declared.refusals.TypeKind.TheVariants.{Undeclared, BadOperand, NotAssignable, Incomplete, ArgumentCount, NoMember, Misplaced}
 use Rattle.core_meaning.specs.Program.{PlainExpression, constant, null_constant, read, address, convert, binary, logical_not, logical_and, logical_or, choose, assign, update, update_after, call, discard, PlainPlace, slot, global, literal, target, member, temporary, PlainArguments, no_argument, argument}
 use Rattle.core_meaning.specs.Checking.{local_entity, file_entity, member_entity, Checked, refused, broken, ◌>>=◌, give, unless_so, uses, found_or, or_broken}
-use Rattle.core_meaning.specs.Entities.{Struct, Local, Signature, Sort, variable, function, FileName, Scope, local_in, number_of}
+use Rattle.core_meaning.specs.Entities.{Struct, Local, Signature, Sort, variable, function, FileName, Scope, local_in, entity_number}
 use Rattle.c_types.specs.Tags.{PlainMember}
 use Rattle.core_meaning.specs.Typing.{promoted, common, integer_type, same_type, is_complete, is_struct, is_pointer, is_scalar_type, is_movable, Designation, value, object, Operand, Typed, typed, of_value, of_object, loaded, fits_into}
 
@@ -95,7 +95,7 @@ text_bytes (more (node kind parts) rest) = None
 abbrev pub file_operand : Scope → PlainToken → Sort → Checked Operand
 file_operand scope token (variable ty) = do
   bound ← uses (file_entity token.text)
-  give (of_object token ty (global (number_of scope.numbers.globals token.text)) true)
+  give (of_object token ty (global (entity_number scope.numbers.globals token.text)) true)
 file_operand scope token (function signature) = refused Misplaced token
 
 abbrev pub file_name_operand : Scope → PlainToken → Option FileName → Checked Operand
@@ -438,7 +438,7 @@ may_be_called scope signature count bracket = do
 
 abbrev pub result_of_call : Scope → Callee → PlainToken → PlainArguments → Operand
 result_of_call scope f bracket arguments =
-    of_value bracket f.signature.result (call (number_of scope.numbers.functions f.name.text) arguments)
+    of_value bracket f.signature.result (call (entity_number scope.numbers.functions f.name.text) arguments)
 
 abbrev pub passed : Scope → PlainType → Operand → PlainToken → Checked PlainExpression
 passed scope ty operand first = do
@@ -471,7 +471,7 @@ module _ (scope : Scope) where
     judged (node k.Texts parts) = do
       bytes ← or_broken (text_bytes parts)
       first ← or_broken (first_text parts)
-      give (of_object first (array_of char (length bytes + 1)) (literal (number_of scope.numbers.literals bytes)) true)
+      give (of_object first (array_of char (length bytes + 1)) (literal (entity_number scope.numbers.literals bytes)) true)
     judged (node k.Parenthesized (more bracket (more inner (more close none)))) = judged inner
     judged (node k.PostfixStep (more inner (more (leaf sign) none))) =
         judged inner >>= stepped scope update_after sign

@@ -15,7 +15,7 @@ use Rattle.core_meaning.specs.declared.program.BuiltIn.{BuiltIn}
 use Rattle.core_meaning.specs.declared.program.BuiltIn.TheVariants.{Putchar, Getchar, Puts, Exit}
 use Rattle.core_meaning.specs.Program.{type_of, PlainExpression, constant, null_constant, read, address, first_element, convert, binary, logical_not, logical_and, logical_or, choose, assign, update, update_after, call, discard, PlainPlace, slot, global, literal, target, member, temporary, PlainArguments, no_argument, argument, PlainPart, PlainStatement, block, evaluate, selection, loop, break_loop, continue_loop, return_nothing, return_value, PlainItems, no_item, local, statement_item, PlainFunction, defined, built_in, PlainProgram}
 use Rattle.core_meaning.specs.Values.{Pointer, null, at, Scalar, number, pointer, Cells, Value, nothing, scalar, whole, onward, is_true, truth_number, Stand, element_path}
-use Rattle.core_meaning.specs.Memory.{Memory, unwritten, zeros, fresh, with_object, with_new, with_ended, value_at, written_at, stand_in, moved, distance, number_of, compared, member_at, first_at}
+use Rattle.core_meaning.specs.Memory.{Memory, unwritten, zeros, fresh, with_object, with_new, with_ended, value_at, written_at, stand_in, moved, distance, defined_value, compared, member_at, first_at}
 use Rattle.core_meaning.specs.Outcomes.{State, Outcome, Comes, Exits, Stops, Piece, ◌>>=◌, give, undefined, given, put_out, memory_now, set_memory, full}
 
 -- how statements end: they fall through, leave or continue a loop, or return with a value or with nothing
@@ -67,9 +67,9 @@ abbrev pub truth_from : Piece Value → Piece Bool
 truth_from piece = scalar_from piece >>= (λ v. give (is_true v))
 
 -- a number in an integer type (6.3.1.3)
-abbrev pub in_type : IntegerType → Scalar → Piece Scalar
-in_type t (number z) = give (number (converted (type_of t) z))
-in_type t (pointer p) = undefined
+abbrev pub scalar_in_type : IntegerType → Scalar → Piece Scalar
+scalar_in_type t (number z) = give (number (converted (type_of t) z))
+scalar_in_type t (pointer p) = undefined
 
 -- the right operand of an operation on numbers: that of a shift isn't converted (6.5.7)
 abbrev pub right_operand : BinaryOp → PlainType → ℤ → ℤ
@@ -79,7 +79,7 @@ right_operand op t z = converted t z
 
 -- an operation on two numbers in a type
 abbrev pub computed : BinaryOp → PlainType → ℤ → ℤ → Option ℤ
-computed op t x y = number_of (binary_value op t (converted t x) (right_operand op t y))
+computed op t x y = defined_value (binary_value op t (converted t x) (right_operand op t y))
 
 -- cells with zeros where no part of an initialiser is
 abbrev pub cells_filled : List PlainPart → Cells → Cells → Cells
@@ -128,7 +128,7 @@ module _ (p : PlainProgram) where
 
   -- the new value of a compound assignment, from the old one and the right operand (6.5.16.2)
   abbrev pub changed : Change → Scalar → Scalar → Piece Scalar
-  changed (change.Numbers op t place_type) x y = operated (operation.Numbers op t) x y >>= in_type place_type
+  changed (change.Numbers op t place_type) x y = operated (operation.Numbers op t) x y >>= scalar_in_type place_type
   changed change.Forward x y = operated operation.Forward x y
   changed change.Back x y = operated operation.Back x y
 
@@ -219,7 +219,7 @@ module _ (p : PlainProgram) where
           give (scalar (pointer first))
         value_of (convert t e) = do
           x ← scalar_from (value_of e)
-          v ← in_type t x
+          v ← scalar_in_type t x
           give (scalar v)
         value_of (binary op a b) = do
           x ← scalar_from (value_of a)

@@ -73,9 +73,9 @@ cells_with cells path (scalar v) = Some (λ other. if same_path other path then 
 cells_with cells path (whole parts) = Some (λ other. by_steps parts (cells other) (onward path other))
 
 -- what arithmetic gives, if it is defined
-abbrev pub number_of : Arith → Option ℤ
-number_of (arith.Value z) = Some z
-number_of arith.Undefined = None
+abbrev pub defined_value : Arith → Option ℤ
+defined_value (arith.Value z) = Some z
+defined_value arith.Undefined = None
 
 -- with the types of each struct's members
 module _ (structs : List (List PlainType)) where
@@ -120,7 +120,7 @@ module _ (structs : List (List PlainType)) where
   abbrev pub ordered : BinaryOp → Memory → Pointer → Pointer → Option ℤ
   ordered op m (at j p) (at k q) =
       if are_together m j p k q
-      then number_of (binary_value op long (pos (stand_in m j p).index) (pos (stand_in m k q).index))
+      then defined_value (binary_value op long (pos (stand_in m j p).index) (pos (stand_in m k q).index))
       else None
   ordered op m p q = None
 

@@ -120,13 +120,13 @@ abbrev pub loaded : Scope → Operand → Checked Typed
 loaded scope operand = loaded_from scope.structs operand operand.ty operand.designates
 
 -- a number in another type; nothing is written out where the types are the same
-abbrev pub in_type : PlainType → Typed → PlainExpression
-in_type t x = if same_type t x.ty then x.core else convert (integer_type t) x.core
+abbrev pub number_in_type : PlainType → Typed → PlainExpression
+number_in_type t x = if same_type t x.ty then x.core else convert (integer_type t) x.core
 
 -- A value as one of another type, where it may be assigned, passed or returned as one (6.5.16.1).
 abbrev pub fits_into : PlainType → Typed → Option PlainExpression
 fits_into t x =
-    if is_integer t && is_integer x.ty then Some (in_type t x)
+    if is_integer t && is_integer x.ty then Some (number_in_type t x)
     else if is_pointer t && x.is_null then Some null_constant
     else if (is_pointer t || is_struct t) && same_type t x.ty then Some x.core
     else None

@@ -4,7 +4,7 @@ use Rattle.c_types.specs.declared.arithmetic.BinaryOp.{BinaryOp}
 use Rattle.c_types.specs.Types.{PlainType, long}
 use Rattle.c_types.specs.Arithmetic.{binary_value}
 use Rattle.core_meaning.specs.Values.{Path, Stand, stand_of, same_array}
-use Rattle.core_meaning.specs.Memory.{Object, Memory, number_of}
+use Rattle.core_meaning.specs.Memory.{Object, Memory, defined_value}
 use Rattle.core_cells.specs.declared.values.Step.{Step}
 use Rattle.core_memory.specs.declared.pointers.Indices.{Indices}
 use Rattle.core_cells.specs.Forms.{plain_step}
@@ -26,7 +26,7 @@ abbrev pub difference_of : Indices → ℤ
 difference_of x = pos x.first -ℤ pos x.second
 
 abbrev pub order_of : BinaryOp → Indices → Option ℤ
-order_of op x = number_of (binary_value op long (pos x.first) (pos x.second))
+order_of op x = defined_value (binary_value op long (pos x.first) (pos x.second))
 
 module _ (structs : List (List PlainType)) where
   -- where a path stands in an object, if the object lives

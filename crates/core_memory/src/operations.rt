@@ -12,7 +12,7 @@ ghost use Rattle.core_memory.specs.MemoryForms.{plain_memory, structs_of};
 ghost use Rattle.core_memory.specs.OperationForms.{in_type_value, operated_value, changed_value};
 
 use crate::memory::Memory;
-use crate::pointers::number_of;
+use crate::pointers::defined_value;
 use c_types::{BinaryOp, CType, a_conversion_is_the_one_value, binary, convert};
 use cond_formula::NoMemory;
 use core_cells::{Pointer, Scalar};
@@ -42,7 +42,7 @@ pub fn converted(ty: IntegerType, number: i128) -> i128
 }
 
 /// A scalar in an integer type; None for a pointer.
-pub fn in_type(ty: IntegerType, scalar: Scalar) -> Option<Scalar>
+pub fn scalar_in_type(ty: IntegerType, scalar: Scalar) -> Option<Scalar>
     ensures { option_map plain_scalar result ≡ in_type_value ty (plain_scalar scalar) }
 {
     match scalar {
@@ -82,7 +82,7 @@ fn computed(op: BinaryOp, ty: IntegerType, a: i128, b: i128) -> Option<i128>
     a_conversion_is_the_one_value();
     let left = converted(ty, a);
     let right = right_operand(op, ty, b);
-    number_of(binary(op, &c_type(ty), left, right))
+    defined_value(binary(op, &c_type(ty), left, right))
 }
 
 /// The result of an operation on two values; None where it is undefined.
@@ -238,7 +238,7 @@ fn all_in_type(ty: IntegerType, scalar: Option<Scalar>) -> Option<Scalar>
 {
     match scalar {
         None => None,
-        Some(scalar) => in_type(ty, scalar),
+        Some(scalar) => scalar_in_type(ty, scalar),
     }
 }
 

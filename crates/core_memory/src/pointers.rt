@@ -331,7 +331,7 @@ fn index_order(op: BinaryOp, indices: Option<Indices>) -> Option<i128>
 {
     match indices {
         None => None,
-        Some(indices) => number_of(order(op, indices.first, indices.second)),
+        Some(indices) => defined_value(order(op, indices.first, indices.second)),
     }
 }
 
@@ -342,8 +342,8 @@ fn order(op: BinaryOp, first: u32, second: u32) -> Arith
     binary(op, &CType::Long, i128::from(first), i128::from(second))
 }
 
-pub fn number_of(arith: Arith) -> Option<i128>
-    ensures { result ≡ spec.number_of arith }
+pub fn defined_value(arith: Arith) -> Option<i128>
+    ensures { result ≡ spec.defined_value arith }
 {
     match arith {
         Arith::Value(number) => Some(number),

@@ -12,7 +12,7 @@ use crate::control::{Control, push, push_three};
 use cond_formula::NoMemory;
 use core_cells::{Pointer, Scalar, Value};
 use core_meaning::{Expression, IntegerType, Statement};
-use core_memory::{first_element, in_type};
+use core_memory::{first_element, scalar_in_type};
 
 /// Wants the value on top to be one: that of a call that ended without a value is undefined where it is used (6.9.1).
 pub fn use_value<'a>(control: &mut Control<'a>) -> Result<Flow, NoMemory>
@@ -265,7 +265,7 @@ pub fn convert<'a>(control: &mut Control<'a>, ty: IntegerType) -> Result<Flow, N
     match control.take_scalar() {
         None => Ok(Flow::Fails),
         Some(scalar) => {
-            let converted = in_type(ty, scalar);
+            let converted = scalar_in_type(ty, scalar);
             let flow = put_scalar(control, converted)?;
             Ok(flow)
         }

@@ -9,7 +9,7 @@ use Rattle.plain_scope.specs.Parts.{parts_in}
 use Rattle.core_meaning.specs.declared.refusals.TypeKind.TheVariants.{BadOperand}
 use Rattle.core_meaning.specs.Program.{PlainPlace, PlainExpression, literal, update, update_after}
 use Rattle.core_meaning.specs.Checking.{Checked, broken, refused, file_entity, ◌>>=◌, found_or, give, or_broken, uses}
-use Rattle.core_meaning.specs.Entities.{Scope, number_of}
+use Rattle.core_meaning.specs.Entities.{Scope, entity_number}
 use Rattle.core_meaning.specs.Typing.{Operand, Typed, of_object, fits_into}
 use Rattle.core_meaning.specs.Expressions.{Callee, number_operand, text_bytes, first_text, first_token, judged, valued, count_entries, judged_arguments, may_be_called, result_of_call, written_place, assignment, stepped, prefixed, indexed, combined_by, cast_to, arithmetic_words}
 
@@ -17,7 +17,7 @@ abbrev pub text_operand : Scope → PlainTrees → Checked Operand
 text_operand scope parts = do
   bytes ← or_broken (text_bytes parts)
   first ← or_broken (first_text parts)
-  give (of_object first (array_of char (length bytes + 1)) (literal (number_of scope.numbers.literals bytes)) true)
+  give (of_object first (array_of char (length bytes + 1)) (literal (entity_number scope.numbers.literals bytes)) true)
 
 abbrev pub number_answer : PlainToken → Checked Operand
 number_answer token = give (number_operand token)

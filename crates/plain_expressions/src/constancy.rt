@@ -7,7 +7,7 @@ ghost use Rattle.c_types.specs.Integers.{IsValue};
 ghost use Rattle.c_types.specs.Arithmetic as arithmetic;
 ghost use Rattle.c_tree.specs.Trees.{plain_tree};
 ghost use Rattle.core_meaning.specs.Checking.{found_or};
-ghost use Rattle.core_meaning.specs.Memory.{number_of};
+ghost use Rattle.core_meaning.specs.Memory.{defined_value};
 ghost use Rattle.core_meaning.specs.Meaning as meaning;
 ghost use Rattle.core_meaning.specs.Plain.{plain_expression};
 ghost use Rattle.core_meaning.specs.Program.{type_of};
@@ -81,7 +81,7 @@ fn right_operand(op: BinaryOp, ty: IntegerType, z: i128) -> i128
 }
 
 fn value_in(answer: Arith) -> Option<i128>
-    ensures { result ≡ number_of answer }
+    ensures { result ≡ defined_value answer }
 {
     match answer {
         Arith::Value(z) => Some(z),

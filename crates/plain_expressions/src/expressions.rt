@@ -5,7 +5,7 @@ ghost use Rattle.c_types.specs.Types.{plain_type};
 ghost use Rattle.c_tree.specs.Trees.{node, plain_tree, plain_trees, more, leaf, none};
 ghost use Rattle.core_meaning.specs.Plain.{plain_expression, plain_arguments};
 ghost use Rattle.core_meaning.specs.Checking.{uses, file_entity};
-ghost use Rattle.core_meaning.specs.Entities.{number_of};
+ghost use Rattle.core_meaning.specs.Entities.{entity_number};
 ghost use Rattle.core_meaning.specs.Program as program;
 ghost use Rattle.core_meaning.specs.Expressions as spec;
 ghost use Rattle.plain_scope.specs.PlainScope.{plain_scope, plain_signature};
@@ -342,7 +342,7 @@ fn call_core(
     name: &Token,
     given: Vec<Expression>,
 ) -> Result<Box<Expression>, NoMemory>
-    ensures { IfOk result (λ e. plain_expression e.value ≡ program.call (number_of (plain_scope scope.now).numbers.functions name.now.text.items) (plain_arguments given.items)) }
+    ensures { IfOk result (λ e. plain_expression e.value ≡ program.call (entity_number (plain_scope scope.now).numbers.functions name.now.text.items) (plain_arguments given.items)) }
 {
     let number = scope
         .numbers

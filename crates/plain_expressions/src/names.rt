@@ -5,7 +5,7 @@ ghost use Rattle.c_types.specs.Types.{plain_type, array_of, char};
 ghost use Rattle.c_tree.specs.Terminals as terminals;
 ghost use Rattle.c_tree.specs.Trees.{plain_trees};
 ghost use Rattle.core_meaning.specs.Program as program;
-ghost use Rattle.core_meaning.specs.Entities.{local_in, number_of};
+ghost use Rattle.core_meaning.specs.Entities.{local_in, entity_number};
 ghost use Rattle.core_meaning.specs.Typing as typing;
 ghost use Rattle.core_meaning.specs.Expressions as spec;
 ghost use Rattle.plain_scope.specs.PlainScope.{plain_scope};
@@ -68,7 +68,7 @@ fn global_operand<'t>(
     token: &'t Token,
     ty: &CType,
 ) -> Result<Operand<'t>, NoMemory>
-    ensures { IfOk result (λ x. plain_operand x ≡ typing.of_object (plain_token token.now) (plain_type ty.now) (program.global (number_of (plain_scope scope.now).numbers.globals token.now.text.items)) true) }
+    ensures { IfOk result (λ x. plain_operand x ≡ typing.of_object (plain_token token.now) (plain_type ty.now) (program.global (entity_number (plain_scope scope.now).numbers.globals token.now.text.items)) true) }
 {
     let number = scope
         .numbers
@@ -150,7 +150,7 @@ fn literal_operand<'t>(
     count: u32,
 ) -> Result<Operand<'t>, NoMemory>
     requires { count ≡ length bytes.now + 1 }
-    ensures { IfOk result (λ x. plain_operand x ≡ typing.of_object (plain_token token.now) (array_of char (length bytes.now + 1)) (program.literal (number_of (plain_scope scope.now).numbers.literals bytes.now)) true) }
+    ensures { IfOk result (λ x. plain_operand x ≡ typing.of_object (plain_token token.now) (array_of char (length bytes.now + 1)) (program.literal (entity_number (plain_scope scope.now).numbers.literals bytes.now)) true) }
 {
     let number = scope.literals.get(bytes).copied().unwrap_or(0);
     let ty = CType::Array(Box::new(alloc, CType::Char)?, count);

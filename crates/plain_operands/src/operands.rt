@@ -178,8 +178,8 @@ pub fn conversion(
 }
 
 /// A number in another type; nothing is written out where the types are the same.
-pub fn in_type(alloc: Global, ty: &CType, x: Typed) -> Result<Box<Expression>, NoMemory>
-    ensures { IfOk result (λ e. plain_expression e.value ≡ spec.in_type (plain_type ty.now) (plain_typed x)) }
+pub fn number_in_type(alloc: Global, ty: &CType, x: Typed) -> Result<Box<Expression>, NoMemory>
+    ensures { IfOk result (λ e. plain_expression e.value ≡ spec.number_in_type (plain_type ty.now) (plain_typed x)) }
 {
     if same_type(ty, &x.ty) {
         Ok(x.core)
@@ -194,7 +194,7 @@ pub fn fits_into(alloc: Global, ty: &CType, x: Typed) -> Result<Option<Box<Expre
     ensures { IfOk result (λ core. option_map boxed_expression core ≡ spec.fits_into (plain_type ty.now) (plain_typed x)) }
 {
     if is_integer(ty) && is_integer(&x.ty) {
-        Ok(Some(in_type(alloc, ty, x)?))
+        Ok(Some(number_in_type(alloc, ty, x)?))
     } else if is_pointer(ty) && x.is_null {
         Ok(Some(Box::new(alloc, Expression::Null)?))
     } else if (is_pointer(ty) || is_struct(ty)) && same_type(ty, &x.ty) {

@@ -8,7 +8,8 @@ use Rattle.c_text.specs.Preprocessing.{Refusal, fails, by_value, by_replaced, ea
 use Rattle.plain_macros.specs.PlainReplacements.{tokens, refused, outcome}
 use Rattle.pp_lines.specs.declared.expressions.Value.{Value}
 use Rattle.pp_lines.specs.declared.expressions.Value.TheVariants.{Number, Refused}
-use Rattle.plain_pp.specs.Values.{AreValues, number_in}
+use Rattle.unit_files.specs.Settings.{AreValues}
+use Rattle.plain_pp.specs.Values.{number_in}
 
 same-option : (a b : Option ℤ) → ((z : ℤ) → a ≡ Some z → b ≡ Some z) → ((z : ℤ) → b ≡ Some z → a ≡ Some z) → a ≡ b
 same-option None None h k = refl

@@ -12,12 +12,13 @@ use Rattle.file_walks.specs.Nests.{Nest, nest_of, behind, by_place, misplaced_in
 use Rattle.unit_files.specs.Refusals.{refusal_view}
 use Rattle.unit_files.specs.declared.inclusions.Source.{Source}
 use Rattle.unit_files.specs.Inclusions.{plain_source, IsAmong}
-use Rattle.unit_files.specs.SourceFiles.{number_of, text_of, its_lines, deeper_of}
+use Rattle.unit_files.specs.SourceFiles.{source_number, text_of, its_lines, deeper_of}
 use Rattle.unit_files.specs.Laws.{SourcesAreWalked, SourcesBreak}
 use Rattle.plain_pp.specs.declared.errors.PpError.{PpError}
 use Rattle.plain_pp.specs.declared.errors.PpError.TheVariants.{Refused, Memory}
 use Rattle.plain_pp.specs.Results.{Says}
-use Rattle.plain_pp.specs.Readings.{entered, Follows}
+use Rattle.unit_files.specs.Settings.{entered}
+use Rattle.plain_pp.specs.Readings.{Follows}
 
 -- the walk stands before these lines, and all that is read comes to this flow
 pub record Stands (s : Setting) (file length : ℕ) (w : Walk) (lines : List PlainLine) (flow : Flow) : Type 0 where
@@ -74,7 +75,7 @@ deeper-read s x (suc more) source r h =
 
 -- ---- the loop over the lines
 
-pub starts-at : SourcesAreWalked → SourcesBreak → (s : spec.Sources) (x : Syntax) → IsSyntaxOf s x → (source : Source) → IsAmong (length s.files) source → (more file : ℕ) (text : List ℕ) (all lines : List PlainLine) (r : Reading) (w : Walk) → file ≡ number_of (plain_source source) → text ≡ text_of s (plain_source source) → AreItsLines file text all → lines ≡ its_lines (plain_source source) all → w.reading ≡ r → w.run ≡ [] → w.groups ≡ [] → Stands (setting s x (plain_source source) (deeper_of s x more)) file (length text) w lines (spec.read_source s x more (plain_source source) r)
+pub starts-at : SourcesAreWalked → SourcesBreak → (s : spec.Sources) (x : Syntax) → IsSyntaxOf s x → (source : Source) → IsAmong (length s.files) source → (more file : ℕ) (text : List ℕ) (all lines : List PlainLine) (r : Reading) (w : Walk) → file ≡ source_number (plain_source source) → text ≡ text_of s (plain_source source) → AreItsLines file text all → lines ≡ its_lines (plain_source source) all → w.reading ≡ r → w.run ≡ [] → w.groups ≡ [] → Stands (setting s x (plain_source source) (deeper_of s x more)) file (length text) w lines (spec.read_source s x more (plain_source source) r)
 starts-at are_walked break_there s x is source there more file text all lines r w file_is text_is are lines_are reading_is run_is groups_is =
     let p = plain_source source in
     let st = setting s x p (deeper_of s x more) in
@@ -83,10 +84,10 @@ starts-at are_walked break_there s x is source there more file text all lines r 
     ap (λ (v : Reading). record_of v [] []) (sym reading_is)
     ∙ ap (λ ts. record_of w.reading ts []) (sym run_is) ∙ ap (λ gs. record_of w.reading w.run gs) (sym groups_is)
     in
-    let its : AreItsLines (number_of p) (text_of s p) all =
-    subst (λ (t : List ℕ). AreItsLines (number_of p) t all) text_is (subst (λ (n : ℕ). AreItsLines n text all) file_is are)
+    let its : AreItsLines (source_number p) (text_of s p) all =
+    subst (λ (t : List ℕ). AreItsLines (source_number p) t all) text_is (subst (λ (n : ℕ). AreItsLines n text all) file_is are)
     in
-    let starts : Stands st (number_of p) (length (text_of s p)) (start r) (its_lines p all) flow = record {
+    let starts : Stands st (source_number p) (length (text_of s p)) (start r) (its_lines p all) flow = record {
       flow_is = are_walked s x is source there more all its r;
       break_is = break_there s x is source there all its;
     } in

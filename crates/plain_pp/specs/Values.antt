@@ -1,6 +1,5 @@
-use Rattle.std.specs.Prelude.{◌≡◌, ◌↔◌, ℤ, List, Option, Some, None}
-use Rattle.c_text.specs.Token.{PlainToken}
-use Rattle.c_text.specs.Expressions.{HasValue}
+-- What an expression of an `#if` comes to.
+use Rattle.std.specs.Prelude.{ℤ, Option, Some, None}
 use Rattle.pp_lines.specs.declared.expressions.Value.{Value}
 use Rattle.pp_lines.specs.declared.expressions.Value.TheVariants.{Number, Refused}
 
@@ -8,7 +7,3 @@ use Rattle.pp_lines.specs.declared.expressions.Value.TheVariants.{Number, Refuse
 abbrev pub number_in : Value → Option ℤ
 number_in (Number n) = Some n
 number_in Refused = None
-
--- the values of expressions
-pub record AreValues (value_of : List PlainToken → Option ℤ) : Type 0 where
-  pub values : (tokens : List PlainToken) (z : ℤ) → (value_of tokens ≡ Some z) ↔ HasValue tokens z

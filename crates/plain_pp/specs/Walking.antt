@@ -10,7 +10,7 @@ use Rattle.plain_pp.specs.declared.errors.PpError.{PpError}
 use Rattle.plain_pp.specs.declared.walk.Walker.{Walker}
 use Rattle.unit_files.specs.Inclusions.{plain_source}
 use Rattle.plain_pp.specs.Results.{Says}
-use Rattle.plain_pp.specs.Readings.{entered}
+use Rattle.unit_files.specs.Settings.{entered}
 use Rattle.file_walks.specs.Walk.{Walk}
 
 -- what is done with a branch by its condition, where none was read before

@@ -11,7 +11,8 @@ ghost use Rattle.plain_macros.specs.PlainReplacements.{plain_replacement, outcom
 ghost use Rattle.pp_lines.specs.PlainDirectives.{plain_directive};
 ghost use Rattle.unit_files.specs.Refusals.{plain_refusal};
 ghost use Rattle.plain_pp.specs.Results.{Says, Decides};
-ghost use Rattle.plain_pp.specs.Values.{AreValues, number_in};
+ghost use Rattle.unit_files.specs.Settings.{AreValues};
+ghost use Rattle.plain_pp.specs.Values.{number_in};
 
 use crate::defined::{is_defined, tests_replaced};
 use crate::errors::{PpError, check, error_of};

@@ -14,7 +14,8 @@ ghost use Rattle.pp_lines.specs.PlainDirectives.{plain_directive};
 ghost use Rattle.unit_files.specs.Inclusions.{plain_source};
 ghost use Rattle.unit_files.specs.Refusals.{plain_refusal};
 ghost use Rattle.plain_pp.specs.Results.{Says};
-ghost use Rattle.plain_pp.specs.Readings.{plain_reading, Follows, Directs, IsSettingOf, MayEnter};
+ghost use Rattle.unit_files.specs.Settings.{IsSettingOf, MayEnter};
+ghost use Rattle.plain_pp.specs.Readings.{plain_reading, Follows, Directs};
 
 use crate::errors::{PpError, check, error_of};
 use crate::readings::Reading;
@@ -23,32 +24,9 @@ use plain_macros::Meaning;
 use pp_lines::{Directive, directive};
 use std::alloc::Global;
 use unit_files::{
-    PpKind, Refusal, Source, behind, refusal_at, refused_ignored, refused_token, source_of,
+    PpKind, Refusal, Source, Surroundings, behind, is_feature, refusal_at, refused_ignored,
+    refused_token, source_of,
 };
-
-/// What the reading of a file stands on.
-#[derive(Clone, Copy)]
-pub struct Surroundings<'a> {
-    /// The names of the project's features, of which no macro may be made.
-    pub features: &'a [String],
-    /// The names of the headers, which are the first files of the project.
-    pub headers: &'a [String],
-    /// The name of the file, by which names in its folder are found.
-    pub name: &'a [u8],
-    /// Whether a file may still be included.
-    pub may_include: bool,
-}
-
-fn is_feature(features: &[String], name: &[u8]) -> bool
-    ensures { result ≡ list_any (bytes_eq name.now) (map string_bytes features.now) }
-{
-    for feature in features {
-        if name == feature.as_bytes() {
-            return true;
-        }
-    }
-    false
-}
 
 /// Whether a second definition of the name is the same, if there is a first.
 fn is_same(reading: &Reading, name: &[u8], meaning: &Meaning) -> Option<bool>

@@ -3,16 +3,16 @@ ghost use Rattle.std.specs.Prelude.{◌≡◌, ◌<◌, ◌≤◌, ◌^◌, ℕ,
 ghost use Rattle.c_text.specs.Preprocessing as spec;
 ghost use Rattle.c_text.specs.Preprocessing.{IsSyntaxOf};
 ghost use Rattle.unit_files.specs.Inclusions.{plain_source, IsAmong};
-ghost use Rattle.plain_pp.specs.Readings.{IsSettingOf, Follows, entered, plain_reading};
+ghost use Rattle.unit_files.specs.Settings.{IsSettingOf, entered};
+ghost use Rattle.plain_pp.specs.Readings.{Follows, plain_reading};
 ghost use Rattle.unit_files.specs.SourceFiles.{AreSources, AreSmall, deeper_of};
 
-use crate::directives::Surroundings;
 use crate::errors::PpError;
 use crate::readings::Reading;
 use crate::walk::Walker;
 use c_lexer::lex;
 use std::alloc::Global;
-use unit_files::{Source, Sources, its_lines, number_of, sources_are_walked, sources_break};
+use unit_files::{Source, Sources, Surroundings, its_lines, source_number, sources_are_walked, sources_break};
 
 /// What the reading of a source stands on, where so many files more may be nested.
 fn place_of<'a>(sources: &Sources<'a>, source: Source, more: u32) -> Surroundings<'a>
@@ -67,7 +67,7 @@ pub fn read_source(
     sources_are_walked();
     sources_break();
     let text = sources.text_of(source);
-    let file = number_of(source);
+    let file = source_number(source);
     let all = lex(alloc, file, text)?;
     let lines = its_lines(source, all.as_slice());
     let place = place_of(sources, source, more);

@@ -8,15 +8,15 @@ ghost use Rattle.c_text.specs.Preprocessing as spec;
 ghost use Rattle.c_text.specs.Preprocessing.{Flow, Setting};
 ghost use Rattle.plain_macros.specs.PlainReplacements.{plain_replacement, outcome};
 ghost use Rattle.unit_files.specs.Refusals.{plain_refusal};
-ghost use Rattle.plain_pp.specs.Values.{AreValues};
-ghost use Rattle.plain_pp.specs.Readings.{plain_reading, Follows, IsSettingOf, MayEnter};
+ghost use Rattle.unit_files.specs.Settings.{AreValues, IsSettingOf, MayEnter};
+ghost use Rattle.plain_pp.specs.Readings.{plain_reading, Follows};
 ghost use Rattle.file_walks.specs.Walk.{Walk, Open, group_read, branch_read, end_read, by_role, step, text_read, finished};
 ghost use Rattle.plain_pp.specs.Groups.{open_at};
 ghost use Rattle.file_walks.specs.Nests.{nest_of, behind, behind_role, behind_branch, behind_end, break_at, break_at_end};
 ghost use Rattle.plain_pp.specs.Walking.{level_if, plain_walk, Steps, Enters};
 
 use crate::conditions::condition_at;
-use crate::directives::{Surroundings, read_directive};
+use crate::directives::read_directive;
 use crate::errors::{PpError, check, error_of};
 use crate::groups::{Group, Level, OpenGroups};
 use crate::readings::Reading;
@@ -25,10 +25,7 @@ use cond_formula::NoMemory;
 use plain_macros::{Replacement, replaced};
 use std::alloc::Global;
 use text_edits::Span;
-use unit_files::{
-    PpKind, Refusal, Role, Source, behind, earlier, refusal_at, refused_ignored, refused_in_run,
-    role_of,
-};
+use unit_files::{PpKind, Refusal, Role, Source, Surroundings, behind, earlier, refusal_at, refused_ignored, refused_in_run, role_of};
 
 /// Where a walk over the lines of a file stands.
 #[derive(Drop)]

@@ -9,7 +9,7 @@ use Rattle.c_types.specs.Types.{int, unsigned_char}
 use Rattle.c_types.specs.Integers.{IsValue, converted}
 use Rattle.c_types.specs.Arithmetic.{binary_value, bits_of}
 use Rattle.c_types.proofs.ConversionLaws.{converted-value}
-use Rattle.core_meaning.specs.Memory.{number_of}
+use Rattle.core_meaning.specs.Memory.{defined_value}
 use Rattle.core_meaning.specs.Values.{number, is_true}
 use Rattle.core_meaning.specs.Meaning.{computed}
 use Rattle.quick_form.specs.Run as quick
@@ -31,7 +31,7 @@ int_is_value z h =
 pub int_is_converted : (z : ℤ) → IsTrue (is_int z) → converted int z ≡ z
 int_is_converted z h = converted-value int z (int_is_value z h)
 
-in_range_or_none : (b : Bool) (z : ℤ) → number_of (cond b (Value z) Undefined) ≡ cond b (Some z) None
+in_range_or_none : (b : Bool) (z : ℤ) → defined_value (cond b (Value z) Undefined) ≡ cond b (Some z) None
 in_range_or_none true z = refl
 in_range_or_none false z = refl
 
@@ -41,11 +41,11 @@ joined subtracted x y = cond subtracted (x -ℤ y) (x +ℤ y)
 
 pub computed_is : (subtracted : Bool) (x y : ℤ) → IsTrue (is_int x) → IsTrue (is_int y) → computed (cond subtracted Sub Add) int x y ≡ int_or_none (joined subtracted x y)
 computed_is true x y h k =
-    ap (λ a. number_of (binary_value Sub int a (converted int y))) (int_is_converted x h)
-    ∙ (ap (λ b. number_of (binary_value Sub int x b)) (int_is_converted y k) ∙ in_range_or_none (is_int (x -ℤ y)) (x -ℤ y))
+    ap (λ a. defined_value (binary_value Sub int a (converted int y))) (int_is_converted x h)
+    ∙ (ap (λ b. defined_value (binary_value Sub int x b)) (int_is_converted y k) ∙ in_range_or_none (is_int (x -ℤ y)) (x -ℤ y))
 computed_is false x y h k =
-    ap (λ a. number_of (binary_value Add int a (converted int y))) (int_is_converted x h)
-    ∙ (ap (λ b. number_of (binary_value Add int x b)) (int_is_converted y k) ∙ in_range_or_none (is_int (x +ℤ y)) (x +ℤ y))
+    ap (λ a. defined_value (binary_value Add int a (converted int y))) (int_is_converted x h)
+    ∙ (ap (λ b. defined_value (binary_value Add int x b)) (int_is_converted y k) ∙ in_range_or_none (is_int (x +ℤ y)) (x +ℤ y))
 
 chosen_is_int : (b : Bool) (z v : ℤ) → is_int z ≡ b → cond b (Some z) None ≡ Some v → IsTrue (is_int v)
 chosen_is_int true z v h e = let same : z ≡ v = cc in subst (λ w. IsTrue (is_int w)) same h

@@ -13,9 +13,9 @@ pub record IsRenamed (old new bytes renamed : List ℕ) (tokens : ℕ) : Type 0 
   pub tokens_are : tokens ≡ token_count old bytes
 
 -- the answer to a renaming of old to new in a file with these bytes
-abbrev pub IsAnswer : List ℕ → List ℕ → List ℕ → Answer → Type 0
-IsAnswer old new bytes (Renamed renamed tokens) = IsRenamed old new bytes renamed.items tokens
-IsAnswer old new bytes (NotQuick offset) = Takes old new bytes → ⊥
+abbrev pub AnswersRenaming : List ℕ → List ℕ → List ℕ → Answer → Type 0
+AnswersRenaming old new bytes (Renamed renamed tokens) = IsRenamed old new bytes renamed.items tokens
+AnswersRenaming old new bytes (NotQuick offset) = Takes old new bytes → ⊥
 
 -- where the file isn't taken, the offset is the place of its fault
 abbrev pub HasPlace : List ℕ → List ℕ → List ℕ → Answer → Type 0
@@ -23,6 +23,6 @@ HasPlace old new bytes (Renamed renamed tokens) = Unit {0}
 HasPlace old new bytes (NotQuick offset) = IsPlace old new bytes offset
 
 -- the answer to a file with too many bytes
-abbrev pub IsTooLong : List ℕ → Answer → Type 0
-IsTooLong bytes (Renamed renamed tokens) = ⊥
-IsTooLong bytes (NotQuick offset) = IsFaultOfForm bytes offset
+abbrev pub AnswersLongFile : List ℕ → Answer → Type 0
+AnswersLongFile bytes (Renamed renamed tokens) = ⊥
+AnswersLongFile bytes (NotQuick offset) = IsFaultOfForm bytes offset

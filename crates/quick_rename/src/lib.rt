@@ -4,7 +4,7 @@
 ghost use Rattle.std.specs.Prelude.{◌≡◌, ◌<◌, ◌≤◌, true, length, IfOk};
 ghost use Rattle.quick_form.specs.Words.{is_name};
 ghost use Rattle.quick_form.specs.Symbols.{symbols_of};
-ghost use Rattle.quick_rename.specs.Answer.{IsAnswer, HasPlace, IsTooLong};
+ghost use Rattle.quick_rename.specs.Answer.{AnswersRenaming, HasPlace, AnswersLongFile};
 ghost use Rattle.quick_rename.specs.Laws.{TakingIsDecided};
 ghost use Rattle.quick_rename.specs.Readings.{IsWhole};
 
@@ -47,7 +47,7 @@ fn rename_read(
 ) -> Result<Answer, AllocError>
     requires whole { IsWhole (symbols_of bytes.now) parser.now }
     requires size { length bytes.now ≤ 16777216 }
-    ensures answer { IfOk result (IsAnswer old.now new.now bytes.now) }
+    ensures answer { IfOk result (AnswersRenaming old.now new.now bytes.now) }
     ensures place { IfOk result (HasPlace old.now new.now bytes.now) }
 {
     tests_are_kept();
@@ -66,7 +66,7 @@ fn rename_read(
 /// Renames one name in a file of the quick form.
 pub fn rename(alloc: Global, bytes: &[u8], old: &[u8], new: &[u8]) -> Result<Answer, AllocError>
     requires { is_name new.now ≡ true }
-    ensures answer { IfOk result (IsAnswer old.now new.now bytes.now) }
+    ensures answer { IfOk result (AnswersRenaming old.now new.now bytes.now) }
     ensures place { IfOk result (HasPlace old.now new.now bytes.now) }
 {
     if bytes.len() > MOST_BYTES {
@@ -81,7 +81,7 @@ pub fn rename(alloc: Global, bytes: &[u8], old: &[u8], new: &[u8]) -> Result<Ans
 /// The fault of a file that has too many bytes.
 fn too_long(alloc: Global, bytes: &[u8]) -> Result<Answer, AllocError>
     requires { 16777216 < length bytes.now }
-    ensures { IfOk result (IsTooLong bytes.now) }
+    ensures { IfOk result (AnswersLongFile bytes.now) }
 {
     let (front, _) = bytes.split_at(MOST_BYTES);
     let offset = match read(alloc, front)? {

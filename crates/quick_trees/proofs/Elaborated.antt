@@ -12,7 +12,7 @@ use Rattle.core_meaning.specs.declared.expressions.Operation.TheVariants.{Number
 use Rattle.core_meaning.specs.declared.program.BuiltIn.TheVariants.{Putchar}
 use Rattle.core_meaning.specs.Program.{PlainExpression, constant, read, binary, assign, call, global, no_argument, argument, block, evaluate, loop, return_value, statement_item, PlainFunction, defined, built_in, PlainGlobal}
 use Rattle.core_meaning.specs.Checking.{Checked, fine, refused, broken, with_bindings, ◌>>=◌, give}
-use Rattle.core_meaning.specs.Entities.{Table, FileName, Numbers, Sort, variable, function, number_of}
+use Rattle.core_meaning.specs.Entities.{Table, FileName, Numbers, Sort, variable, function, entity_number}
 use Rattle.core_meaning.specs.UnitNames.{Body, judged_unit}
 use Rattle.core_meaning.specs.Linking.{Unit, Units, count_external, uses_in, closed, judged_units, defines, is_wanted, is_available, Linked, same_linked, linked_in, listed, each_once, lists, number_in as linked_number, or_zero, place_where, numbers_in, no_numbers, literals_of, judged_program, whole_body, unit_of as unit_with, type_of_sort, parts_of_body, global_in, function_of_body, function_in, program_of}
 use Rattle.quick_form.specs.Form as form
@@ -232,13 +232,13 @@ module _ (items : List Item) (seats : Seats) (s : IsSpelled items) (a : IsAccept
         ap (each_once []) (append-nil (map (linked_in 0 unit) (filter (functions_only unit) (codes "putchar" ∷ names_of items)))) ∙ ap (each_once []) functions_kept
 
     -- the numbers that the unit's names get
-    at_same : (literals : List (List ℕ)) (x : List ℕ) → Known (visible_of items) x → number_of (numbers_in (unit ∷ []) literals 0).globals x ≡ number_in (objects_of items) x
+    at_same : (literals : List (List ℕ)) (x : List ℕ) → Known (visible_of items) x → entity_number (numbers_in (unit ∷ []) literals 0).globals x ≡ number_in (objects_of items) x
     at_same literals x h =
         let is_object = visible_is_in (declarations items) x h in
         ap number_or_zero
         (number_found unit false (objects_of items) x objects_kept objects_all (linked_is unit x (variable int) (object_named unit items put x is_object)) is_object)
 
-    put_same : (literals : List (List ℕ)) → number_of (numbers_in (unit ∷ []) literals 0).functions (codes "putchar") ≡ 0
+    put_same : (literals : List (List ℕ)) → entity_number (numbers_in (unit ∷ []) literals 0).functions (codes "putchar") ≡ 0
     put_same literals =
         ap number_or_zero
         (number_found unit true (codes "putchar" ∷ codes "main" ∷ []) (codes "putchar") functions_kept functions_all (linked_is unit (codes "putchar") putchar_sort putchar_named) refl)
@@ -343,7 +343,7 @@ module _ (items : List Item) (seats : Seats) (s : IsSpelled items) (a : IsAccept
 
   code_is : code_of (unit_numbers 0) a.body ≡ core_code (objects_of items) a.body
   code_is =
-      code_same (visible_of items) (objects_of items) (number_of (unit_numbers 0).globals) (number_of (unit_numbers 0).functions (codes "putchar"))
+      code_same (visible_of items) (objects_of items) (entity_number (unit_numbers 0).globals) (entity_number (unit_numbers 0).functions (codes "putchar"))
       (at_same (no_numbers 0) first_uses (literals_of (tree ∷ []))) (put_same (no_numbers 0) first_uses (literals_of (tree ∷ []))) a.body
       (ready_code (Known (visible_of items)) first_table items a.body a.once (are_ready items s a))
 

@@ -8,7 +8,7 @@ use Rattle.c_tree.specs.Trees.{PlainTrees, none, more}
 use Rattle.core_meaning.specs.declared.refusals.TypeKind.TheVariants.{Redeclared}
 use Rattle.core_meaning.specs.Program.{PlainItems, no_item}
 use Rattle.core_meaning.specs.Checking.{Entity, local_entity, local_of_function, file_entity, struct_entity, member_entity, own_entity, Binding, Checked, with_bindings, ◌>>=◌, give, unless_so, numbered, numbered_binding, in_function}
-use Rattle.core_meaning.specs.Entities.{Table, no_entry, with_entry, Scope, FileName, Numbers, function, number_of}
+use Rattle.core_meaning.specs.Entities.{Table, no_entry, with_entry, Scope, FileName, Numbers, function, entity_number}
 use Rattle.core_meaning.specs.Declarations.{Parameter}
 use Rattle.core_meaning.specs.Statements.{JudgedItems, items_as, judged_items}
 use Rattle.core_meaning.specs.UnitNames.{Body, object_body, tentative_body, function_body, Defined, UnitState, by_none, with_name, declared_as, linkage, with_scope, with_defined, judged_body, count_functions, judged_item, judged_file_items, unit_start, judged_unit, may_be_function, signature_of, with_parameters, parameter_types, is_too_big, too_big_in, unless_too_big}
@@ -43,7 +43,7 @@ item_as (main_of c) = as_function []
 
 -- the code of a body, where names have these numbers
 abbrev pub code_of : Numbers → Code → PlainItems
-code_of numbers c = code_core (number_of numbers.globals) (number_of numbers.functions (codes "putchar")) c
+code_of numbers c = code_core (entity_number numbers.globals) (entity_number numbers.functions (codes "putchar")) c
 
 abbrev pub item_body : Numbers → Item → Body
 item_body numbers (tentative x) = tentative_body

@@ -9,7 +9,7 @@ use Rattle.core_meaning.specs.declared.integers.IntegerType.TheVariants.{Int}
 use Rattle.core_meaning.specs.declared.expressions.Operation.TheVariants.{Numbers}
 use Rattle.core_meaning.specs.Program.{PlainExpression, constant, read, binary, assign, call, global, no_argument, argument, block, evaluate, loop, return_value, PlainItems, no_item, statement_item}
 use Rattle.core_meaning.specs.Checking.{Entity, file_entity, Binding, Checked, fine, with_bindings, ◌>>=◌, give, uses, declares}
-use Rattle.core_meaning.specs.Entities.{Scope, FileName, variable, function, local_in, number_of}
+use Rattle.core_meaning.specs.Entities.{Scope, FileName, variable, function, local_in, entity_number}
 use Rattle.core_meaning.specs.Typing.{Operand, Typed, of_value, of_object, loaded}
 use Rattle.core_meaning.specs.Expressions.{number_operand, judged, combined_by}
 use Rattle.quick_form.specs.Symbols.{Name, Number, Mark}
@@ -140,10 +140,10 @@ then_value_in Known scope tree core next y h k =
 
 module _ (Known : List ℕ → Type 0) (scope : Scope) (sees : Sees Known scope) where
   abbrev pub at : List ℕ → ℕ
-  at x = number_of scope.numbers.globals x
+  at x = entity_number scope.numbers.globals x
 
   abbrev pub putchar : ℕ
-  putchar = number_of scope.numbers.functions (codes "putchar")
+  putchar = entity_number scope.numbers.functions (codes "putchar")
 
   pub name_is : (x : List ℕ) (seat : Seat) → Known x → Judges (Usable Known) (judged scope (word (Name x) seat)) (of_object (token_of (Name x) seat) int (global (at x)) true)
   name_is x seat h =

@@ -12,7 +12,7 @@ use Rattle.file_walks.specs.Walk.{Walk, start, step}
 use Rattle.file_walks.specs.Nests.{nest_of, behind}
 use Rattle.unit_files.specs.declared.inclusions.Source.{Source}
 use Rattle.unit_files.specs.Inclusions.{plain_source, IsAmong}
-use Rattle.unit_files.specs.SourceFiles.{number_of, text_of, its_lines, deeper_of}
+use Rattle.unit_files.specs.SourceFiles.{source_number, text_of, its_lines, deeper_of}
 use Rattle.read_walks.specs.SourceReads.{HasMisplaced, following_in}
 use Rattle.read_walks.specs.WalkReads.{reads_of_step, reads_of_walk, by_token}
 use Rattle.read_walks.specs.Tests.{IsDefinedIn, is_read_at}
@@ -31,7 +31,7 @@ abbrev pub SourceReadsAreWalked : Type 0
 SourceReadsAreWalked =
     (s : Sources) (x : Syntax) (are : IsSyntaxOf s x) (misplaced : spec.Source → List PlainToken) → AreMisplaced are misplaced
     → (source : Source) → IsAmong (length s.files) source → (more : ℕ) (all : List PlainLine)
-    → AreItsLines (number_of (plain_source source)) (text_of s (plain_source source)) all → (r : Reading)
+    → AreItsLines (source_number (plain_source source)) (text_of s (plain_source source)) all → (r : Reading)
     → by_token
     (reads_of_walk (setting s x (plain_source source) (deeper_of s x more)) (following_in s x misplaced more (plain_source source)) (start r)
     (its_lines (plain_source source) all))

@@ -12,9 +12,9 @@ use Rattle.core_meaning.specs.declared.expressions.Change.{Change}
 use Rattle.core_meaning.specs.declared.expressions.Change.TheVariants as change
 use Rattle.core_meaning.specs.Program.{PlainProgram, type_of}
 use Rattle.core_meaning.specs.Values.{Path, Pointer, null, at, Scalar, number, pointer, Cells, Value, nothing, scalar, whole, is_true, same_path, same_pointer, stand_of, same_array, moved_path}
-use Rattle.core_meaning.specs.Memory.{Memory, unwritten, fresh, value_at, written_at, stand_in, moved, are_together, distance, ordered, compared, number_of, member_at, first_at}
+use Rattle.core_meaning.specs.Memory.{Memory, unwritten, fresh, value_at, written_at, stand_in, moved, are_together, distance, ordered, compared, defined_value, member_at, first_at}
 use Rattle.core_meaning.specs.Outcomes.{State, Outcome, followed_by, ◌>>=◌, give, undefined, given, set_memory}
-use Rattle.core_meaning.specs.Meaning.{as_value, as_scalar, as_pointer, used, scalar_from, pointer_from, truth_from, in_type, computed, read_from, write_to, make, end_object, move_by, operated, changed}
+use Rattle.core_meaning.specs.Meaning.{as_value, as_scalar, as_pointer, used, scalar_from, pointer_from, truth_from, scalar_in_type, computed, read_from, write_to, make, end_object, move_by, operated, changed}
 use Rattle.run_pairs.specs.Correspondences.{Correspondence, Grown, WhereGiven, RelatedPointers, RelatedScalars, RelatedCells, RelatedValues, HeldAside, RelatedMemories, Setting, Related, RelatedOutcomes, RelatedPieces}
 use Rattle.run_pairs.proofs.Pieces.{same_grown, outcomes_after, pieces_then, pieces_give, pieces_given, pieces_asked}
 use Rattle.run_pairs.proofs.MemoryPairs.{pointers_grow, scalars_grow, values_grow, where_given_mapped, where_given_if, same_test, with_pair, grown_new, is_new, related_with_new, related_with_ended, value_at_related, written_at_related}
@@ -107,11 +107,11 @@ module _ (w : Setting) where
   pub truth_from_related : {c : Correspondence} {f g : State → Outcome Value} → RelatedPieces w RelatedValues c f g → RelatedPieces w Same c (truth_from f) (truth_from g)
   truth_from_related h = pieces_then (scalar_from_related h) (λ d grown x y r. pieces_give (λ e g. same_truth d x y (scalar_pair d x y r)))
 
-  in_type_pair : (c : Correspondence) (t : IntegerType) (x y : Scalar) → ScalarPair c x y → RelatedPieces w RelatedScalars c (in_type t x) (in_type t y)
+  in_type_pair : (c : Correspondence) (t : IntegerType) (x y : Scalar) → ScalarPair c x y → RelatedPieces w RelatedScalars c (scalar_in_type t x) (scalar_in_type t y)
   in_type_pair c t x y (numbers z) = pieces_give (λ d g. refl)
   in_type_pair c t x y (pointers p q r) = pieces_undefined _
 
-  pub in_type_related : (c : Correspondence) (t : IntegerType) (x y : Scalar) → RelatedScalars c x y → RelatedPieces w RelatedScalars c (in_type t x) (in_type t y)
+  pub in_type_related : (c : Correspondence) (t : IntegerType) (x y : Scalar) → RelatedScalars c x y → RelatedPieces w RelatedScalars c (scalar_in_type t x) (scalar_in_type t y)
   in_type_related c t x y r = in_type_pair c t x y (scalar_pair c x y r)
 
 -- ---- pure operations on pointers
@@ -165,9 +165,9 @@ module _ (structs : List (List PlainType)) (held : HeldAside) (c : Correspondenc
   ordered_related op p p' q q' (ats i i' path e) nulls = tt
   ordered_related op p p' q q' (ats i i' path e) (ats j j' path' f) =
       where_given_if ◌≡◌ (are_together structs m i path j path') (are_together structs m' i' path j' path') _ _ (together i j i' j' path path' e f)
-      (λ t. subst (λ x. WhereGiven ◌≡◌ (number_of (binary_value op long (pos (stand_in structs m i path).index) (pos (stand_in structs m j path').index))) (number_of (binary_value op long (pos x.index) (pos (stand_in structs m' j' path').index)))) (stands i i' path e)
-      (subst (λ x. WhereGiven ◌≡◌ (number_of (binary_value op long (pos (stand_in structs m i path).index) (pos (stand_in structs m j path').index))) (number_of (binary_value op long (pos (stand_in structs m i path).index) (pos x.index)))) (stands j j' path' f)
-      (where_given_same (number_of (binary_value op long (pos (stand_in structs m i path).index) (pos (stand_in structs m j path').index))))))
+      (λ t. subst (λ x. WhereGiven ◌≡◌ (defined_value (binary_value op long (pos (stand_in structs m i path).index) (pos (stand_in structs m j path').index))) (defined_value (binary_value op long (pos x.index) (pos (stand_in structs m' j' path').index)))) (stands i i' path e)
+      (subst (λ x. WhereGiven ◌≡◌ (defined_value (binary_value op long (pos (stand_in structs m i path).index) (pos (stand_in structs m j path').index))) (defined_value (binary_value op long (pos (stand_in structs m i path).index) (pos x.index)))) (stands j j' path' f)
+      (where_given_same (defined_value (binary_value op long (pos (stand_in structs m i path).index) (pos (stand_in structs m j path').index))))))
 
   same_pointers : (p p' q q' : Pointer) → PointerPair c p p' → PointerPair c q q' → same_pointer p q ≡ same_pointer p' q'
   same_pointers p p' q q' nulls nulls = refl

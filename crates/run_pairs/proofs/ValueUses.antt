@@ -9,7 +9,7 @@ use Rattle.core_meaning.specs.Program.{PlainExpression, PlainPlace, PlainProgram
 use Rattle.core_meaning.specs.Values.{Path, Pointer, at, Scalar, number, pointer, Cells, Value, nothing, scalar, whole, is_scalar, is_inside, type_at}
 use Rattle.core_meaning.specs.Memory.{Object, Memory, unwritten, zeros, with_object, value_in, by_steps, cells_with, is_there, value_at, written_at}
 use Rattle.core_meaning.specs.Outcomes.{State, Outcome, Comes, Exits, Stops, Fails, Piece, after, followed_by, ◌>>=◌, give, given, set_memory}
-use Rattle.core_meaning.specs.Meaning.{as_value, as_scalar, in_type, cells_filled, Ending, Frame, Job, write_to, value_of, place_of}
+use Rattle.core_meaning.specs.Meaning.{as_value, as_scalar, scalar_in_type, cells_filled, Ending, Frame, Job, write_to, value_of, place_of}
 use Rattle.run_pairs.specs.Correspondences.{Correspondence, Grown, WhereGiven, RelatedPointers, RelatedScalars, RelatedCells, RelatedValues, RelatedObjects, HeldAside, RelatedMemories, Setting, RelatedPieces}
 use Rattle.run_pairs.specs.Alike.{Uses, BothGiven, RelatedFrames}
 use Rattle.run_pairs.specs.Inlining
@@ -24,7 +24,7 @@ use Rattle.run_pairs.proofs.Passing.{onward_root, whole_part}
 -- ---- conversions
 
 abbrev in_scalar : IntegerType → Scalar → State → Outcome Value
-in_scalar t x = in_type t x >>= (λ v. give (scalar v))
+in_scalar t x = scalar_in_type t x >>= (λ v. give (scalar v))
 
 abbrev pub conversions : List IntegerType → Value → State → Outcome Value
 conversions [] v = give v
@@ -112,7 +112,7 @@ lands_value P nothing s h = tt
 lands_value P (scalar x) s h = h
 lands_value P (whole cells) s h = h
 
-lands_type : (P : State → Type 0) (t : IntegerType) (x : Scalar) (s : State) → P s → Lands P (in_type t x s)
+lands_type : (P : State → Type 0) (t : IntegerType) (x : Scalar) (s : State) → P s → Lands P (scalar_in_type t x s)
 lands_type P t (number z) s h = h
 lands_type P t (pointer q) s h = tt
 
@@ -121,7 +121,7 @@ lands_conversions P [] v s h = h
 lands_conversions P (t ∷ ts) v s h =
     lands_then P P (followed_by (conversions ts v s) as_scalar) (in_scalar t)
     (lands_then P P (conversions ts v s) as_scalar (lands_conversions P ts v s h) (λ x n k. lands_scalar P x n k))
-    (λ x n k. lands_then P P (in_type t x n) (λ v. give (scalar v)) (lands_type P t x n k) (λ x n k. k))
+    (λ x n k. lands_then P P (scalar_in_type t x n) (λ v. give (scalar v)) (lands_type P t x n k) (λ x n k. k))
 
 -- what has died before
 abbrev pub KeepsDead : Memory → State → Type 0

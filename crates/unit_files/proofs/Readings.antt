@@ -8,10 +8,10 @@ use Rattle.file_walks.specs.Laws.{PartsAreWalked, FilesBreak}
 use Rattle.unit_files.specs.declared.inclusions.Source.{Source}
 use Rattle.unit_files.specs.declared.inclusions.Source.TheVariants.{ProjectFile, Stdio, Stdlib}
 use Rattle.unit_files.specs.Inclusions.{plain_source, IsAmong}
-use Rattle.unit_files.specs.SourceFiles.{number_of, text_of, its_lines, deeper_of}
+use Rattle.unit_files.specs.SourceFiles.{source_number, text_of, its_lines, deeper_of}
 use Rattle.unit_files.specs.Laws.{SourcesAreWalked, SourcesBreak}
 
-source-file : LinesAreOne → (s : spec.Sources) (x : Syntax) → IsSyntaxOf s x → (source : Source) → IsAmong (length s.files) source → (all : List PlainLine) → AreItsLines (number_of (plain_source source)) (text_of s (plain_source source)) all → IsFile (number_of (plain_source source)) (length (text_of s (plain_source source))) (its_lines (plain_source source) all) (x.part_of (plain_source source)) (x.broken_in (plain_source source))
+source-file : LinesAreOne → (s : spec.Sources) (x : Syntax) → IsSyntaxOf s x → (source : Source) → IsAmong (length s.files) source → (all : List PlainLine) → AreItsLines (source_number (plain_source source)) (text_of s (plain_source source)) all → IsFile (source_number (plain_source source)) (length (text_of s (plain_source source))) (its_lines (plain_source source) all) (x.part_of (plain_source source)) (x.broken_in (plain_source source))
 source-file one s x is (ProjectFile number) there all are =
     let e = one number (spec.file_at s number).bytes (is.lines number) all (is.are_lines number there) are in
     subst (λ (ls : List PlainLine). IsFile number (length (spec.file_at s number).bytes) ls (x.part_of (spec.project_file number)) (x.broken_in (spec.project_file number))) e (is.are_files number there)
@@ -29,10 +29,10 @@ source-read s x (suc more) source r = refl
 pub sources-are_walked : LinesAreOne → PartsAreWalked → SourcesAreWalked
 sources-are_walked one walked s x is source there more all are r =
     let p = plain_source source in
-    walked (setting s x p (deeper_of s x more)) (number_of p) (length (text_of s p)) (its_lines p all) (x.part_of p) r (source-file one s x is source there all are)
+    walked (setting s x p (deeper_of s x more)) (source_number p) (length (text_of s p)) (its_lines p all) (x.part_of p) r (source-file one s x is source there all are)
     ∙ source-read s x more p r
 
 pub sources-break : LinesAreOne → FilesBreak → SourcesBreak
 sources-break one breaks s x is source there all are =
     let p = plain_source source in
-    breaks (number_of p) (length (text_of s p)) (its_lines p all) (x.part_of p) (x.broken_in p) (source-file one s x is source there all are)
+    breaks (source_number p) (length (text_of s p)) (its_lines p all) (x.part_of p) (x.broken_in p) (source-file one s x is source there all are)

@@ -6,18 +6,18 @@ use Rattle.file_walks.specs.Walk.{walked, start}
 use Rattle.file_walks.specs.Nests.{misplaced_in, break_of}
 use Rattle.unit_files.specs.declared.inclusions.Source.{Source}
 use Rattle.unit_files.specs.Inclusions.{plain_source, IsAmong}
-use Rattle.unit_files.specs.SourceFiles.{number_of, text_of, its_lines, deeper_of}
+use Rattle.unit_files.specs.SourceFiles.{source_number, text_of, its_lines, deeper_of}
 
 -- a source is read by a walk over its lines, wherever it stands
 abbrev pub SourcesAreWalked : Type 0
 SourcesAreWalked =
     (s : Sources) (x : Syntax) → IsSyntaxOf s x → (source : Source) → IsAmong (length s.files) source → (more : ℕ) (all : List PlainLine)
-    → AreItsLines (number_of (plain_source source)) (text_of s (plain_source source)) all → (r : Reading)
+    → AreItsLines (source_number (plain_source source)) (text_of s (plain_source source)) all → (r : Reading)
     → walked (setting s x (plain_source source) (deeper_of s x more)) (start r) (its_lines (plain_source source) all) ≡ read_source s x more (plain_source source) r
 
 -- a source breaks at its first line that fits no group, or else at the end of its file
 abbrev pub SourcesBreak : Type 0
 SourcesBreak =
     (s : Sources) (x : Syntax) → IsSyntaxOf s x → (source : Source) → IsAmong (length s.files) source → (all : List PlainLine)
-    → AreItsLines (number_of (plain_source source)) (text_of s (plain_source source)) all
-    → x.broken_in (plain_source source) ≡ break_of (number_of (plain_source source)) (length (text_of s (plain_source source))) (misplaced_in [] (its_lines (plain_source source) all))
+    → AreItsLines (source_number (plain_source source)) (text_of s (plain_source source)) all
+    → x.broken_in (plain_source source) ≡ break_of (source_number (plain_source source)) (length (text_of s (plain_source source))) (misplaced_in [] (its_lines (plain_source source) all))

@@ -3,4 +3,5 @@ pub mod Inclusions
 pub mod SourceFiles
 pub mod Roles
 pub mod Tests
+pub mod Settings
 pub mod Laws

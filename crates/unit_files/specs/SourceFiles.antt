@@ -9,10 +9,10 @@ use Rattle.c_text.specs.Preprocessing.{Flow, Syntax, built_in_file, built_in_tex
 use Rattle.unit_files.specs.declared.sources.Sources.{Sources}
 
 -- the number of a source's file, its text, and which of the text's lines are its
-abbrev pub number_of : spec.Source → ℕ
-number_of (spec.project_file number) = number
-number_of spec.stdio = built_in_file
-number_of spec.stdlib = built_in_file
+abbrev pub source_number : spec.Source → ℕ
+source_number (spec.project_file number) = number
+source_number spec.stdio = built_in_file
+source_number spec.stdlib = built_in_file
 
 abbrev pub text_of : spec.Sources → spec.Source → List ℕ
 text_of s (spec.project_file number) = (file_at s number).bytes

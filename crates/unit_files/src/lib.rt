@@ -9,6 +9,7 @@ mod laws;
 mod refusals;
 mod roles;
 mod sources;
+mod surroundings;
 mod tests;
 
 pub use bad_tokens::{
@@ -19,5 +20,6 @@ pub use inclusions::{Source, source_of};
 pub use laws::{sources_are_walked, sources_break};
 pub use refusals::{PpKind, Refusal, earlier, refusal_at};
 pub use roles::{Role, role_of};
-pub use sources::{Sources, built_in_length, its_lines, number_of};
+pub use sources::{Sources, built_in_length, its_lines, source_number};
+pub use surroundings::{Surroundings, is_feature};
 pub use tests::{Test, test_behind};

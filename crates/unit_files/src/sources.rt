@@ -3,7 +3,7 @@ ghost use Rattle.std.specs.Prelude.{◌≡◌, ◌<◌, ◌≤◌, ◌^◌, ℕ,
 ghost use Rattle.c_text.specs.Lines.{plain_line};
 ghost use Rattle.c_text.specs.Preprocessing as spec;
 ghost use Rattle.unit_files.specs.Inclusions.{plain_source, IsAmong};
-ghost use Rattle.unit_files.specs.SourceFiles.{number_of, text_of, its_lines, AreSources, AreSmall};
+ghost use Rattle.unit_files.specs.SourceFiles.{source_number, text_of, its_lines, AreSources, AreSmall};
 
 use crate::inclusions::Source;
 use c_text::{BUILT_IN_FILE, Line};
@@ -29,8 +29,8 @@ pub struct Sources<'a> {
 }
 
 /// The number of a file.
-pub fn number_of(source: Source) -> u32
-    ensures { result ≡ number_of (plain_source source) }
+pub fn source_number(source: Source) -> u32
+    ensures { result ≡ source_number (plain_source source) }
 {
     match source {
         Source::ProjectFile(number) => number,

@@ -4,7 +4,7 @@ use Rattle.core_meaning.specs.Program.{type_of, PlainExpression, constant, null_
 use Rattle.core_meaning.specs.Values.{Pointer, null, at, Scalar, number, pointer, Value, nothing, scalar, whole, is_true, truth_number}
 use Rattle.core_meaning.specs.Memory.{Memory, unwritten, value_at, written_at, moved, distance, compared, first_at, member_at}
 use Rattle.core_meaning.specs.Outcomes.{State, Outcome, Comes, Exits, Stops, Fails, Piece, after, followed_by, ◌>>=◌, give, given, full, memory_now, without_temporaries}
-use Rattle.core_meaning.specs.Meaning.{computed, as_value, as_scalar, as_pointer, used, scalar_from, pointer_from, truth_from, in_type, read_from, write_to, make, end_object, operated, changed, call_value, called_built_in, temporary_with, fill_missing, Ending, falls, breaks, continues, returns, Frame, with_slot, Job, body_of, turn, called_function, value_of, place_of, values_of, write_parts, initialise, asks, then_item, ending_of, items_ending, enter, enter_function, after_turn, job_ending, meaning}
+use Rattle.core_meaning.specs.Meaning.{computed, as_value, as_scalar, as_pointer, used, scalar_from, pointer_from, truth_from, scalar_in_type, read_from, write_to, make, end_object, operated, changed, call_value, called_built_in, temporary_with, fill_missing, Ending, falls, breaks, continues, returns, Frame, with_slot, Job, body_of, turn, called_function, value_of, place_of, values_of, write_parts, initialise, asks, then_item, ending_of, items_ending, enter, enter_function, after_turn, job_ending, meaning}
 use Rattle.c_types.specs.Types.{PlainType}
 use Rattle.c_types.specs.Integers.{converted}
 use Rattle.core_meaning.specs.declared.integers.IntegerType.{IntegerType}
@@ -120,7 +120,7 @@ given_continues (Some x) = continues_give x
 in_memory : {A : Type 0} (o : Memory → Option A) → Continues (memory_now >>= (λ m. given (o m))) (λ k s. given_then (o s.memory) k s)
 in_memory o = record { same = λ k s. (given_continues (o s.memory)).same k s ∙ ap (λ r. followed_by r k) (sym (after_nothing (given (o s.memory) s))) }
 
-in_type_continues : (t : IntegerType) (x : Scalar) → Continues (in_type t x) (given_then (in_type_of t x))
+in_type_continues : (t : IntegerType) (x : Scalar) → Continues (scalar_in_type t x) (given_then (in_type_of t x))
 in_type_continues t (number z) = continues_give (number (converted (type_of t) z))
 in_type_continues t (pointer q) = record { same = λ k s. refl }
 

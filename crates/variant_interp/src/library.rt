@@ -130,12 +130,12 @@ fn number_argument<'a>(arguments: &[Value<'a>]) -> Option<i128>
 {
     match arguments {
         [] => None,
-        [argument] => number_of(argument),
+        [argument] => integer_in(argument),
         [_, _, ..] => None,
     }
 }
 
-fn number_of<'a>(value: &Value<'a>) -> Option<i128>
+fn integer_in<'a>(value: &Value<'a>) -> Option<i128>
     ensures { result ≡ number_in (plain_value value.now ∷ []) }
 {
     match value {

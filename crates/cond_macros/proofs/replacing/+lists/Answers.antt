@@ -24,7 +24,7 @@ use Rattle.cond_macros.specs.CondFinished.{given_at}
 use Rattle.cond_macros.specs.CondRuns.{run_at}
 use Rattle.cond_macros.specs.CondLevels.{macros_in, active_in, deeper_in, is_within, replaced_at}
 use Rattle.cond_macros.specs.Pieces.{Held, Piece, also, under_piece, items_piece, given_piece, open_piece, some_open, without_calls, brought_again, turn_pieces, outside_piece}
-use Rattle.cond_macros.specs.Readings.{look, Reads}
+use Rattle.cond_macros.specs.Readings.{look, ListBecomes}
 use Rattle.cond_macros.proofs.Cores.{replacement_alike}
 use Rattle.cond_macros.proofs.CallLemmas.{below_none, below_is, below_alike, left_open_is, call_given, call_unfit, both_true}
 use Rattle.cond_macros.proofs.ArgumentLemmas.{replaced_step, replaced_end, replaced_init, fit_alone, unfit_alone, unfit_if_none, single_is}
@@ -110,7 +110,7 @@ replaced_list-loop-i-init g t c = record {
   reads = λ exact n admitted within own.
       let level = c.args.level.now in
       let items = items_at (has n) c.args.items.now in
-      subst (λ (p : Option Piece). Reads exact (macros_in n level) (deeper_in n level) (active_in level) p items (look exact (spec.outside (macros_in n level) (deeper_in n level) (active_in level) items)))
+      subst (λ (p : Option Piece). ListBecomes exact (macros_in n level) (deeper_in n level) (active_in level) p items (look exact (spec.outside (macros_in n level) (deeper_in n level) (active_in level) items)))
       (sym (c.begun-run.ensures exact (has n))) (begin_reads exact (macros_in n level) (deeper_in n level) (active_in level) items);
 }
 

@@ -10,7 +10,7 @@ use Rattle.cond_macros.specs.CondRuns.{run_at}
 use Rattle.cond_macros.specs.CondLevels.{macros_in, active_in, deeper_in, is_within, replaced_at}
 use Rattle.cond_macros.specs.Below.{all_cores_of, behind_lists}
 use Rattle.cond_macros.specs.Owned.{AreOwn}
-use Rattle.cond_macros.specs.Readings.{look, Reads}
+use Rattle.cond_macros.specs.Readings.{look, ListBecomes}
 use Rattle.cond_macros.specs.Pieces.{also, some_open, without_calls, turn_pieces}
 use Rattle.cond_macros.proofs.replacing.+lists.Given as goal
 
@@ -70,5 +70,5 @@ abbrev pub invariant-replaced_list-loop-i : goal.invariant-replaced_list-loop-i
 invariant-replaced_list-loop-i g l = record {
   kept : g.O.Oracle.admits l.oracle ≡ g.O.Oracle.admits l.fn.oracle;
   reads : (exact : Bool) (c : List Bool) → IsTrue (value (has c) (g.O.Oracle.admits l.fn.oracle)) → IsTrue (is_within c l.level) → (exact ≡ true → AreOwn l.items) →
-      Reads exact (macros_in c l.level) (deeper_in c l.level) (active_in l.level) (run_at exact (has c) l.run) (items_at (has c) (drop l.i l.items)) (look exact (spec.outside (macros_in c l.level) (deeper_in c l.level) (active_in l.level) (items_at (has c) l.items)));
+      ListBecomes exact (macros_in c l.level) (deeper_in c l.level) (active_in l.level) (run_at exact (has c) l.run) (items_at (has c) (drop l.i l.items)) (look exact (spec.outside (macros_in c l.level) (deeper_in c l.level) (active_in l.level) (items_at (has c) l.items)));
 }

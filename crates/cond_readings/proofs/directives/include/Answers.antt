@@ -8,7 +8,7 @@ use Rattle.c_text.specs.Directives.{include_line}
 use Rattle.c_text.specs.Preprocessing.{Reading, directed}
 use Rattle.unit_files.specs.Inclusions.{plain_source}
 use Rattle.cond_readings.specs.Readings.{reading_at, unless_refused}
-use Rattle.cond_readings.specs.Settings.{entered}
+use Rattle.unit_files.specs.Settings.{entered}
 use Rattle.cond_readings.proofs.OptionLemmas.{is_some_map}
 use Rattle.cond_readings.proofs.DirectiveLemmas.{found-then, refused-then, found-some, found-nothing}
 use Rattle.cond_readings.proofs.directives.include.Goals as goal

@@ -9,7 +9,8 @@ use Rattle.c_text.specs.Preprocessing as spec
 use Rattle.c_text.specs.Preprocessing.{Flow, Setting}
 use Rattle.unit_files.specs.declared.inclusions.Source.{Source}
 use Rattle.unit_files.specs.Inclusions.{plain_source, IsAmong}
-use Rattle.plain_pp.specs.Readings.{plain_reading, Follows, entered}
+use Rattle.unit_files.specs.Settings.{entered}
+use Rattle.plain_pp.specs.Readings.{plain_reading, Follows}
 use Rattle.unit_files.specs.SourceFiles.{deeper_of}
 use Rattle.plain_pp.specs.Walking.{plain_walk}
 use Rattle.plain_pp.proofs.FileLemmas.{starts-at, stands-at, stands-end, says-stops, says-inner, follows-err, walk-goes, walk-breaks, walk-ends, walk-end_breaks, deeper-read}

@@ -9,7 +9,7 @@ use Rattle.c_text.specs.Preprocessing.{on, then_read}
 use Rattle.active_tokens.specs.Reads.{reads_of_inclusion}
 use Rattle.unit_files.specs.Inclusions.{plain_source}
 use Rattle.cond_readings.specs.Readings.{reading_at, taken}
-use Rattle.cond_readings.specs.Settings.{entered}
+use Rattle.unit_files.specs.Settings.{entered}
 use Rattle.cond_pp.specs.Groups.{groups_of, read_in}
 use Rattle.unit_files.specs.declared.inclusions.Source.{Source}
 use Rattle.cond_pp.specs.declared.walk.Inclusion.{Inclusion}

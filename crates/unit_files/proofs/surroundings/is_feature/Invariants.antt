@@ -2,7 +2,7 @@ use Rattle.std.proofs.Common.{◌≡◌, map, drop}
 use Rattle.std.specs.List.{list_any}
 use Rattle.std.specs.Str.{bytes_eq}
 use Rattle.std.specs.String.{string_bytes}
-use Rattle.plain_pp.proofs.directives.is_feature.Given as goal
+use Rattle.unit_files.proofs.surroundings.is_feature.Given as goal
 
 abbrev pub invariant-loop-feature : goal.invariant-loop-feature
 invariant-loop-feature l =

@@ -1,4 +1,8 @@
 //! What the reading of a file stands on.
+ghost use Rattle.std.specs.Prelude.{◌≡◌, map};
+ghost use Rattle.std.specs.List.{list_any};
+ghost use Rattle.std.specs.Str.{bytes_eq};
+ghost use Rattle.std.specs.String.{string_bytes};
 
 /// What the reading of a file stands on.
 #[derive(Clone, Copy)]
@@ -11,4 +15,16 @@ pub struct Surroundings<'a> {
     pub name: &'a [u8],
     /// Whether a file may still be included.
     pub may_include: bool,
+}
+
+/// Whether a feature has this name.
+pub fn is_feature(features: &[String], name: &[u8]) -> bool
+    ensures { result ≡ list_any (bytes_eq name.now) (map string_bytes features.now) }
+{
+    for feature in features {
+        if name == feature.as_bytes() {
+            return true;
+        }
+    }
+    false
 }
