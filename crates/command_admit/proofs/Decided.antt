@@ -1,11 +1,9 @@
 -- One least configuration, and one thing that is said of it.
 use Rattle.std.proofs.Common.{◌≡◌, ◌⊎◌, inl, inr, ℕ, ◌<◌, ◌≤◌, Bool, true, false, List, [], ◌∷◌, length, refl, sym, ◌∙◌, ap, subst, arith, IsTrue}
-use Rattle.std.proofs.lemmas.Bool.{cases_lt}
-use mathlib.Core.Path.{fun_ext}
 use Rattle.text_edits.specs.Files.{PlainFile}
 use Rattle.cond_formula.specs.Features.{has}
 use Rattle.cond_formula.specs.Conditions.{Condition, value}
-use Rattle.sat_core.specs.Models.{IsLess, AreSame, IsLeastModel, HasNoModel}
+use Rattle.sat_core.specs.Models.{IsLeastModel, HasNoModel}
 use Rattle.project_file.specs.Projects.{PlainProject, names_on}
 use Rattle.project_file.specs.Faults.{Fault}
 use Rattle.project_file.specs.Laws.{Alike}
@@ -15,40 +13,13 @@ use Rattle.command_promises.proofs.Leading.{one_saying}
 use Rattle.command_promises.proofs.Fitting.{tells_fits}
 use Rattle.command_projects.specs.Faults.{bad_project}
 use Rattle.command_projects.proofs.Decided.{ProjectLaws, project_decided, project_says}
+use Rattle.command_projects.proofs.Least.{one_set}
 use Rattle.command_admit.specs.Admit.{Asks, admits, admits_nothing, OfProject, admit}
-
-apart : (a b : Bool) → a ≡ false → b ≡ true → a ≡ b → ⊥
-apart a b p q e = let f : ◌≡◌ {A = Bool} false true = sym p ∙ (e ∙ q) in absurd cc
-
--- neither is less where each is least
-not_less_both : (features : ℕ) (on other : ℕ → Bool) → IsLess features on other → IsLess features other on → ⊥
-not_less_both features on other h k =
-    elim (cases_lt h.first k.first) [
-      | inl less ↦ apart (on h.first) (other h.first) h.off h.other_on (sym (k.same_before h.first less))
-      | inr more ↦ elim (cases_lt k.first h.first) [
-        | inl less ↦ apart (other k.first) (on k.first) k.off k.other_on (sym (h.same_before k.first less))
-        | inr most ↦ let same : h.first ≡ k.first = omega (arith, more, most) in apart (other k.first) (other h.first) k.off h.other_on (ap other (sym same))
-      ]
-    ]
-
-same_or_same : (features : ℕ) (on other : ℕ → Bool) → AreSame features on other ⊎ IsLess features on other → AreSame features other on ⊎ IsLess features other on → (number : ℕ) → number < features → on number ≡ other number
-same_or_same features on other (inl h) k number less = h.same number less
-same_or_same features on other (inr h) (inl k) number less = sym (k.same number less)
-same_or_same features on other (inr h) (inr k) number less = absurd (not_less_both features on other h k)
 
 -- conditions of one value have one least model
 one_least : (features : ℕ) (x y : Condition) (a b : List Bool) → ((on : ℕ → Bool) → value on x ≡ value on y) → IsLeastModel features x a → IsLeastModel features y b → has a ≡ has b
-one_least features x y a b same h k = fun_ext (λ number. by number (cases_lt number features))
-  where
-    b_holds : IsTrue (value (has b) x)
-    b_holds = subst IsTrue (sym (same (has b))) k.holds
-
-    a_holds : IsTrue (value (has a) y)
-    a_holds = subst IsTrue (same (has a)) h.holds
-
-    by : (number : ℕ) → (number < features) ⊎ (features ≤ number) → has a number ≡ has b number
-    by number (inl less) = same_or_same features (has a) (has b) (h.least (has b) b_holds) (k.least (has a) a_holds) number less
-    by number (inr more) = h.within number more ∙ sym (k.within number more)
+one_least features x y a b same h k =
+    one_set features (has a) (has b) h.within k.within (h.least (has b) (subst IsTrue (sym (same (has b))) k.holds)) (k.least (has a) (subst IsTrue (same (has a)) h.holds))
 
 never_both : (x y : Condition) (features : ℕ) (a : List Bool) → ((on : ℕ → Bool) → value on x ≡ value on y) → IsLeastModel features x a → HasNoModel y → ⊥
 never_both x y features a same h none =

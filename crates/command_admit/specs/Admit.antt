@@ -1,24 +1,18 @@
 -- The command `admit PROJECT`: the features that are on in the least configuration that the project admits.
 use Rattle.std.specs.Prelude.{◌≡◌, ◌⊎◌, ℕ, Bool, true, false, List, [], ◌∷◌, ◌++◌, length, codes}
-use Rattle.std.specs.List.{join_by}
 use Rattle.cond_formula.specs.Features.{has}
 use Rattle.sat_core.specs.Models.{IsLeastModel, HasNoModel}
 use Rattle.project_file.specs.Projects.{PlainProject, names_on}
 use Rattle.command_promises.specs.Courses.{Saying, says, Course}
 use Rattle.command_promises.specs.Sayings.{line, tells}
 use Rattle.command_promises.specs.Commands.{Command}
-use Rattle.command_projects.specs.Names.{is_project_name}
+use Rattle.command_projects.specs.Names.{is_project_name, listed}
 use Rattle.command_projects.specs.Projects.{WithProject}
 
 -- the further words, `PROJECT`, ask for this project
 pub record Asks (further : List (List ℕ)) (project : List ℕ) : Type 0 where
   pub words_are : further ≡ project ∷ []
   pub good : is_project_name project ≡ true
-
--- names with commas between them; `-` where there are none
-abbrev pub listed : List (List ℕ) → List ℕ
-listed [] = codes "-"
-listed (first ∷ names) = join_by (λ name. name) (codes ",") (first ∷ names)
 
 abbrev pub admits : List (List ℕ) → Saying
 admits names = tells 0 (line (codes "admits " ++ listed names))

@@ -1,4 +1,4 @@
-ghost use Rattle.std.specs.Prelude.{◌≡◌, ◌≤◌, ◌++◌, length, codes, map, IfOk, IsErrOf, MatchOption};
+ghost use Rattle.std.specs.Prelude.{◌≡◌, ◌≤◌, length, map, IfOk, IsErrOf, MatchOption};
 ghost use Rattle.std.specs.String.{string_bytes};
 ghost use Rattle.cond_formula.specs.Features.{has};
 ghost use Rattle.cond_formula.specs.Conditions.{Condition, VarsBelow};
@@ -14,36 +14,12 @@ ghost use Rattle.command_promises.specs.Commands.{CourseFor};
 ghost use Rattle.command_admit.specs.Admit as spec;
 
 use crate::words::asked_project;
-use command_projects::without_project;
+use command_projects::{listed, names_on, without_project};
 use command_promises::{Said, Stop, usage};
 use cond_formula::{Config, Formula};
 use project_store::{Project, Store, read_project};
 use std::alloc::{AllocError, Global};
 use verdict_query::{Verdict, ask, equal_conditions_have_one_least_model, fewer_features_suffice};
-
-/// The names of the features that are on.
-fn names_on(alloc: Global, features: &[String], c: Config) -> Result<Vec<String>, AllocError>
-    requires { length features.now ≤ 128 }
-    ensures { IfOk result (λ names. map string_bytes names.items ≡ names_on (has c) (map string_bytes features.now)) }
-{
-    let mut names = Vec::new(alloc);
-    for (number, feature) in features.iter().enumerate() {
-        if c.has(number as u8) {
-            names.push(feature.clone()?)?;
-        }
-    }
-    Ok(names)
-}
-
-/// The names with commas between them.
-fn listed(alloc: Global, names: &[String]) -> Result<String, AllocError>
-    ensures { IfOk result (λ text. string_bytes text ≡ spec.listed (map string_bytes names.now)) }
-{
-    if names.is_empty() {
-        return String::from_str(alloc, "-");
-    }
-    names.join(alloc, ",")
-}
 
 /// The configuration is the least.
 fn admits(alloc: Global, project: &Project, c: Config) -> Result<Said, AllocError>

@@ -1,3 +1,6 @@
 pub mod Named
 pub mod Reading
 pub mod Decided
+pub mod NameLists
+pub mod Least
+pub mod Refactored

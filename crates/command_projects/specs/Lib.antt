@@ -2,3 +2,5 @@ pub mod Names
 pub mod Products
 pub mod Faults
 pub mod Projects
+pub mod Least
+pub mod Refactorings

@@ -1,6 +1,6 @@
 -- The words by which a project and a configuration of it are named.
-use Rattle.std.specs.Prelude.{◌≡◌, ℕ, Bool, not, ◌&&◌, ◌==◌, List, [], codes, if◌then◌else◌}
-use Rattle.std.specs.List.{list_all, list_any, slice_split}
+use Rattle.std.specs.Prelude.{ℕ, Bool, not, ◌&&◌, ◌==◌, List, [], ◌∷◌, codes, if◌then◌else◌}
+use Rattle.std.specs.List.{join_by, list_any, slice_split}
 use Rattle.std.specs.Str.{bytes_eq}
 use Rattle.c_names.specs.Names.{is_new_name}
 use Rattle.c_names.specs.FileNames.{is_file_name}
@@ -13,3 +13,8 @@ is_project_name w =
 -- names with commas between them, or `-` for none
 abbrev pub names_in : List ℕ → List (List ℕ)
 names_in text = if bytes_eq text (codes "-") then [] else slice_split (λ b. b == 44) text
+
+-- names with commas between them; `-` where there are none
+abbrev pub listed : List (List ℕ) → List ℕ
+listed [] = codes "-"
+listed (first ∷ names) = join_by (λ name. name) (codes ",") (first ∷ names)

@@ -521,7 +521,7 @@ fn turn<'t, O: Oracle>(
     rest: &[Guarded<Item<'t>>],
 ) -> Result<(), NoMemory>
     ensures kept { O.admits oracle.new ≡ O.admits oracle.old }
-    ensures read { OnOk result ((exact : Bool) (c : List Bool) (becomes : Option (List spec.Item)) → IsTrue (value (has c) (O.admits oracle.old)) → IsTrue (is_within c level.now) → (exact ≡ true → IsOwn entry.now.what) → ListBecomes exact (macros_in c level.now) (deeper_in c level.now) (active_in level.now) (run_at exact (has c) run.old) (if value (has c) (condition_of entry.now.when) then item_at (has c) entry.now.what ∷ items_at (has c) rest.now else items_at (has c) rest.now) becomes → Reads exact (macros_in c level.now) (deeper_in c level.now) (active_in level.now) (run_at exact (has c) run.new) (items_at (has c) rest.now) becomes) }
+    ensures read { OnOk result ((exact : Bool) (c : List Bool) (becomes : Option (List spec.Item)) → IsTrue (value (has c) (O.admits oracle.old)) → IsTrue (is_within c level.now) → (exact ≡ true → IsOwn entry.now.what) → ListBecomes exact (macros_in c level.now) (deeper_in c level.now) (active_in level.now) (run_at exact (has c) run.old) (if value (has c) (condition_of entry.now.when) then item_at (has c) entry.now.what ∷ items_at (has c) rest.now else items_at (has c) rest.now) becomes → ListBecomes exact (macros_in c level.now) (deeper_in c level.now) (active_in level.now) (run_at exact (has c) run.new) (items_at (has c) rest.now) becomes) }
 {
     let outside = inside_turn(level, oracle, run, entry)?;
     outside_turn(level, oracle, run, outside, &entry.what, rest)?;

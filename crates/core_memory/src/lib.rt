@@ -9,6 +9,6 @@ mod pointers;
 mod texts;
 
 pub use memory::{Memory, Object};
-pub use operations::{changed, converted, scalar_in_type, operated};
+pub use operations::{changed, converted, operated, scalar_in_type};
 pub use pointers::{Indices, element, first_element};
 pub use texts::{byte_of, text_at};

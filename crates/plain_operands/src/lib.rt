@@ -16,7 +16,7 @@ pub use choices::{chosen, condition_value};
 pub use elements::indexed;
 pub use members::selected;
 pub use operands::{
-    Designation, Operand, Typed, fits_into, fitted, number_in_type, loaded, of_object, of_value,
+    Designation, Operand, Typed, fits_into, fitted, loaded, number_in_type, of_object, of_value,
     typed_value,
 };
 pub use operators::{combined, logical};

@@ -12,7 +12,9 @@ use crate::readings::Reading;
 use crate::walk::Walker;
 use c_lexer::lex;
 use std::alloc::Global;
-use unit_files::{Source, Sources, Surroundings, its_lines, source_number, sources_are_walked, sources_break};
+use unit_files::{
+    Source, Sources, Surroundings, its_lines, source_number, sources_are_walked, sources_break,
+};
 
 /// What the reading of a source stands on, where so many files more may be nested.
 fn place_of<'a>(sources: &Sources<'a>, source: Source, more: u32) -> Surroundings<'a>

@@ -25,7 +25,10 @@ use cond_formula::NoMemory;
 use plain_macros::{Replacement, replaced};
 use std::alloc::Global;
 use text_edits::Span;
-use unit_files::{PpKind, Refusal, Role, Source, Surroundings, behind, earlier, refusal_at, refused_ignored, refused_in_run, role_of};
+use unit_files::{
+    PpKind, Refusal, Role, Source, Surroundings, behind, earlier, refusal_at, refused_ignored,
+    refused_in_run, role_of,
+};
 
 /// Where a walk over the lines of a file stands.
 #[derive(Drop)]

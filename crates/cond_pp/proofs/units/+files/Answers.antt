@@ -41,13 +41,13 @@ read_source-loop-line-init g t c =
       refl,
       λ on. fits-none on (condition_of w.entered) (groups_of w.groups) c.new-walker.ensures.groups,
       λ k s x adm are syntax.
-          file-starts c.sources_are_walked.ensures c.args.sources.now s x are syntax c.args.source c.requires.there c.args.more c.number_of-file.result c.text_of-text.result.now c.in_ok-all.all.items c.as_slice.result.now c.its_lines-lines.result.now
-          c.number_of-file.ensures (c.text_of-text.ensures.value s are) c.in_ok-all.ensures c.as_slice.ensures.value c.its_lines-lines.ensures
+          file-starts c.sources_are_walked.ensures c.args.sources.now s x are syntax c.args.source c.requires.there c.args.more c.source_number-file.result c.text_of-text.result.now c.in_ok-all.all.items c.as_slice.result.now c.its_lines-lines.result.now
+          c.source_number-file.ensures (c.text_of-text.ensures.value s are) c.in_ok-all.ensures c.as_slice.ensures.value c.its_lines-lines.ensures
           (has k) w c.args.when (reading_at (has k) (map string_bytes c.args.sources.now.features.now) c.args.reading.now) c.new-walker.ensures.entered c.new-walker.ensures.run c.new-walker.ensures.groups,
       refl,
       λ k s x are misplaced adm are_sources are_misplaced.
-          file-starts-reads c.source_reads_are_walked.ensures c.reads_are_tested.ensures.by_token c.args.sources.now s x are_sources are misplaced are_misplaced c.args.source c.requires.there c.args.more c.number_of-file.result c.text_of-text.result.now c.in_ok-all.all.items c.as_slice.result.now c.its_lines-lines.result.now
-          c.number_of-file.ensures (c.text_of-text.ensures.value s are_sources) c.in_ok-all.ensures c.as_slice.ensures.value c.its_lines-lines.ensures
+          file-starts-reads c.source_reads_are_walked.ensures c.reads_are_tested.ensures.by_token c.args.sources.now s x are_sources are misplaced are_misplaced c.args.source c.requires.there c.args.more c.source_number-file.result c.text_of-text.result.now c.in_ok-all.all.items c.as_slice.result.now c.its_lines-lines.result.now
+          c.source_number-file.ensures (c.text_of-text.ensures.value s are_sources) c.in_ok-all.ensures c.as_slice.ensures.value c.its_lines-lines.ensures
           (has k) w c.args.when (reading_at (has k) (map string_bytes c.args.sources.now.features.now) c.args.reading.now) (option_map plain_sought c.args.watch.now.sought) (value (has k) (condition_of c.args.watch.now.found)) c.new-walker.ensures.entered c.new-walker.ensures.run c.new-walker.ensures.groups,
     )
 

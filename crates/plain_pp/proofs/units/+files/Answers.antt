@@ -29,7 +29,7 @@ read_source-loop-line-init t c =
     λ s x are syn.
     let files = c.args.sources.now.files.now in
     let there = subst (λ (n : ℕ). IsAmong n c.args.source) (sym (length-map files plain_file) ∙ ap (λ (fs : List PlainFile). length fs) (sym are.files)) c.requires.there in
-    starts-at c.sources_are_walked.ensures c.sources_break.ensures s x syn c.args.source there c.args.more c.number_of-file.result c.text_of-text.result.now (map plain_line c.as_slice.result.now) (map plain_line c.its_lines-lines.result.now) (plain_reading c.args.reading.now) (plain_walk (plain_reading c.args.reading.now) c.new-walker.result) c.number_of-file.ensures (c.text_of-text.ensures.value s are) (subst (λ (ls : List Line). AreItsLines c.number_of-file.result c.text_of-text.result.now (map plain_line ls)) (sym c.as_slice.ensures.value) c.in_ok-all.ensures) c.its_lines-lines.ensures refl (ap (λ ts. map (λ t. plain_token t.now) ts) c.new-walker.ensures.run) c.new-walker.ensures.groups
+    starts-at c.sources_are_walked.ensures c.sources_break.ensures s x syn c.args.source there c.args.more c.source_number-file.result c.text_of-text.result.now (map plain_line c.as_slice.result.now) (map plain_line c.its_lines-lines.result.now) (plain_reading c.args.reading.now) (plain_walk (plain_reading c.args.reading.now) c.new-walker.result) c.source_number-file.ensures (c.text_of-text.ensures.value s are) (subst (λ (ls : List Line). AreItsLines c.source_number-file.result c.text_of-text.result.now (map plain_line ls)) (sym c.as_slice.ensures.value) c.in_ok-all.ensures) c.its_lines-lines.ensures refl (ap (λ ts. map (λ t. plain_token t.now) ts) c.new-walker.ensures.run) c.new-walker.ensures.groups
 
 pub read_source-returns-in_err-found : goal.read_source-returns-in_err-found
 read_source-returns-in_err-found t c =
@@ -39,8 +39,8 @@ read_source-returns-in_err-found t c =
     let rest = map plain_line (drop (c.loop-line.line-index + 1) c.its_lines-lines.result.now) in
     let line = plain_line c.line-item.result in
     let flow = spec.read_source s x c.args.more (plain_source c.args.source) (plain_reading c.args.reading.now) in
-    let stands = stands-at plain_line st c.number_of-file.result (length c.text_of-text.result.now) w c.its_lines-lines.result.now c.loop-line.line-index c.line-item.result flow c.loop-line-test.true c.line-item.is (c.loop-line.invariant s x are syn) in
-    let says = says-stops st c.number_of-file.result (length c.text_of-text.result.now) w line rest flow c.in_err-found.field-0.0 stands (c.in_err-found.ensures.step st (c.place_of-place.ensures.setting s x are syn) (walk-breaks st c.number_of-file.result (length c.text_of-text.result.now) w line rest flow stands)) in
+    let stands = stands-at plain_line st c.source_number-file.result (length c.text_of-text.result.now) w c.its_lines-lines.result.now c.loop-line.line-index c.line-item.result flow c.loop-line-test.true c.line-item.is (c.loop-line.invariant s x are syn) in
+    let says = says-stops st c.source_number-file.result (length c.text_of-text.result.now) w line rest flow c.in_err-found.field-0.0 stands (c.in_err-found.ensures.step st (c.place_of-place.ensures.setting s x are syn) (walk-breaks st c.source_number-file.result (length c.text_of-text.result.now) w line rest flow stands)) in
     follows-err c.from_residual-in_err-found.result c.in_err-found.field-0.0 flow (plain_reading c.read_line.new.reading) c.from_residual-in_err-found.ensures.1 says
 
 pub read_source-returns-in_err-enter : goal.read_source-returns-in_err-enter
@@ -52,9 +52,9 @@ read_source-returns-in_err-enter t c =
     let rest = map plain_line (drop (c.loop-line.line-index + 1) c.its_lines-lines.result.now) in
     let line = plain_line c.line-item.result in
     let flow = spec.read_source s x c.args.more (plain_source c.args.source) (plain_reading c.args.reading.now) in
-    let stands = stands-at plain_line st c.number_of-file.result (length c.text_of-text.result.now) w c.its_lines-lines.result.now c.loop-line.line-index c.line-item.result flow c.loop-line-test.true c.line-item.is (c.loop-line.invariant s x are syn) in
-    let walked = c.in_ok-found.ensures.step st (c.place_of-place.ensures.setting s x are syn) (walk-breaks st c.number_of-file.result (length c.text_of-text.result.now) w line rest flow stands) in
-    let says = says-inner st c.number_of-file.result (length c.text_of-text.result.now) w v line rest flow (option_map plain_source c.in_ok-found.found) c.in_err-enter.field-0.0 stands walked (c.in_err-enter.ensures s x are syn) in
+    let stands = stands-at plain_line st c.source_number-file.result (length c.text_of-text.result.now) w c.its_lines-lines.result.now c.loop-line.line-index c.line-item.result flow c.loop-line-test.true c.line-item.is (c.loop-line.invariant s x are syn) in
+    let walked = c.in_ok-found.ensures.step st (c.place_of-place.ensures.setting s x are syn) (walk-breaks st c.source_number-file.result (length c.text_of-text.result.now) w line rest flow stands) in
+    let says = says-inner st c.source_number-file.result (length c.text_of-text.result.now) w v line rest flow (option_map plain_source c.in_ok-found.found) c.in_err-enter.field-0.0 stands walked (c.in_err-enter.ensures s x are syn) in
     follows-err c.from_residual-in_err-enter.result c.in_err-enter.field-0.0 flow (plain_reading c.enter.new.reading) c.from_residual-in_err-enter.ensures.1 says
 
 pub read_source-loop-line-preserved : goal.read_source-loop-line-preserved
@@ -66,9 +66,9 @@ read_source-loop-line-preserved t c =
     let rest = map plain_line (drop (c.loop-line.line-index + 1) c.its_lines-lines.result.now) in
     let line = plain_line c.line-item.result in
     let flow = spec.read_source s x c.args.more (plain_source c.args.source) (plain_reading c.args.reading.now) in
-    let stands = stands-at plain_line st c.number_of-file.result (length c.text_of-text.result.now) w c.its_lines-lines.result.now c.loop-line.line-index c.line-item.result flow c.loop-line-test.true c.line-item.is (c.loop-line.invariant s x are syn) in
-    let walked = c.in_ok-found.ensures.step st (c.place_of-place.ensures.setting s x are syn) (walk-breaks st c.number_of-file.result (length c.text_of-text.result.now) w line rest flow stands) in
-    walk-goes st c.number_of-file.result (length c.text_of-text.result.now) w v line rest flow (option_map plain_source c.in_ok-found.found) (plain_reading c.enter.new.reading) stands c.in_ok-found.ensures.moved walked (c.in_ok-enter.ensures s x are syn)
+    let stands = stands-at plain_line st c.source_number-file.result (length c.text_of-text.result.now) w c.its_lines-lines.result.now c.loop-line.line-index c.line-item.result flow c.loop-line-test.true c.line-item.is (c.loop-line.invariant s x are syn) in
+    let walked = c.in_ok-found.ensures.step st (c.place_of-place.ensures.setting s x are syn) (walk-breaks st c.source_number-file.result (length c.text_of-text.result.now) w line rest flow stands) in
+    walk-goes st c.source_number-file.result (length c.text_of-text.result.now) w v line rest flow (option_map plain_source c.in_ok-found.found) (plain_reading c.enter.new.reading) stands c.in_ok-found.ensures.moved walked (c.in_ok-enter.ensures s x are syn)
 
 pub read_source-returns : goal.read_source-returns
 read_source-returns t c =
@@ -76,5 +76,5 @@ read_source-returns t c =
     let st = spec.setting s x (plain_source c.args.source) (deeper_of s x c.args.more) in
     let w = plain_walk (plain_reading c.loop-line.reading) c.loop-line.walker in
     let flow = spec.read_source s x c.args.more (plain_source c.args.source) (plain_reading c.args.reading.now) in
-    let stands = stands-end plain_line st c.number_of-file.result (length c.text_of-text.result.now) w c.its_lines-lines.result.now c.loop-line.line-index flow (omega arith) (c.loop-line.invariant s x are syn) in
-    subst (λ (f : Flow). Follows c.finish.result f (plain_reading c.finish.new.reading)) (walk-ends st c.number_of-file.result (length c.text_of-text.result.now) w flow stands) (c.finish.ensures st (λ some. walk-end_breaks st c.number_of-file.result (length c.text_of-text.result.now) w flow stands))
+    let stands = stands-end plain_line st c.source_number-file.result (length c.text_of-text.result.now) w c.its_lines-lines.result.now c.loop-line.line-index flow (omega arith) (c.loop-line.invariant s x are syn) in
+    subst (λ (f : Flow). Follows c.finish.result f (plain_reading c.finish.new.reading)) (walk-ends st c.source_number-file.result (length c.text_of-text.result.now) w flow stands) (c.finish.ensures st (λ some. walk-end_breaks st c.source_number-file.result (length c.text_of-text.result.now) w flow stands))

@@ -6,7 +6,7 @@ use Rattle.refute_check.specs.Refutations.{IsRefutation}
 use Rattle.clause_search.specs.declared.answers.Step.{Step}
 use Rattle.clause_search.specs.declared.answers.Found.{Found}
 use Rattle.clause_search.specs.declared.answers.Found.TheVariants.{Least, Refuted}
-use Rattle.clause_search.specs.Answers.{literals_of, steps_of, IsAnswer}
+use Rattle.clause_search.specs.Answers.{literals_of, steps_of, IsFound}
 use Rattle.clause_search.specs.Least.{IsLeast}
 use Rattle.sat_core.specs.Answers.{Refutes}
 use Rattle.sat_core.specs.Translations.{IsTranslation, NoModelLaw}
@@ -14,13 +14,13 @@ use Rattle.sat_core.proofs.LeastLaws.{features_within, least_model}
 use Rattle.sat_core.proofs.solver.solved.Goals as goal
 
 -- what the search answers, for clauses that were passed as a slice
-found_least : (vars : ℕ) (clauses slice : List (Vec ℤ Global)) (found : Found) (values : Vec Bool Global) → slice ≡ clauses → found ≡ Least values → IsAnswer vars (literals_of slice) found → IsLeast vars (literals_of clauses) values.items
+found_least : (vars : ℕ) (clauses slice : List (Vec ℤ Global)) (found : Found) (values : Vec Bool Global) → slice ≡ clauses → found ≡ Least values → IsFound vars (literals_of slice) found → IsLeast vars (literals_of clauses) values.items
 found_least vars clauses slice found values same is answer =
-    subst (λ (all : List (Vec ℤ Global)). IsLeast vars (literals_of all) values.items) same (subst (IsAnswer vars (literals_of slice)) is answer)
+    subst (λ (all : List (Vec ℤ Global)). IsLeast vars (literals_of all) values.items) same (subst (IsFound vars (literals_of slice)) is answer)
 
-refutes : (features : ℕ) (condition : Condition) (vars : ℕ) (clauses slice : List (Vec ℤ Global)) (found : Found) (steps : Vec Step Global) → NoModelLaw → VarsBelow features condition → IsTranslation features condition vars (literals_of clauses) → slice ≡ clauses → found ≡ Refuted steps → IsAnswer vars (literals_of slice) found → Refutes features condition vars (literals_of clauses) (steps_of steps.items)
+refutes : (features : ℕ) (condition : Condition) (vars : ℕ) (clauses slice : List (Vec ℤ Global)) (found : Found) (steps : Vec Step Global) → NoModelLaw → VarsBelow features condition → IsTranslation features condition vars (literals_of clauses) → slice ≡ clauses → found ≡ Refuted steps → IsFound vars (literals_of slice) found → Refutes features condition vars (literals_of clauses) (steps_of steps.items)
 refutes features condition vars clauses slice found steps law below translation same is answer =
-    let refutation : IsRefutation vars (literals_of clauses) (steps_of steps.items) = subst (λ (all : List (Vec ℤ Global)). IsRefutation vars (literals_of all) (steps_of steps.items)) same (subst (IsAnswer vars (literals_of slice)) is answer) in
+    let refutation : IsRefutation vars (literals_of clauses) (steps_of steps.items) = subst (λ (all : List (Vec ℤ Global)). IsRefutation vars (literals_of all) (steps_of steps.items)) same (subst (IsFound vars (literals_of slice)) is answer) in
     record {
       translation = translation;
       refutation = refutation;

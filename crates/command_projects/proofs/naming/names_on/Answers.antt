@@ -2,9 +2,9 @@ use Rattle.std.proofs.Common.{◌∙◌, ◌++◌, ◌+◌, sym, ap, map, drop, 
 use Rattle.std.specs.String.{string_bytes}
 use Rattle.cond_formula.specs.Features.{has}
 use Rattle.project_file.specs.Projects.{names_from}
-use Rattle.command_admit.proofs.Names.{one_more, none_more, at_end}
-use Rattle.command_admit.proofs.least.names_on.Goals.{then-has+in_ok-clone+in_ok-push, else-has}
-use Rattle.command_admit.proofs.least.names_on.Goals as goal
+use Rattle.command_projects.proofs.NameLists.{one_more, none_more, at_end}
+use Rattle.command_projects.proofs.naming.names_on.Goals.{then-has+in_ok-clone+in_ok-push, else-has}
+use Rattle.command_projects.proofs.naming.names_on.Goals as goal
 
 pub loop-number-preserved : goal.loop-number-preserved
 loop-number-preserved c =

@@ -4,7 +4,7 @@ use Rattle.std.specs.String.{string_bytes}
 use Rattle.std.specs.declared.alloc.AllocError.{AllocError}
 use Rattle.std.specs.List.{join_by, flat_map}
 use Rattle.std.proofs.lemmas.List.{drop_more, drop_all, map-append, append_assoc, append-nil}
-use Rattle.command_admit.specs.Admit.{listed}
+use Rattle.command_projects.specs.Names.{listed}
 use Rattle.project_file.specs.Projects.{names_from}
 
 module _ (on : ℕ → Bool) where
