@@ -252,8 +252,7 @@ pub fn count(
     ensures { Judges (spec.judged_count (plain_scope scope.now) (plain_tree tree.now) (plain_token behind.now)) (λ n. n) used.old used.new result }
 {
     let x = valued(alloc, scope, used, tree)?;
-    let n = counted(&x, first_token(tree, behind))?;
-    Ok(n)
+    counted(&x, first_token(tree, behind))
 }
 
 fn counted(x: &Typed, first: &Token) -> Result<u32, ElabError>

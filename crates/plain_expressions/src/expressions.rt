@@ -45,8 +45,7 @@ pub fn valued(
     ensures { Judges (spec.valued (plain_scope scope.now) (plain_tree tree.now)) plain_typed used.old used.new result }
 {
     let operand = judged(alloc, scope, used, tree)?;
-    let x = loaded(alloc, scope, operand)?;
-    Ok(x)
+    loaded(alloc, scope, operand)
 }
 
 /// A condition, which is a scalar.
@@ -61,8 +60,7 @@ pub fn condition(
     ensures { Judges (spec.judged_condition (plain_scope scope.now) (plain_tree tree.now) (plain_token behind.now)) boxed_expression used.old used.new result }
 {
     let operand = judged(alloc, scope, used, tree)?;
-    let value = condition_value(alloc, scope, operand, first_token(tree, behind))?;
-    Ok(value)
+    condition_value(alloc, scope, operand, first_token(tree, behind))
 }
 
 /// The object that an assignment writes to.
@@ -94,14 +92,13 @@ fn passed(
     ensures { Judges (passed_argument (plain_scope scope.now) (plain_type ty.now) (plain_tree tree.now) (plain_token bracket.now)) boxed_expression used.old used.new result }
 {
     let x = valued(alloc, scope, used, tree)?;
-    let core = fitted(
+    fitted(
         alloc,
         ty,
         x,
         TypeKind::BadOperand,
         first_token(tree, bracket),
-    )?;
-    Ok(core)
+    )
 }
 
 // ---- operators with one operand
@@ -135,8 +132,7 @@ fn on_operand<'t>(
     ensures { Judges (on_operand (plain_scope scope.now) kind (plain_token sign.now) (plain_tree inner.now)) plain_operand used.old used.new result }
 {
     let operand = judged(alloc, scope, used, inner)?;
-    let x = operated(alloc, scope, kind, sign, operand)?;
-    Ok(x)
+    operated(alloc, scope, kind, sign, operand)
 }
 
 #[cycle(judge)]
@@ -178,8 +174,7 @@ fn cast<'t>(
 {
     let words = words_of(words)?;
     let x = valued(alloc, scope, used, inner)?;
-    let done = cast_to(alloc, bracket, x, arithmetic_words(words))?;
-    Ok(done)
+    cast_to(alloc, bracket, x, arithmetic_words(words))
 }
 
 // ---- operators with more operands
@@ -239,8 +234,7 @@ fn on_two<'t>(
     ensures { Judges (on_two (plain_scope scope.now) kind (plain_token sign.now) (plain_trees parts.now)) plain_operand used.old used.new result }
 {
     let two = two_values(alloc, scope, used, parts)?;
-    let x = joined(alloc, scope, kind, sign, two)?;
-    Ok(x)
+    joined(alloc, scope, kind, sign, two)
 }
 
 #[cycle(judge)]
@@ -258,8 +252,7 @@ fn assigned<'t>(
     };
     let left = written(alloc, scope, used, first, sign)?;
     let right = valued(alloc, scope, used, second)?;
-    let x = assignment(alloc, scope, sign, left, right)?;
-    Ok(x)
+    assignment(alloc, scope, sign, left, right)
 }
 
 #[cycle(judge)]
@@ -278,8 +271,7 @@ fn conditional<'t>(
     let tested = condition(alloc, scope, used, first, question)?;
     let a = valued(alloc, scope, used, second)?;
     let b = valued(alloc, scope, used, third)?;
-    let x = chosen(alloc, question, tested, a, b)?;
-    Ok(x)
+    chosen(alloc, question, tested, a, b)
 }
 
 // ---- calls
@@ -573,10 +565,7 @@ pub fn judged<'t>(
     match tree {
         Tree::Leaf(token) => single_operand(alloc, scope, used, token),
         Tree::Node(kind, parts) => match kind {
-            Kind::Texts => {
-                let x = text_operand(alloc, scope, parts)?;
-                Ok(x)
-            }
+            Kind::Texts => text_operand(alloc, scope, parts),
             Kind::PostfixStep | Kind::PrefixStep | Kind::Prefix => node_of_two(
                 alloc, scope, used, *kind, parts,
             ),

@@ -129,14 +129,8 @@ pub fn single_operand<'t>(
 {
     match terminal(token) {
         Terminal::Name => name_operand(alloc, scope, used, token),
-        Terminal::Number => {
-            let x = number_operand(alloc, token)?;
-            Ok(x)
-        }
-        Terminal::Character => {
-            let x = character_operand(alloc, token)?;
-            Ok(x)
-        }
+        Terminal::Number => number_operand(alloc, token),
+        Terminal::Character => character_operand(alloc, token),
         _ => Err(ElabError::Memory),
     }
 }
