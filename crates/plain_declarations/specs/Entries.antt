@@ -77,10 +77,14 @@ array_of_text element count path parts first bytes holds is = rw holds (rw is (b
 pub array_of_text_refused : (element : PlainType) (count : ℕ) (path : Path) (parts : PlainTrees) (first : PlainToken) → is_character_type element ≡ false → array_from_text element count path parts first ≡ refused BadOperand first
 array_of_text_refused element count path parts first holds = rw holds refl
 
+-- a test doesn't fail and hold
+none_such : {A : Type 0} → false ≡ true → A
+none_such h = cc
+
 pub characters_are_integers : (ty : PlainType) → is_character_type ty ≡ true → is_integer ty ≡ true
 characters_are_integers char is = refl
 characters_are_integers unsigned_char is = refl
-characters_are_integers other is = cc
+characters_are_integers other is = none_such is
 
 abbrev pub value_at : Path → PlainExpression → PlainToken → Initial
 value_at path e first = record { path = path; value = e; first = first }
@@ -126,14 +130,18 @@ refused_value scope tree first = do
   x ← valued scope tree
   refused BadOperand first
 
+-- what isn't there is nothing
+no_entries : {A : Type 0} {entries : PlainTrees} → None ≡ Some entries → A
+no_entries h = cc
+
 pub initial_braces : (scope : Scope) (globals : Option ℕ) (ty : PlainType) (path : Path) (parts entries : PlainTrees) (behind : PlainToken) → braced parts ≡ Some entries → initial scope globals ty path (node k.Braces parts) behind ≡ initial_entries scope globals ty path 0 entries behind
 initial_braces scope globals ty path (more brace (more (node kind inner) (more last none))) given behind is =
     let e : inner ≡ given = cc in ap (λ l. initial_entries scope globals ty path 0 l behind) e
-initial_braces scope globals ty path none given behind is = cc
-initial_braces scope globals ty path (more brace none) given behind is = cc
-initial_braces scope globals ty path (more brace (more (leaf token) rest)) given behind is = cc
-initial_braces scope globals ty path (more brace (more (node kind inner) none)) given behind is = cc
-initial_braces scope globals ty path (more brace (more (node kind inner) (more last (more other rest)))) given behind is = cc
+initial_braces scope globals ty path none given behind is = no_entries is
+initial_braces scope globals ty path (more brace none) given behind is = no_entries is
+initial_braces scope globals ty path (more brace (more (leaf token) rest)) given behind is = no_entries is
+initial_braces scope globals ty path (more brace (more (node kind inner) none)) given behind is = no_entries is
+initial_braces scope globals ty path (more brace (more (node kind inner) (more last (more other rest)))) given behind is = no_entries is
 
 -- behind the part that an initialiser is for
 pub part_gives : {B : Type 0} (scope : Scope) (globals : Option ℕ) (found : Option PlainType) (tree : PlainTree) (first : PlainToken) (next : PlainType → Checked B) (x : PlainType) (y : B) (before after : List ℕ → Bool) → found ≡ Some x → Gives (next x) y before after → Gives (part_or_excess scope globals found tree first >>= next) y before after
@@ -163,11 +171,11 @@ excess_given c first x before after g = sym (ap (kind_of_excess first) g.judged)
 -- a list in braces is no expression
 pub no_value_in_braces : (scope : Scope) (first : PlainToken) (parts entries : PlainTrees) → braced parts ≡ Some entries → BadConstant ≡ kind_of_excess first (valued scope (node k.Braces parts))
 no_value_in_braces scope first (more brace (more (node kind entries) (more last none))) given is = refl
-no_value_in_braces scope first none given is = cc
-no_value_in_braces scope first (more brace none) given is = cc
-no_value_in_braces scope first (more brace (more (leaf token) rest)) given is = cc
-no_value_in_braces scope first (more brace (more (node kind entries) none)) given is = cc
-no_value_in_braces scope first (more brace (more (node kind entries) (more last (more other rest)))) given is = cc
+no_value_in_braces scope first none given is = no_entries is
+no_value_in_braces scope first (more brace none) given is = no_entries is
+no_value_in_braces scope first (more brace (more (leaf token) rest)) given is = no_entries is
+no_value_in_braces scope first (more brace (more (node kind entries) none)) given is = no_entries is
+no_value_in_braces scope first (more brace (more (node kind entries) (more last (more other rest)))) given is = no_entries is
 
 pub braces_judged : (scope : Scope) (first : PlainToken) (parts : PlainTrees) (tree : PlainTree) (result : Result TypeKind ElabError) → tree ≡ node k.Braces parts → MatchResult result (λ kind. (s : Scope) (f : PlainToken) → kind ≡ kind_of_excess f (valued s (node k.Braces parts))) (λ error. error ≡ Memory) → MatchResult result (λ kind. kind ≡ kind_of_excess first (valued scope tree)) (λ error. error ≡ Memory)
 braces_judged scope first parts tree (Ok kind) is given = given scope first ∙ ap (λ (t : PlainTree). kind_of_excess first (valued scope t)) (sym is)
@@ -180,8 +188,8 @@ is_listed (node k.Texts parts) = true
 is_listed other = false
 
 initial_whole : (scope : Scope) (globals : Option ℕ) (ty : PlainType) (path : Path) (tree : PlainTree) (behind : PlainToken) → is_listed tree ≡ false → initial scope globals ty path tree behind ≡ whole_initial scope globals ty path tree (first_token tree behind)
-initial_whole scope globals ty path (node k.Braces parts) behind is = cc
-initial_whole scope globals ty path (node k.Texts parts) behind is = cc
+initial_whole scope globals ty path (node k.Braces parts) behind is = none_such (sym is)
+initial_whole scope globals ty path (node k.Texts parts) behind is = none_such (sym is)
 initial_whole scope globals ty path other behind is = refl
 
 pub whole_gives : (scope : Scope) (globals : Option ℕ) (ty : PlainType) (path : Path) (tree : PlainTree) (first behind : PlainToken) (parts : List Initial) (before after : List ℕ → Bool) → is_listed tree ≡ false → first ≡ first_token tree behind → Gives (whole_initial scope globals ty path tree first) parts before after → Gives (initial scope globals ty path tree behind) parts before after
