@@ -1,6 +1,6 @@
 -- Answers of judgements, from those of other ones.
 use Rattle.std.proofs.Common.{◌≡◌, ℕ, Bool, List, map, refl, sym, ap, subst}
-use Rattle.std.specs.Prelude.{None, Result, Ok, Err, Vec}
+use Rattle.std.specs.Prelude.{Box, None, Result, Ok, Err, Vec}
 use Rattle.std.specs.declared.alloc.Global.{Global}
 use Rattle.c_types.specs.Types.{PlainType, plain_type}
 use Rattle.c_types.specs.declared.types.CType.{CType}
@@ -20,9 +20,9 @@ use Rattle.plain_scope.specs.JudgementLaws.{gives_nothing_used, refused_first}
 use Rattle.plain_declarators.specs.Sequences.{gives_of, gives_as, refused_of}
 use Rattle.core_meaning.specs.declared.statements.Item.{Item}
 use Rattle.core_meaning.specs.declared.statements.Statement.{Statement}
-use Rattle.core_meaning.specs.Plain.{plain_item, plain_statement}
+use Rattle.core_meaning.specs.Plain.{plain_item}
 use Rattle.plain_statements.specs.Blocks.{put}
-use Rattle.plain_statements.specs.PlainJudged.{plain_item_of, plain_judged}
+use Rattle.plain_statements.specs.PlainJudged.{boxed_statement, plain_item_of, plain_judged}
 use Rattle.plain_statements.specs.Steps.{block_of, keeping, JudgedItem, declaration_in, started_item, begun_by, begun_for}
 
 -- ---- answers
@@ -32,8 +32,8 @@ pub judges_as : {A X : Type 0} (c d : Checked A) (plain : X → A) (before after
 judges_as c d plain before after result is = subst (λ (e : Checked _). Judges e plain before after result) (sym is)
 
 -- a statement that takes no slots
-pub keeping_judges : (c : Checked PlainStatement) (slots : List CType) (before after : Used) (result : Result Statement ElabError) → Judges c plain_statement before after result → Judges (keeping (map plain_type slots) c) (plain_judged slots) before after result
-keeping_judges c slots before after (Ok x) g = gives_as c (λ core. give (judged_as (map plain_type slots) core)) (plain_statement x) (plain_judged slots x) (uses_of before) (uses_of after) g refl
+pub keeping_judges : (c : Checked PlainStatement) (slots : List CType) (before after : Used) (result : Result (Box Statement Global) ElabError) → Judges c boxed_statement before after result → Judges (keeping (map plain_type slots) c) (plain_judged slots) before after result
+keeping_judges c slots before after (Ok x) g = gives_as c (λ core. give (judged_as (map plain_type slots) core)) (boxed_statement x) (plain_judged slots x) (uses_of before) (uses_of after) g refl
 keeping_judges c slots before after (Err error) r = refused_first c (λ core. give (judged_as (map plain_type slots) core)) error r
 
 -- what a `for` begins with where that is an expression

@@ -116,14 +116,14 @@ for_by_start around slots word bracket (node other parts) condition end step clo
 pub two_parts : (parts : List Tree) (b : Tree) → 2 ≤ length parts → length parts < 3 → b ≡ get_or parts 1 b → plain_trees parts ≡ more (plain_tree (get_or parts 0 b)) (more (plain_tree b) none)
 two_parts [] b l h p = absurd (omega arith)
 two_parts (x ∷ []) b l h p = absurd (omega arith)
-two_parts (x ∷ y ∷ []) b l h p = cc
+two_parts (x ∷ y ∷ []) b l h p = let e : b ≡ y = p in rw e refl
 two_parts (x ∷ y ∷ z ∷ rest) b l h p = absurd (omega arith)
 
 pub three_parts : (parts : List Tree) (b : Tree) → 3 ≤ length parts → length parts < 4 → b ≡ get_or parts 1 b → plain_trees parts ≡ more (plain_tree (get_or parts 0 b)) (more (plain_tree b) (more (plain_tree (get_or parts 2 b)) none))
 three_parts [] b l h p = absurd (omega arith)
 three_parts (x ∷ []) b l h p = absurd (omega arith)
 three_parts (x ∷ y ∷ []) b l h p = absurd (omega arith)
-three_parts (x ∷ y ∷ z ∷ []) b l h p = cc
+three_parts (x ∷ y ∷ z ∷ []) b l h p = let e : b ≡ y = p in rw e refl
 three_parts (x ∷ y ∷ z ∷ u ∷ rest) b l h p = absurd (omega arith)
 
 pub five_parts : (parts : List Tree) (a b c : Tree) → 5 ≤ length parts → length parts < 6 → a ≡ get_or parts 2 a → b ≡ get_or parts 3 b → c ≡ get_or parts 4 c → plain_trees parts ≡ more (plain_tree (get_or parts 0 a)) (more (plain_tree (get_or parts 1 a)) (more (plain_tree a) (more (plain_tree b) (more (plain_tree c) none))))
@@ -132,7 +132,7 @@ five_parts (x ∷ []) a b c l h p q r = absurd (omega arith)
 five_parts (x ∷ y ∷ []) a b c l h p q r = absurd (omega arith)
 five_parts (x ∷ y ∷ z ∷ []) a b c l h p q r = absurd (omega arith)
 five_parts (x ∷ y ∷ z ∷ u ∷ []) a b c l h p q r = absurd (omega arith)
-five_parts (x ∷ y ∷ z ∷ u ∷ v ∷ []) a b c l h p q r = cc
+five_parts (x ∷ y ∷ z ∷ u ∷ v ∷ []) a b c l h p q r = let e : a ≡ z = p in let f : b ≡ u = q in let g : c ≡ v = r in rw (e, f, g) refl
 five_parts (x ∷ y ∷ z ∷ u ∷ v ∷ w ∷ rest) a b c l h p q r = absurd (omega arith)
 
 pub six_parts : (parts : List Tree) (a b c d : Tree) → 6 ≤ length parts → length parts < 7 → a ≡ get_or parts 2 a → b ≡ get_or parts 3 b → c ≡ get_or parts 4 c → d ≡ get_or parts 5 d → plain_trees parts ≡ more (plain_tree (get_or parts 0 a)) (more (plain_tree (get_or parts 1 a)) (more (plain_tree a) (more (plain_tree b) (more (plain_tree c) (more (plain_tree d) none)))))
@@ -142,7 +142,7 @@ six_parts (x ∷ y ∷ []) a b c d l h p q r s = absurd (omega arith)
 six_parts (x ∷ y ∷ z ∷ []) a b c d l h p q r s = absurd (omega arith)
 six_parts (x ∷ y ∷ z ∷ u ∷ []) a b c d l h p q r s = absurd (omega arith)
 six_parts (x ∷ y ∷ z ∷ u ∷ v ∷ []) a b c d l h p q r s = absurd (omega arith)
-six_parts (x ∷ y ∷ z ∷ u ∷ v ∷ w ∷ []) a b c d l h p q r s = cc
+six_parts (x ∷ y ∷ z ∷ u ∷ v ∷ w ∷ []) a b c d l h p q r s = let e : a ≡ z = p in let f : b ≡ u = q in let g : c ≡ v = r in let i : d ≡ w = s in rw (e, f, g, i) refl
 six_parts (x ∷ y ∷ z ∷ u ∷ v ∷ w ∷ x7 ∷ rest) a b c d l h p q r s = absurd (omega arith)
 
 pub seven_parts : (parts : List Tree) (a b c : Tree) → 7 ≤ length parts → length parts < 8 → a ≡ get_or parts 1 a → b ≡ get_or parts 4 b → c ≡ get_or parts 5 c → plain_trees parts ≡ more (plain_tree (get_or parts 0 a)) (more (plain_tree a) (more (plain_tree (get_or parts 2 a)) (more (plain_tree (get_or parts 3 a)) (more (plain_tree b) (more (plain_tree c) (more (plain_tree (get_or parts 6 a)) none))))))
@@ -153,7 +153,7 @@ seven_parts (x ∷ y ∷ z ∷ []) a b c l h p q r = absurd (omega arith)
 seven_parts (x ∷ y ∷ z ∷ u ∷ []) a b c l h p q r = absurd (omega arith)
 seven_parts (x ∷ y ∷ z ∷ u ∷ v ∷ []) a b c l h p q r = absurd (omega arith)
 seven_parts (x ∷ y ∷ z ∷ u ∷ v ∷ w ∷ []) a b c l h p q r = absurd (omega arith)
-seven_parts (x ∷ y ∷ z ∷ u ∷ v ∷ w ∷ x7 ∷ []) a b c l h p q r = cc
+seven_parts (x ∷ y ∷ z ∷ u ∷ v ∷ w ∷ x7 ∷ []) a b c l h p q r = let e : a ≡ y = p in let f : b ≡ v = q in let g : c ≡ w = r in rw (e, f, g) refl
 seven_parts (x ∷ y ∷ z ∷ u ∷ v ∷ w ∷ x7 ∷ x8 ∷ rest) a b c l h p q r = absurd (omega arith)
 
 pub eight_parts : (parts : List Tree) (a b c d e : Tree) → 8 ≤ length parts → length parts < 9 → a ≡ get_or parts 2 a → b ≡ get_or parts 3 b → c ≡ get_or parts 4 c → d ≡ get_or parts 5 d → e ≡ get_or parts 7 e → plain_trees parts ≡ more (plain_tree (get_or parts 0 a)) (more (plain_tree (get_or parts 1 a)) (more (plain_tree a) (more (plain_tree b) (more (plain_tree c) (more (plain_tree d) (more (plain_tree (get_or parts 6 a)) (more (plain_tree e) none)))))))
@@ -165,7 +165,7 @@ eight_parts (x ∷ y ∷ z ∷ u ∷ []) a b c d e l h p q r s t = absurd (omega
 eight_parts (x ∷ y ∷ z ∷ u ∷ v ∷ []) a b c d e l h p q r s t = absurd (omega arith)
 eight_parts (x ∷ y ∷ z ∷ u ∷ v ∷ w ∷ []) a b c d e l h p q r s t = absurd (omega arith)
 eight_parts (x ∷ y ∷ z ∷ u ∷ v ∷ w ∷ x7 ∷ []) a b c d e l h p q r s t = absurd (omega arith)
-eight_parts (x ∷ y ∷ z ∷ u ∷ v ∷ w ∷ x7 ∷ x8 ∷ []) a b c d e l h p q r s t = cc
+eight_parts (x ∷ y ∷ z ∷ u ∷ v ∷ w ∷ x7 ∷ x8 ∷ []) a b c d e l h p q r s t = let i : a ≡ z = p in let j : b ≡ u = q in let m : c ≡ v = r in let n : d ≡ w = s in let o : e ≡ x8 = t in rw (i, j, m, n, o) refl
 eight_parts (x ∷ y ∷ z ∷ u ∷ v ∷ w ∷ x7 ∷ x8 ∷ x9 ∷ rest) a b c d e l h p q r s t = absurd (omega arith)
 
 -- ---- kinds, by their slices

@@ -1,9 +1,11 @@
 -- What statements give, without pointers and room in memory.
-use Rattle.std.specs.Prelude.{List, map}
+use Rattle.std.specs.Prelude.{Box, List, map}
+use Rattle.std.specs.declared.alloc.Global.{Global}
 use Rattle.c_types.specs.Types.{plain_type}
 use Rattle.c_types.specs.declared.types.CType.{CType}
 use Rattle.core_meaning.specs.declared.statements.Item.{Item}
 use Rattle.core_meaning.specs.declared.statements.Statement.{Statement}
+use Rattle.core_meaning.specs.Program.{PlainStatement}
 use Rattle.core_meaning.specs.Plain.{plain_expression, plain_item, plain_items, plain_statement}
 use Rattle.core_meaning.specs.Statements.{Judged, JudgedItems, judged_as, items_as}
 use Rattle.plain_scope.specs.declared.entities.Scope.{Scope}
@@ -12,9 +14,12 @@ use Rattle.plain_statements.specs.Blocks.{put}
 use Rattle.plain_statements.specs.Steps.{Begun, JudgedItem}
 use Rattle.plain_statements.specs.declared.cores.Begun as code
 
+abbrev pub boxed_statement : Box Statement Global → PlainStatement
+boxed_statement s = plain_statement s.value
+
 -- a statement, with the slots so far
-abbrev pub plain_judged : List CType → Statement → Judged
-plain_judged slots core = judged_as (map plain_type slots) (plain_statement core)
+abbrev pub plain_judged : List CType → Box Statement Global → Judged
+plain_judged slots core = judged_as (map plain_type slots) (boxed_statement core)
 
 abbrev pub plain_judged_items : List CType → List Item → JudgedItems
 plain_judged_items slots items = items_as (map plain_type slots) (plain_items items)
@@ -24,4 +29,4 @@ abbrev pub plain_item_of : Scope → List CType → List Item → JudgedItem
 plain_item_of scope slots items = record { scope = plain_scope scope; slots = map plain_type slots; puts = put (map plain_item items) }
 
 abbrev pub plain_begun : List CType → code.Begun → Begun
-plain_begun slots x = record { condition = plain_expression x.condition; core = plain_statement x.core; slots = map plain_type slots }
+plain_begun slots x = record { condition = plain_expression x.condition.value; core = boxed_statement x.core; slots = map plain_type slots }

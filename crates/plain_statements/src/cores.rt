@@ -14,41 +14,47 @@ use std::alloc::Global;
 /// A selection up to its `else`.
 #[derive(Drop)]
 pub struct Begun {
-    pub condition: Expression,
-    pub core: Statement,
+    pub condition: Box<Expression>,
+    pub core: Box<Statement>,
 }
 
 #[tactic(auto, using(core_meaning::specs::PlainLaws::statement_kinds))]
-pub fn selected(alloc: Global, begun: Begun, second: Statement) -> Result<Statement, NoMemory>
-    ensures { IfOk result (λ s. plain_statement s ≡ selection (plain_expression begun.condition) (plain_statement begun.core) (plain_statement second)) }
+pub fn selected(
+    alloc: Global,
+    begun: Begun,
+    second: Box<Statement>,
+) -> Result<Box<Statement>, NoMemory>
+    ensures { IfOk result (λ s. plain_statement s.value ≡ selection (plain_expression begun.condition.value) (plain_statement begun.core.value) (plain_statement second.value)) }
 {
     let Begun { condition, core } = begun;
-    Ok(Statement::If(condition, Box::new(alloc, core)?, Box::new(alloc, second)?))
+    let condition = Box::into_inner(condition);
+    Ok(Box::new(alloc, Statement::If(condition, core, second))?)
 }
 
 #[tactic(auto, using(core_meaning::specs::PlainLaws::statement_kinds))]
 pub fn looped(
     alloc: Global,
     asks_first: bool,
-    condition: Expression,
-    step: Expression,
-    body: Statement,
-) -> Result<Statement, NoMemory>
-    ensures { IfOk result (λ s. plain_statement s ≡ loop asks_first (plain_expression condition) (plain_expression step) (plain_statement body)) }
+    condition: Box<Expression>,
+    step: Box<Expression>,
+    body: Box<Statement>,
+) -> Result<Box<Statement>, NoMemory>
+    ensures { IfOk result (λ s. plain_statement s.value ≡ loop asks_first (plain_expression condition.value) (plain_expression step.value) (plain_statement body.value)) }
 {
-    Ok(Statement::Loop {
+    let turns = Statement::Loop {
         asks_first,
-        condition,
-        step,
-        body: Box::new(alloc, body)?,
-    })
+        condition: Box::into_inner(condition),
+        step: Box::into_inner(step),
+        body,
+    };
+    Ok(Box::new(alloc, turns)?)
 }
 
 #[tactic(auto, using(core_meaning::specs::PlainLaws::statement_kinds))]
-pub fn as_block(items: Vec<Item>) -> Statement
-    ensures { plain_statement result ≡ block (plain_items items.items) }
+pub fn as_block(alloc: Global, items: Vec<Item>) -> Result<Box<Statement>, NoMemory>
+    ensures { IfOk result (λ s. plain_statement s.value ≡ block (plain_items items.items)) }
 {
-    Statement::Block(items)
+    Ok(Box::new(alloc, Statement::Block(items))?)
 }
 
 // ---- items
@@ -73,11 +79,11 @@ pub fn items_of(alloc: Global, declared: Vec<LocalItem>) -> Result<Vec<Item>, No
 }
 
 #[tactic(auto, using(core_meaning::specs::PlainLaws::statement_kinds))]
-pub fn single(alloc: Global, core: Statement) -> Result<Vec<Item>, NoMemory>
-    ensures { IfOk result (λ items. put (map plain_item items.items) ≡ statement_item (plain_statement core)) }
+pub fn single(alloc: Global, core: Box<Statement>) -> Result<Vec<Item>, NoMemory>
+    ensures { IfOk result (λ items. put (map plain_item items.items) ≡ statement_item (plain_statement core.value)) }
 {
     let mut items = Vec::new(alloc);
-    items.push(Item::Statement(core))?;
+    items.push(Item::Statement(Box::into_inner(core)))?;
     Ok(items)
 }
 
@@ -91,12 +97,23 @@ pub fn joined(items: Vec<Item>, behind: Vec<Item>) -> Result<Vec<Item>, NoMemory
     Ok(all)
 }
 
-/// A `for` as the block of what it begins with and its turns.
 #[tactic(auto, using(core_meaning::specs::PlainLaws::statement_kinds, crate::specs::Blocks::block_behind))]
-pub fn behind_items(items: Vec<Item>, turns: Statement) -> Result<Statement, NoMemory>
+fn block_of_turns(items: Vec<Item>, turns: Statement) -> Result<Statement, NoMemory>
     ensures { IfOk result (λ s. plain_statement s ≡ block (put (map plain_item items.items) (spec.one_item (plain_statement turns)))) }
 {
     let mut items = items;
     items.push(Item::Statement(turns))?;
     Ok(Statement::Block(items))
+}
+
+/// A `for` as the block of what it begins with and its turns.
+pub fn behind_items(
+    alloc: Global,
+    items: Vec<Item>,
+    turns: Box<Statement>,
+) -> Result<Box<Statement>, NoMemory>
+    ensures { IfOk result (λ s. plain_statement s.value ≡ block (put (map plain_item items.items) (spec.one_item (plain_statement turns.value)))) }
+{
+    let whole = block_of_turns(items, Box::into_inner(turns))?;
+    Ok(Box::new(alloc, whole)?)
 }

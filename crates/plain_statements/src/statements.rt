@@ -11,12 +11,13 @@ ghost use Rattle.plain_statements.specs.PlainJudged.{plain_begun, plain_item_of,
 ghost use Rattle.plain_statements.specs.Steps.{around_of, block_of, begun_if, while_of, do_of, for_of, for_by, single_item, item_of};
 
 use crate::cores::{Begun, as_block, behind_items, joined, looped, selected, single};
-use crate::simple::{condition, condition_or_true, discarded, nothing, nothing_to_do, simple};
+use crate::simple::{condition_or_true, discarded, nothing, nothing_to_do, simple};
 use crate::starts::{begun_for, declaration_in, end_for, locals_item};
 use c_text::Token;
 use c_tree::{Kind, Tree};
 use c_types::CType;
 use core_meaning::{Item, Statement};
+use plain_expressions::condition;
 use plain_scope::{ElabError, Scope, Used, leaf};
 use std::alloc::Global;
 
@@ -35,13 +36,14 @@ fn while_turns(
     slots: &mut Vec<CType>,
     returns: &CType,
     in_loop: bool,
-) -> Result<Statement, ElabError>
+) -> Result<Box<Statement>, ElabError>
     ensures judged { Judges (while_of (around_of (plain_scope scope.old) (plain_type returns.now) in_loop) (map plain_type slots.old.items) (plain_tree test.now) (plain_token close.now) (plain_tree body.now)) (λ s. plain_judged slots.new.items s) used.old used.new result }
     ensures same { OnOk result (plain_scope scope.new ≡ plain_scope scope.old) }
 {
     let c = condition(alloc, scope, used, test, close)?;
     let s = statement(alloc, scope, used, body, slots, returns, true)?;
-    Ok(looped(alloc, true, c, nothing_to_do(), s)?)
+    let nothing = nothing_to_do(alloc)?;
+    Ok(looped(alloc, true, c, nothing, s)?)
 }
 
 #[cycle(statements)]
@@ -53,7 +55,7 @@ fn while_loop(
     slots: &mut Vec<CType>,
     returns: &CType,
     in_loop: bool,
-) -> Result<Statement, ElabError>
+) -> Result<Box<Statement>, ElabError>
     ensures judged { Judges (spec.judged_statement (around_of (plain_scope scope.old) (plain_type returns.now) in_loop) (map plain_type slots.old.items) (node Kind.While (plain_trees parts.now))) (λ s. plain_judged slots.new.items s) used.old used.new result }
     ensures same { OnOk result (plain_scope scope.new ≡ plain_scope scope.old) }
 {
@@ -79,13 +81,14 @@ fn do_turns(
     slots: &mut Vec<CType>,
     returns: &CType,
     in_loop: bool,
-) -> Result<Statement, ElabError>
+) -> Result<Box<Statement>, ElabError>
     ensures judged { Judges (do_of (around_of (plain_scope scope.old) (plain_type returns.now) in_loop) (map plain_type slots.old.items) (plain_tree test.now) (plain_token close.now) (plain_tree body.now)) (λ s. plain_judged slots.new.items s) used.old used.new result }
     ensures same { OnOk result (plain_scope scope.new ≡ plain_scope scope.old) }
 {
     let s = statement(alloc, scope, used, body, slots, returns, true)?;
     let c = condition(alloc, scope, used, test, close)?;
-    Ok(looped(alloc, false, c, nothing_to_do(), s)?)
+    let nothing = nothing_to_do(alloc)?;
+    Ok(looped(alloc, false, c, nothing, s)?)
 }
 
 #[cycle(statements)]
@@ -97,7 +100,7 @@ fn do_loop(
     slots: &mut Vec<CType>,
     returns: &CType,
     in_loop: bool,
-) -> Result<Statement, ElabError>
+) -> Result<Box<Statement>, ElabError>
     ensures judged { Judges (spec.judged_statement (around_of (plain_scope scope.old) (plain_type returns.now) in_loop) (map plain_type slots.old.items) (node Kind.Do (plain_trees parts.now))) (λ s. plain_judged slots.new.items s) used.old used.new result }
     ensures same { OnOk result (plain_scope scope.new ≡ plain_scope scope.old) }
 {
@@ -124,7 +127,7 @@ fn for_turns(
     slots: &mut Vec<CType>,
     returns: &CType,
     in_loop: bool,
-) -> Result<Statement, ElabError>
+) -> Result<Box<Statement>, ElabError>
     ensures judged { Judges (for_of (around_of (plain_scope scope.old) (plain_type returns.now) in_loop) (map plain_type slots.old.items) (plain_tree test.now) (plain_token end.now) (plain_tree step.now) (plain_tree body.now)) (λ s. plain_judged slots.new.items s) used.old used.new result }
     ensures same { OnOk result (plain_scope scope.new ≡ plain_scope scope.old) }
 {
@@ -149,7 +152,7 @@ fn begun_turns(
     slots: &mut Vec<CType>,
     returns: &CType,
     in_loop: bool,
-) -> Result<Statement, ElabError>
+) -> Result<Box<Statement>, ElabError>
     ensures judged { Judges (for_by (around_of (plain_scope scope.old) (plain_type returns.now) in_loop) (map plain_type slots.old.items) (plain_tree start.now) (plain_tree test.now) (plain_token end.now) (plain_tree step.now) (plain_tree body.now)) (λ s. plain_judged slots.new.items s) used.old used.new result }
     ensures same { OnOk result (plain_scope scope.new ≡ plain_scope scope.old) }
 {
@@ -158,7 +161,7 @@ fn begun_turns(
         alloc, scope, used, body, test, end, step, slots, returns, in_loop,
     )?;
     end_for(scope, start);
-    Ok(behind_items(items, turns)?)
+    Ok(behind_items(alloc, items, turns)?)
 }
 
 #[cycle(statements)]
@@ -170,7 +173,7 @@ fn for_loop(
     slots: &mut Vec<CType>,
     returns: &CType,
     in_loop: bool,
-) -> Result<Statement, ElabError>
+) -> Result<Box<Statement>, ElabError>
     ensures judged { Judges (spec.judged_statement (around_of (plain_scope scope.old) (plain_type returns.now) in_loop) (map plain_type slots.old.items) (node Kind.For (plain_trees parts.now))) (λ s. plain_judged slots.new.items s) used.old used.new result }
     ensures same { OnOk result (plain_scope scope.new ≡ plain_scope scope.old) }
 {
@@ -215,7 +218,7 @@ fn else_in(
     slots: &mut Vec<CType>,
     returns: &CType,
     in_loop: bool,
-) -> Result<Statement, ElabError>
+) -> Result<Box<Statement>, ElabError>
     ensures judged { Judges (spec.judged_else (around_of (plain_scope scope.old) (plain_type returns.now) in_loop) (map plain_type slots.old.items) (node Kind.Else (plain_trees parts.now))) (λ s. plain_judged slots.new.items s) used.old used.new result }
     ensures same { OnOk result (plain_scope scope.new ≡ plain_scope scope.old) }
 {
@@ -236,7 +239,7 @@ fn otherwise(
     slots: &mut Vec<CType>,
     returns: &CType,
     in_loop: bool,
-) -> Result<Statement, ElabError>
+) -> Result<Box<Statement>, ElabError>
     ensures judged { Judges (spec.judged_else (around_of (plain_scope scope.old) (plain_type returns.now) in_loop) (map plain_type slots.old.items) (plain_tree tree.now)) (λ s. plain_judged slots.new.items s) used.old used.new result }
     ensures same { OnOk result (plain_scope scope.new ≡ plain_scope scope.old) }
 {
@@ -245,7 +248,7 @@ fn otherwise(
     };
     match kind {
         Kind::Else => else_in(alloc, scope, used, parts, slots, returns, in_loop),
-        Kind::Absent => Ok(nothing(alloc)),
+        Kind::Absent => Ok(nothing(alloc)?),
         _ => Err(ElabError::Memory),
     }
 }
@@ -260,7 +263,7 @@ fn selection(
     slots: &mut Vec<CType>,
     returns: &CType,
     in_loop: bool,
-) -> Result<Statement, ElabError>
+) -> Result<Box<Statement>, ElabError>
     ensures judged { Judges (spec.judged_statement (around_of (plain_scope scope.old) (plain_type returns.now) in_loop) (map plain_type slots.old.items) (node Kind.If (plain_trees parts.now))) (λ s. plain_judged slots.new.items s) used.old used.new result }
     ensures same { OnOk result (plain_scope scope.new ≡ plain_scope scope.old) }
 {
@@ -287,14 +290,14 @@ fn block_items(
     slots: &mut Vec<CType>,
     returns: &CType,
     in_loop: bool,
-) -> Result<Statement, ElabError>
+) -> Result<Box<Statement>, ElabError>
     ensures judged { Judges (block_of (around_of (plain_scope scope.old) (plain_type returns.now) in_loop) (map plain_type slots.old.items) (node Kind.Items (plain_trees parts.now))) (λ s. plain_judged slots.new.items s) used.old used.new result }
     ensures same { OnOk result (plain_scope scope.new ≡ plain_scope scope.old) }
 {
     scope.begin_block(alloc)?;
     let inner = statement_items(alloc, scope, used, parts, slots, returns, in_loop)?;
     scope.end_block();
-    Ok(as_block(inner))
+    Ok(as_block(alloc, inner)?)
 }
 
 #[cycle(statements)]
@@ -307,7 +310,7 @@ fn block_by(
     slots: &mut Vec<CType>,
     returns: &CType,
     in_loop: bool,
-) -> Result<Statement, ElabError>
+) -> Result<Box<Statement>, ElabError>
     ensures judged { Judges (block_of (around_of (plain_scope scope.old) (plain_type returns.now) in_loop) (map plain_type slots.old.items) (plain_tree list.now)) (λ s. plain_judged slots.new.items s) used.old used.new result }
     ensures same { OnOk result (plain_scope scope.new ≡ plain_scope scope.old) }
 {
@@ -316,7 +319,7 @@ fn block_by(
     };
     match kind {
         Kind::Items => block_items(alloc, scope, used, parts, slots, returns, in_loop),
-        Kind::Absent => Ok(nothing(alloc)),
+        Kind::Absent => Ok(nothing(alloc)?),
         _ => Err(ElabError::Memory),
     }
 }
@@ -330,7 +333,7 @@ fn block(
     slots: &mut Vec<CType>,
     returns: &CType,
     in_loop: bool,
-) -> Result<Statement, ElabError>
+) -> Result<Box<Statement>, ElabError>
     ensures judged { Judges (spec.judged_statement (around_of (plain_scope scope.old) (plain_type returns.now) in_loop) (map plain_type slots.old.items) (node Kind.Block (plain_trees parts.now))) (λ s. plain_judged slots.new.items s) used.old used.new result }
     ensures same { OnOk result (plain_scope scope.new ≡ plain_scope scope.old) }
 {
@@ -352,7 +355,7 @@ fn node_of(
     slots: &mut Vec<CType>,
     returns: &CType,
     in_loop: bool,
-) -> Result<Statement, ElabError>
+) -> Result<Box<Statement>, ElabError>
     ensures judged { Judges (spec.judged_statement (around_of (plain_scope scope.old) (plain_type returns.now) in_loop) (map plain_type slots.old.items) (node kind (plain_trees parts.now))) (λ s. plain_judged slots.new.items s) used.old used.new result }
     ensures same { OnOk result (plain_scope scope.new ≡ plain_scope scope.old) }
 {
@@ -377,7 +380,7 @@ fn statement(
     slots: &mut Vec<CType>,
     returns: &CType,
     in_loop: bool,
-) -> Result<Statement, ElabError>
+) -> Result<Box<Statement>, ElabError>
     ensures judged { Judges (spec.judged_statement (around_of (plain_scope scope.old) (plain_type returns.now) in_loop) (map plain_type slots.old.items) (plain_tree tree.now)) (λ s. plain_judged slots.new.items s) used.old used.new result }
     ensures same { OnOk result (plain_scope scope.new ≡ plain_scope scope.old) }
 {

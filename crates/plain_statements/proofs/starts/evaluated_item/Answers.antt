@@ -1,11 +1,12 @@
 use Rattle.std.proofs.Common.{map}
 use Rattle.c_tree.specs.Trees.{plain_tree}
-use Rattle.core_meaning.specs.Plain.{plain_item, plain_statement}
+use Rattle.core_meaning.specs.Plain.{plain_item}
 use Rattle.plain_scope.specs.PlainScope.{plain_scope, uses_of}
 use Rattle.plain_statements.specs.Blocks.{put}
+use Rattle.plain_statements.specs.PlainJudged.{boxed_statement}
 use Rattle.plain_statements.specs.Items.{evaluated_given}
 use Rattle.plain_statements.proofs.starts.evaluated_item.Goals as goal
 
 pub returns : goal.returns
 returns c =
-    evaluated_given (plain_scope c.args.scope.now) (plain_tree c.args.tree.now) (plain_statement c.in_ok-core.core) (put (map plain_item c.in_ok-single.field-0.items)) (uses_of c.args.used.now) (uses_of c.expression_statement.new.used) c.in_ok-core.ensures c.in_ok-single.ensures
+    evaluated_given (plain_scope c.args.scope.now) (plain_tree c.args.tree.now) (boxed_statement c.in_ok-core.core) (put (map plain_item c.in_ok-single.field-0.items)) (uses_of c.args.used.now) (uses_of c.expression_statement.new.used) c.in_ok-core.ensures c.in_ok-single.ensures

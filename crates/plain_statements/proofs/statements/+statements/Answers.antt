@@ -5,15 +5,16 @@ use Rattle.c_tree.specs.declared.kinds.Kind.{Kind}
 use Rattle.c_tree.specs.declared.kinds.Kind.TheVariants as k
 use Rattle.c_tree.specs.Trees.{PlainTree, node, plain_tree, plain_trees}
 use Rattle.c_tree.specs.TreeLaws.{plain_tree-Node}
-use Rattle.core_meaning.specs.Plain.{plain_expression, plain_item, plain_statement}
+use Rattle.core_meaning.specs.Plain.{plain_item}
 use Rattle.core_meaning.specs.Program.{PlainExpression, loop}
 use Rattle.core_meaning.specs.Statements.{judged_statement, judged_else, judged_items}
 use Rattle.plain_scope.specs.PlainScope.{plain_scope, uses_of}
 use Rattle.plain_scope.specs.Judgements.{RefusedAs}
 use Rattle.plain_scope.specs.JudgementLaws.{refused_first}
 use Rattle.plain_declarators.specs.Sequences.{gives_of, refused_of}
+use Rattle.plain_operands.specs.PlainOperands.{boxed_expression}
 use Rattle.plain_statements.specs.Blocks.{put}
-use Rattle.plain_statements.specs.PlainJudged.{plain_begun, plain_item_of, plain_judged, plain_judged_items}
+use Rattle.plain_statements.specs.PlainJudged.{boxed_statement, plain_begun, plain_item_of, plain_judged, plain_judged_items}
 use Rattle.plain_statements.specs.Steps.{around_of, begun_if, with_else, block_of, branches_of, while_of, do_of, for_of, for_by, simple_of, keeping}
 use Rattle.plain_statements.specs.Kinds.{simple_law, else_slice, block_slice, while_slice, do_slice, selection_slice, for_slice}
 use Rattle.plain_statements.specs.Answers.{judges_as, keeping_judges, absent_block, absent_else}
@@ -127,19 +128,19 @@ block_by-returns-in-Items-clause-judged t c =
     (ap (λ (x : PlainTree). block_of around slots x) (node_is ∙ ap (λ (x : Kind). node x (plain_trees c.deref.result.now)) c.in-Items.is))
     c.block_items.ensures.judged
 
-pub otherwise-returns-in-Absent-clause-judged : goal.otherwise-returns-in-Absent-clause-judged
-otherwise-returns-in-Absent-clause-judged t c =
+pub otherwise-returns-in_ok-nothing-in-Absent-clause-judged : goal.otherwise-returns-in_ok-nothing-in-Absent-clause-judged
+otherwise-returns-in_ok-nothing-in-Absent-clause-judged t c =
     let around = around_of (plain_scope c.args.scope.now) (plain_type c.args.returns.now) c.args.in_loop in
     let slots = map plain_type c.args.slots.now.items in
     let node_is : plain_tree c.args.tree.now ≡ node c.in-Node.kind (plain_trees c.in-Node.parts.items) = ap plain_tree c.in-Node.is ∙ plain_tree-Node c.in-Node.kind c.in-Node.parts in
-    absent_else around slots (plain_tree c.args.tree.now) c.in-Node.kind (plain_trees c.in-Node.parts.items) (plain_statement c.nothing.result) (uses_of c.args.used.now) node_is c.in-Absent.is c.nothing.ensures
+    absent_else around slots (plain_tree c.args.tree.now) c.in-Node.kind (plain_trees c.in-Node.parts.items) (boxed_statement c.in_ok-nothing-in-Absent.field-0) (uses_of c.args.used.now) node_is c.in-Absent.is c.in_ok-nothing-in-Absent.ensures
 
-pub block_by-returns-in-Absent-clause-judged : goal.block_by-returns-in-Absent-clause-judged
-block_by-returns-in-Absent-clause-judged t c =
+pub block_by-returns-in_ok-nothing-in-Absent-clause-judged : goal.block_by-returns-in_ok-nothing-in-Absent-clause-judged
+block_by-returns-in_ok-nothing-in-Absent-clause-judged t c =
     let around = around_of (plain_scope c.args.scope.now) (plain_type c.args.returns.now) c.args.in_loop in
     let slots = map plain_type c.args.slots.now.items in
     let node_is : plain_tree c.args.list.now ≡ node c.in-Node.kind (plain_trees c.in-Node.parts.items) = ap plain_tree c.in-Node.is ∙ plain_tree-Node c.in-Node.kind c.in-Node.parts in
-    absent_block around slots (plain_tree c.args.list.now) c.in-Node.kind (plain_trees c.in-Node.parts.items) (plain_statement c.nothing.result) (uses_of c.args.used.now) node_is c.in-Absent.is c.nothing.ensures
+    absent_block around slots (plain_tree c.args.list.now) c.in-Node.kind (plain_trees c.in-Node.parts.items) (boxed_statement c.in_ok-nothing-in-Absent.field-0) (uses_of c.args.used.now) node_is c.in-Absent.is c.in_ok-nothing-in-Absent.ensures
 
 pub statement-returns-in-Node-clause-judged : goal.statement-returns-in-Node-clause-judged
 statement-returns-in-Node-clause-judged t c =
@@ -184,7 +185,7 @@ while_turns-returns-in_err-s-clause-judged t c =
     let returns = plain_type c.args.returns.now in
     let slots = map plain_type c.args.slots.now.items in
     let before = uses_of c.args.used.now in
-    let outer : RefusedAs (while_of (around_of scope returns c.args.in_loop) slots (plain_tree c.args.test.now) (plain_token c.args.close.now) (plain_tree c.args.body.now)) c.in_err-s.field-0.0 = while_refused scope returns c.args.in_loop slots (plain_tree c.args.test.now) (plain_token c.args.close.now) (plain_tree c.args.body.now) (plain_expression c.in_ok-c.c) before (uses_of c.condition.new.used) c.in_err-s.field-0.0 c.in_ok-c.ensures c.in_err-s.ensures.judged in
+    let outer : RefusedAs (while_of (around_of scope returns c.args.in_loop) slots (plain_tree c.args.test.now) (plain_token c.args.close.now) (plain_tree c.args.body.now)) c.in_err-s.field-0.0 = while_refused scope returns c.args.in_loop slots (plain_tree c.args.test.now) (plain_token c.args.close.now) (plain_tree c.args.body.now) (boxed_expression c.in_ok-c.c) before (uses_of c.condition.new.used) c.in_err-s.field-0.0 c.in_ok-c.ensures c.in_err-s.ensures.judged in
     search (rules, outer)
 
 pub while_turns-returns-clause-judged : goal.while_turns-returns-clause-judged
@@ -193,7 +194,7 @@ while_turns-returns-clause-judged t c =
     let returns = plain_type c.args.returns.now in
     let slots = map plain_type c.args.slots.now.items in
     let before = uses_of c.args.used.now in
-    while_given scope returns c.args.in_loop slots (plain_tree c.args.test.now) (plain_token c.args.close.now) (plain_tree c.args.body.now) (plain_expression c.in_ok-c.c) (plain_judged c.statement.new.slots.items c.in_ok-s.s) (plain_statement c.in_ok-looped.field-0) before (uses_of c.condition.new.used) (uses_of c.statement.new.used) c.in_ok-c.ensures c.in_ok-s.ensures.judged (c.in_ok-looped.ensures ∙ ap (λ (e : PlainExpression). loop true (plain_expression c.in_ok-c.c) e (plain_statement c.in_ok-s.s)) c.nothing_to_do.ensures)
+    while_given scope returns c.args.in_loop slots (plain_tree c.args.test.now) (plain_token c.args.close.now) (plain_tree c.args.body.now) (boxed_expression c.in_ok-c.c) (plain_judged c.statement.new.slots.items c.in_ok-s.s) (boxed_statement c.in_ok-looped.field-0) before (uses_of c.condition.new.used) (uses_of c.statement.new.used) c.in_ok-c.ensures c.in_ok-s.ensures.judged (c.in_ok-looped.ensures ∙ ap (λ (e : PlainExpression). loop true (boxed_expression c.in_ok-c.c) e (boxed_statement c.in_ok-s.s)) c.in_ok-nothing.ensures)
 
 pub do_turns-returns-in_err-c-clause-judged : goal.do_turns-returns-in_err-c-clause-judged
 do_turns-returns-in_err-c-clause-judged t c =
@@ -210,7 +211,7 @@ do_turns-returns-clause-judged t c =
     let returns = plain_type c.args.returns.now in
     let slots = map plain_type c.args.slots.now.items in
     let before = uses_of c.args.used.now in
-    do_given scope (plain_scope c.statement.new.scope) returns c.args.in_loop slots (plain_tree c.args.test.now) (plain_token c.args.close.now) (plain_tree c.args.body.now) (plain_judged c.statement.new.slots.items c.in_ok-s.s) (plain_expression c.in_ok-c.c) (plain_statement c.in_ok-looped.field-0) before (uses_of c.statement.new.used) (uses_of c.condition.new.used) c.in_ok-s.ensures.judged c.in_ok-s.ensures.same c.in_ok-c.ensures (c.in_ok-looped.ensures ∙ ap (λ (e : PlainExpression). loop false (plain_expression c.in_ok-c.c) e (plain_statement c.in_ok-s.s)) c.nothing_to_do.ensures)
+    do_given scope (plain_scope c.statement.new.scope) returns c.args.in_loop slots (plain_tree c.args.test.now) (plain_token c.args.close.now) (plain_tree c.args.body.now) (plain_judged c.statement.new.slots.items c.in_ok-s.s) (boxed_expression c.in_ok-c.c) (boxed_statement c.in_ok-looped.field-0) before (uses_of c.statement.new.used) (uses_of c.condition.new.used) c.in_ok-s.ensures.judged c.in_ok-s.ensures.same c.in_ok-c.ensures (c.in_ok-looped.ensures ∙ ap (λ (e : PlainExpression). loop false (boxed_expression c.in_ok-c.c) e (boxed_statement c.in_ok-s.s)) c.in_ok-nothing.ensures)
 
 pub for_turns-returns-in_err-step-clause-judged : goal.for_turns-returns-in_err-step-clause-judged
 for_turns-returns-in_err-step-clause-judged t c =
@@ -218,7 +219,7 @@ for_turns-returns-in_err-step-clause-judged t c =
     let returns = plain_type c.args.returns.now in
     let slots = map plain_type c.args.slots.now.items in
     let before = uses_of c.args.used.now in
-    let outer : RefusedAs (for_of (around_of scope returns c.args.in_loop) slots (plain_tree c.args.test.now) (plain_token c.args.end.now) (plain_tree c.args.step.now) (plain_tree c.args.body.now)) c.in_err-step.field-0.0 = step_refused scope returns c.args.in_loop slots (plain_tree c.args.test.now) (plain_token c.args.end.now) (plain_tree c.args.step.now) (plain_tree c.args.body.now) (plain_expression c.in_ok-c.c) before (uses_of c.condition_or_true.new.used) c.in_err-step.field-0.0 c.in_ok-c.ensures c.in_err-step.ensures in
+    let outer : RefusedAs (for_of (around_of scope returns c.args.in_loop) slots (plain_tree c.args.test.now) (plain_token c.args.end.now) (plain_tree c.args.step.now) (plain_tree c.args.body.now)) c.in_err-step.field-0.0 = step_refused scope returns c.args.in_loop slots (plain_tree c.args.test.now) (plain_token c.args.end.now) (plain_tree c.args.step.now) (plain_tree c.args.body.now) (boxed_expression c.in_ok-c.c) before (uses_of c.condition_or_true.new.used) c.in_err-step.field-0.0 c.in_ok-c.ensures c.in_err-step.ensures in
     search (rules, outer)
 
 pub for_turns-returns-in_err-s-clause-judged : goal.for_turns-returns-in_err-s-clause-judged
@@ -227,7 +228,7 @@ for_turns-returns-in_err-s-clause-judged t c =
     let returns = plain_type c.args.returns.now in
     let slots = map plain_type c.args.slots.now.items in
     let before = uses_of c.args.used.now in
-    let outer : RefusedAs (for_of (around_of scope returns c.args.in_loop) slots (plain_tree c.args.test.now) (plain_token c.args.end.now) (plain_tree c.args.step.now) (plain_tree c.args.body.now)) c.in_err-s.field-0.0 = turns_refused scope returns c.args.in_loop slots (plain_tree c.args.test.now) (plain_token c.args.end.now) (plain_tree c.args.step.now) (plain_tree c.args.body.now) (plain_expression c.in_ok-c.c) (plain_expression c.in_ok-step.step) before (uses_of c.condition_or_true.new.used) (uses_of c.discarded.new.used) c.in_err-s.field-0.0 c.in_ok-c.ensures c.in_ok-step.ensures c.in_err-s.ensures.judged in
+    let outer : RefusedAs (for_of (around_of scope returns c.args.in_loop) slots (plain_tree c.args.test.now) (plain_token c.args.end.now) (plain_tree c.args.step.now) (plain_tree c.args.body.now)) c.in_err-s.field-0.0 = turns_refused scope returns c.args.in_loop slots (plain_tree c.args.test.now) (plain_token c.args.end.now) (plain_tree c.args.step.now) (plain_tree c.args.body.now) (boxed_expression c.in_ok-c.c) (boxed_expression c.in_ok-step.step) before (uses_of c.condition_or_true.new.used) (uses_of c.discarded.new.used) c.in_err-s.field-0.0 c.in_ok-c.ensures c.in_ok-step.ensures c.in_err-s.ensures.judged in
     search (rules, outer)
 
 pub for_turns-returns-clause-judged : goal.for_turns-returns-clause-judged
@@ -236,7 +237,7 @@ for_turns-returns-clause-judged t c =
     let returns = plain_type c.args.returns.now in
     let slots = map plain_type c.args.slots.now.items in
     let before = uses_of c.args.used.now in
-    turns_given scope returns c.args.in_loop slots (plain_tree c.args.test.now) (plain_token c.args.end.now) (plain_tree c.args.step.now) (plain_tree c.args.body.now) (plain_expression c.in_ok-c.c) (plain_expression c.in_ok-step.step) (plain_judged c.statement.new.slots.items c.in_ok-s.s) (plain_statement c.in_ok-looped.field-0) before (uses_of c.condition_or_true.new.used) (uses_of c.discarded.new.used) (uses_of c.statement.new.used) c.in_ok-c.ensures c.in_ok-step.ensures c.in_ok-s.ensures.judged c.in_ok-looped.ensures
+    turns_given scope returns c.args.in_loop slots (plain_tree c.args.test.now) (plain_token c.args.end.now) (plain_tree c.args.step.now) (plain_tree c.args.body.now) (boxed_expression c.in_ok-c.c) (boxed_expression c.in_ok-step.step) (plain_judged c.statement.new.slots.items c.in_ok-s.s) (boxed_statement c.in_ok-looped.field-0) before (uses_of c.condition_or_true.new.used) (uses_of c.discarded.new.used) (uses_of c.statement.new.used) c.in_ok-c.ensures c.in_ok-step.ensures c.in_ok-s.ensures.judged c.in_ok-looped.ensures
 
 pub begun_turns-returns-in_err-turns-clause-judged : goal.begun_turns-returns-in_err-turns-clause-judged
 begun_turns-returns-in_err-turns-clause-judged t c =
@@ -253,7 +254,7 @@ begun_turns-returns-clause-judged t c =
     let returns = plain_type c.args.returns.now in
     let slots = map plain_type c.args.slots.now.items in
     let before = uses_of c.args.used.now in
-    for_given scope returns c.args.in_loop slots (plain_tree c.args.start.now) (plain_tree c.args.test.now) (plain_token c.args.end.now) (plain_tree c.args.step.now) (plain_tree c.args.body.now) (plain_item_of c.begun_for.new.scope c.begun_for.new.slots.items c.in_ok-items.items.items) (plain_judged c.for_turns.new.slots.items c.in_ok-turns.turns) (plain_statement c.in_ok-behind_items.field-0) before (uses_of c.begun_for.new.used) (uses_of c.for_turns.new.used) c.in_ok-items.ensures.judged c.in_ok-turns.ensures.judged c.in_ok-behind_items.ensures
+    for_given scope returns c.args.in_loop slots (plain_tree c.args.start.now) (plain_tree c.args.test.now) (plain_token c.args.end.now) (plain_tree c.args.step.now) (plain_tree c.args.body.now) (plain_item_of c.begun_for.new.scope c.begun_for.new.slots.items c.in_ok-items.items.items) (plain_judged c.for_turns.new.slots.items c.in_ok-turns.turns) (boxed_statement c.in_ok-behind_items.field-0) before (uses_of c.begun_for.new.used) (uses_of c.for_turns.new.used) c.in_ok-items.ensures.judged c.in_ok-turns.ensures.judged c.in_ok-behind_items.ensures
 
 pub begun_if-returns-in_err-core-clause-judged : goal.begun_if-returns-in_err-core-clause-judged
 begun_if-returns-in_err-core-clause-judged t c =
@@ -261,7 +262,7 @@ begun_if-returns-in_err-core-clause-judged t c =
     let returns = plain_type c.args.returns.now in
     let slots = map plain_type c.args.slots.now.items in
     let before = uses_of c.args.used.now in
-    let outer : RefusedAs (begun_if (around_of scope returns c.args.in_loop) slots (plain_tree c.args.test.now) (plain_token c.args.close.now) (plain_tree c.args.first.now)) c.in_err-core.field-0.0 = begun_refused scope returns c.args.in_loop slots (plain_tree c.args.test.now) (plain_token c.args.close.now) (plain_tree c.args.first.now) (plain_expression c.in_ok-condition.condition) before (uses_of c.condition.new.used) c.in_err-core.field-0.0 c.in_ok-condition.ensures c.in_err-core.ensures.judged in
+    let outer : RefusedAs (begun_if (around_of scope returns c.args.in_loop) slots (plain_tree c.args.test.now) (plain_token c.args.close.now) (plain_tree c.args.first.now)) c.in_err-core.field-0.0 = begun_refused scope returns c.args.in_loop slots (plain_tree c.args.test.now) (plain_token c.args.close.now) (plain_tree c.args.first.now) (boxed_expression c.in_ok-condition.condition) before (uses_of c.condition.new.used) c.in_err-core.field-0.0 c.in_ok-condition.ensures c.in_err-core.ensures.judged in
     search (rules, outer)
 
 pub begun_if-returns-clause-judged : goal.begun_if-returns-clause-judged
@@ -270,7 +271,7 @@ begun_if-returns-clause-judged t c =
     let returns = plain_type c.args.returns.now in
     let slots = map plain_type c.args.slots.now.items in
     let before = uses_of c.args.used.now in
-    begun_given scope returns c.args.in_loop slots (plain_tree c.args.test.now) (plain_token c.args.close.now) (plain_tree c.args.first.now) (plain_expression c.in_ok-condition.condition) (plain_judged c.statement.new.slots.items c.in_ok-core.core) before (uses_of c.condition.new.used) (uses_of c.statement.new.used) c.in_ok-condition.ensures c.in_ok-core.ensures.judged
+    begun_given scope returns c.args.in_loop slots (plain_tree c.args.test.now) (plain_token c.args.close.now) (plain_tree c.args.first.now) (boxed_expression c.in_ok-condition.condition) (plain_judged c.statement.new.slots.items c.in_ok-core.core) before (uses_of c.condition.new.used) (uses_of c.statement.new.used) c.in_ok-condition.ensures c.in_ok-core.ensures.judged
 
 pub selection-returns-in_err-begun-clause-judged : goal.selection-returns-in_err-begun-clause-judged
 selection-returns-in_err-begun-clause-judged t c =
@@ -302,7 +303,7 @@ selection-returns-clause-judged t c =
     let before = uses_of c.args.used.now in
     gives_of (judged_statement (around_of scope returns c.args.in_loop) slots (node k.If (plain_trees c.args.parts.now))) (branches_of (around_of scope returns c.args.in_loop) slots (plain_tree c.test-item.result) (plain_token c.in_ok-close.close.now) (plain_tree c.first-item.result) (plain_tree c.second-item.result)) (plain_judged c.otherwise.new.slots.items (c.in_ok-selected.field-0)) before (uses_of c.otherwise.new.used)
     (selection_slice (around_of scope returns c.args.in_loop) slots c.args.parts.now c.test-item.result c.close-item.result c.first-item.result c.second-item.result (plain_token c.in_ok-close.close.now) c.in-len6.len_at_least c.in-len6.len_below c.test-item.is c.close-item.is c.first-item.is c.second-item.is c.in_ok-close.ensures)
-    (branches_given scope (plain_scope c.begun_if.new.scope) returns c.args.in_loop slots (plain_tree c.test-item.result) (plain_token c.in_ok-close.close.now) (plain_tree c.first-item.result) (plain_tree c.second-item.result) (plain_begun c.begun_if.new.slots.items c.in_ok-begun.begun) (plain_judged c.otherwise.new.slots.items c.in_ok-other.other) (plain_statement c.in_ok-selected.field-0) before (uses_of c.begun_if.new.used) (uses_of c.otherwise.new.used) c.in_ok-begun.ensures.judged c.in_ok-begun.ensures.same c.in_ok-other.ensures.judged c.in_ok-selected.ensures)
+    (branches_given scope (plain_scope c.begun_if.new.scope) returns c.args.in_loop slots (plain_tree c.test-item.result) (plain_token c.in_ok-close.close.now) (plain_tree c.first-item.result) (plain_tree c.second-item.result) (plain_begun c.begun_if.new.slots.items c.in_ok-begun.begun) (plain_judged c.otherwise.new.slots.items c.in_ok-other.other) (boxed_statement c.in_ok-selected.field-0) before (uses_of c.begun_if.new.used) (uses_of c.otherwise.new.used) c.in_ok-begun.ensures.judged c.in_ok-begun.ensures.same c.in_ok-other.ensures.judged c.in_ok-selected.ensures)
 
 pub block_items-returns-in_err-inner-clause-judged : goal.block_items-returns-in_err-inner-clause-judged
 block_items-returns-in_err-inner-clause-judged t c =
@@ -319,7 +320,7 @@ block_items-returns-clause-judged t c =
     let returns = plain_type c.args.returns.now in
     let slots = map plain_type c.args.slots.now.items in
     let before = uses_of c.args.used.now in
-    block_given scope (plain_scope c.begin_block.new.self) returns c.args.in_loop slots (plain_trees c.args.parts.now) (plain_judged_items c.statement_items.new.slots.items c.in_ok-inner.inner.items) (plain_statement c.as_block.result) before (uses_of c.statement_items.new.used) c.in_ok-begin_block.ensures c.in_ok-inner.ensures.judged c.as_block.ensures
+    block_given scope (plain_scope c.begin_block.new.self) returns c.args.in_loop slots (plain_trees c.args.parts.now) (plain_judged_items c.statement_items.new.slots.items c.in_ok-inner.inner.items) (boxed_statement c.in_ok-as_block.field-0) before (uses_of c.statement_items.new.used) c.in_ok-begin_block.ensures c.in_ok-inner.ensures.judged c.in_ok-as_block.ensures
 
 pub single_item-returns-clause-judged : goal.single_item-returns-clause-judged
 single_item-returns-clause-judged t c =
