@@ -1,5 +1,5 @@
 -- What parts that may be left out, and a `return`, are judged as.
-use Rattle.std.proofs.Common.{◌≡◌, ℕ, Bool, true, false, List, refl, sym, ap, ◌∙◌}
+use Rattle.std.proofs.Common.{◌≡◌, ℕ, Bool, true, false, List, refl, sym, ◌∙◌}
 use Rattle.std.specs.Prelude.{Box, Result, Ok, Err, pos, not}
 use Rattle.std.specs.declared.alloc.Global.{Global}
 use Rattle.c_text.specs.Token.{PlainToken}
@@ -9,10 +9,10 @@ use Rattle.c_tree.specs.Trees.{PlainTree, leaf, node}
 use Rattle.core_meaning.specs.declared.refusals.TypeKind.TheVariants.{Misplaced}
 use Rattle.core_meaning.specs.declared.expressions.Expression.{Expression}
 use Rattle.core_meaning.specs.declared.statements.Statement.{Statement}
-use Rattle.core_meaning.specs.Program.{PlainExpression, constant, PlainStatement, no_item, block, return_value}
+use Rattle.core_meaning.specs.Program.{PlainExpression, constant, PlainStatement, no_item, block}
 use Rattle.core_meaning.specs.Checking.{Checked, refused, ◌>>=◌, give, unless_so}
 use Rattle.core_meaning.specs.Entities.{Scope}
-use Rattle.core_meaning.specs.Expressions.{valued, judged_condition, is_void}
+use Rattle.core_meaning.specs.Expressions.{judged_condition, is_void}
 use Rattle.core_meaning.specs.Statements.{Around, discarded, condition_or_true, expression_statement, returned}
 use Rattle.plain_scope.specs.declared.errors.ElabError.{ElabError}
 use Rattle.plain_scope.specs.PlainScope.{uses_of}
@@ -22,7 +22,6 @@ use Rattle.plain_scope.specs.JudgementLaws.{gives_nothing_used, refuses_is}
 use Rattle.plain_declarators.specs.Words.{is_gone}
 use Rattle.plain_declarators.specs.Sequences.{bind_nothing, gives_of, refused_of}
 use Rattle.plain_operands.specs.PlainOperands.{boxed_expression}
-use Rattle.plain_scope.specs.Bindings.{then_same}
 use Rattle.plain_statements.specs.PlainJudged.{boxed_statement}
 use Rattle.plain_statements.specs.Steps.{nothing_returned, returned_as, unused_value, evaluated, returned_value}
 

@@ -8,7 +8,7 @@ use Rattle.c_tree.specs.declared.kinds.Kind.TheVariants as k
 use Rattle.c_tree.specs.Trees.{PlainTree, PlainTrees, leaf, node, none, more}
 use Rattle.core_meaning.specs.declared.refusals.TypeKind.TheVariants.{Misplaced}
 use Rattle.core_meaning.specs.Program.{PlainExpression, PlainStatement, block, evaluate, selection, break_loop, continue_loop, return_nothing, return_value, PlainItems, no_item, statement_item}
-use Rattle.core_meaning.specs.Checking.{Checked, broken, ◌>>=◌, give, refused, unless_so, found_or}
+use Rattle.core_meaning.specs.Checking.{Checked, broken, ◌>>=◌, give, unless_so, found_or}
 use Rattle.core_meaning.specs.Entities.{Scope}
 use Rattle.core_meaning.specs.Typing.{fits_into}
 use Rattle.core_meaning.specs.Expressions.{valued, judged_condition, is_void, unused}
