@@ -1,6 +1,7 @@
 -- The walk over the lines of a file, and the files that are read between them.
 use Rattle.std.proofs.Common.{◌≡◌, ℕ, zero, suc, ◌+◌, ◌-◌, ◌<◌, Bool, true, false, List, [], ◌∷◌, map, IsTrue, Option, Some, None, refl, sym, ap, ◌∙◌, arith, ◌≤◌, length, get_or, drop, subst}
 use Rattle.std.specs.Prelude.{if◌then◌else◌, IfSome}
+use Rattle.std.proofs.lemmas.Bool.{false≢true}
 use Rattle.std.proofs.lemmas.List.{drop_more, drop_all, length-map}
 use Rattle.text_edits.specs.Files.{plain_file}
 use Rattle.cond_formula.specs.declared.formulas.Formula.{Formula}
@@ -20,7 +21,7 @@ use Rattle.unit_files.specs.Settings.{entered}
 use Rattle.cond_readings.specs.TakenLaws.{came-then, taken-same}
 use Rattle.cond_pp.specs.declared.walk.CondWalker.{CondWalker}
 use Rattle.cond_pp.specs.declared.walk.Inclusion.{Inclusion}
-use Rattle.cond_pp.specs.Groups.{PlainGroup, groups_of, open_at}
+use Rattle.cond_groups.specs.Groups.{PlainGroup, groups_of, open_at}
 use Rattle.cond_pp.specs.Walks.{ahead, after_file, including, walk_at}
 use Rattle.cond_pp.proofs.WalkLemmas.{emptied, ahead-emptied}
 
@@ -33,9 +34,7 @@ include-is true inner nx (Some r) h = came-then (inner r) nx
 include-is false inner nx (Some r) h = ap (λ (f : Flow). taken false nx (came_to f)) (sym (h refl r))
 
 not-entered : (h e : Bool) (inner : Flow) (r : Reading) → (IsTrue h → IsTrue e) → e ≡ false → (if h then inner else on r) ≡ on r
-not-entered true e inner r inside off =
-    let k : false ≡ true = sym off ∙ inside refl in
-    cc
+not-entered true e inner r inside off = absurd (false≢true (sym off ∙ inside refl))
 not-entered false e inner r inside off = refl
 
 -- where the walk isn't read, no file is read either

@@ -1,7 +1,4 @@
-pub mod RunLemmas
-pub mod GroupLemmas
 pub mod WalkLemmas
-pub mod ConditionLemmas
 pub mod WatchLemmas
 pub mod ReadLemmas
 pub mod SeenLemmas

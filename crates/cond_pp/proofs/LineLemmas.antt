@@ -12,7 +12,7 @@ use Rattle.file_walks.specs.Walk.{Walk, flushed}
 use Rattle.read_walks.specs.WalkReads.{reads_at_flush, reads_by_role, reads_of_step}
 use Rattle.read_walks.specs.Laws.{Leads, goes_on, stops, WalksAreOne, TestIsJoined}
 use Rattle.cond_pp.specs.declared.walk.CondWalker.{CondWalker}
-use Rattle.cond_pp.specs.Groups.{groups_of, open_at, read_in, line_read_in}
+use Rattle.cond_groups.specs.Groups.{groups_of, open_at, read_in, line_read_in}
 use Rattle.cond_pp.specs.Walks.{IsFit, ahead, reads_ahead, reads_included, reads_named, walk_at}
 use Rattle.cond_pp.specs.Watches.{PlainSought, is_read_in, read_where}
 use Rattle.cond_pp.proofs.ReadLemmas.{line-reads, reads-none, reads-same, behind-none}

@@ -1,6 +1,7 @@
 -- What a directive line reads itself, before which no tokens wait, and what it includes.
 use Rattle.std.proofs.Common.{◌≡◌, ℕ, Bool, true, false, List, [], ◌∷◌, ◌++◌, map, IsTrue, Option, Some, None, refl, ap, sym, ◌∙◌, append-nil}
 use Rattle.std.specs.Prelude.{if◌then◌else◌, drop}
+use Rattle.std.proofs.lemmas.Bool.{false≢true}
 use Rattle.std.proofs.lemmas.List.Elements.{All-head}
 use Rattle.cond_formula.specs.Conditions.{Condition, value}
 use Rattle.c_text.specs.Token.{PlainToken}
@@ -11,10 +12,10 @@ use Rattle.c_text.specs.Directives.{directive_of}
 use Rattle.active_tokens.specs.Reads.{Read, read_of, Following, behind, unless_refused, by_truth, reads_of_inclusion}
 use Rattle.file_walks.specs.Walk.{Open, are_read}
 use Rattle.read_walks.specs.WalkReads.{reads_at_group, reads_at_branch, reads_at_end, reads_at_directive, reads_by_role}
-use Rattle.cond_pp.specs.Groups.{PlainGroup, Fits, AllFit, open_at, level_at, read_in, branch_read_in, end_read_in, line_read_in}
+use Rattle.cond_groups.specs.Groups.{PlainGroup, Fits, AllFit, open_at, level_at, read_in, branch_read_in, end_read_in, line_read_in}
 use Rattle.cond_pp.specs.Walks.{reads_included, reads_named}
 use Rattle.cond_pp.specs.Watches.{read_where}
-use Rattle.cond_pp.proofs.GroupLemmas.{read-is, read-inside}
+use Rattle.cond_groups.specs.GroupLaws.{read-is, read-inside}
 use Rattle.cond_pp.proofs.WalkLemmas.{emptied}
 
 unless-none : (found : Option Refusal) → unless_refused found [] ≡ []
@@ -34,9 +35,6 @@ pub reads-same : (b : Bool) (f g : Reading → List Read) (o : Option Reading) �
 reads-same b f g None h = refl
 reads-same true f g (Some r) h = h r
 reads-same false f g (Some r) h = refl
-
-no_read : {A : Type 0} → false ≡ true → A
-no_read e = cc
 
 module _ (s : Setting) (f : Following) (line : PlainLine) where
   abbrev line_read : Reading → List Read
@@ -59,7 +57,7 @@ module _ (s : Setting) (f : Following) (line : PlainLine) where
       ap (λ (b : Bool). if b then read_of r line.tokens ∷ by_truth s f (condition_at s.value_of r.table line.tokens) [] [] else []) (are refl) ∙ begun-reads r
   group-reads true false groups r are inside =
       ap (λ (b : Bool). if b then read_of r line.tokens ∷ by_truth s f (condition_at s.value_of r.table line.tokens) [] [] else []) (are refl)
-  group-reads false true groups r are inside = no_read (inside refl)
+  group-reads false true groups r are inside = absurd (false≢true (inside refl))
   group-reads false false groups r are inside = refl
 
   alone-reads : (e h : Bool) (groups : List Open) (r : Reading) → (IsTrue e → are_read groups ≡ h) → (IsTrue h → IsTrue e) → read_where e (λ a. reads_at_directive s f (emptied a groups) line (λ v. [])) (Some r) ≡ read_where h line_read (Some r) ++ read_where h (λ a. reads_of_inclusion s f a (directive_of line.tokens)) (Some r)
@@ -70,13 +68,13 @@ module _ (s : Setting) (f : Following) (line : PlainLine) where
       ∙ append-nil all
   alone-reads true false groups r are inside =
       ap (λ (b : Bool). if b then (read_of r line.tokens ∷ reads_of_inclusion s f r (directive_of line.tokens)) ++ behind (read_directive s r line.tokens) (λ a. []) else []) (are refl)
-  alone-reads false true groups r are inside = no_read (inside refl)
+  alone-reads false true groups r are inside = absurd (false≢true (inside refl))
   alone-reads false false groups r are inside = refl
 
   -- a further branch
   branch-reads : (e wi rd wt last l : Bool) (outer : List Open) (r : Reading) → (IsTrue wi → IsTrue e) → (IsTrue rd → IsTrue wi) → read_where e (λ a. reads_at_branch s f (emptied a (level_at wi rd wt l ∷ outer)) line last (level_at wi rd wt l ∷ outer) (λ v. [])) (Some r) ≡ read_where (if l then rd else wi) line_read (Some r)
-  branch-reads false true rd wt last l outer r inside within = no_read (inside refl)
-  branch-reads e false true wt last l outer r inside within = no_read (within refl)
+  branch-reads false true rd wt last l outer r inside within = absurd (false≢true (inside refl))
+  branch-reads e false true wt last l outer r inside within = absurd (false≢true (within refl))
   branch-reads false false false wt last true outer r inside within = refl
   branch-reads false false false wt last false outer r inside within = refl
   branch-reads true false false wt last true outer r inside within = refl
@@ -90,7 +88,7 @@ module _ (s : Setting) (f : Following) (line : PlainLine) where
 
   -- the end of a group
   end-reads : (e wi rd wt l : Bool) (outer : List Open) (r : Reading) → (IsTrue wi → IsTrue e) → read_where e (λ a. reads_at_end (emptied a (level_at wi rd wt l ∷ outer)) line (level_at wi rd wt l ∷ outer) (λ v. [])) (Some r) ≡ read_where wi line_read (Some r)
-  end-reads false true rd wt l outer r inside = no_read (inside refl)
+  end-reads false true rd wt l outer r inside = absurd (false≢true (inside refl))
   end-reads false false rd wt l outer r inside = refl
   end-reads true false rd wt l outer r inside = refl
   end-reads true true true wt l outer r inside = name-reads r

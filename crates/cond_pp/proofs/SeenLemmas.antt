@@ -1,5 +1,6 @@
 -- What a watch sees of what is read.
 use Rattle.std.proofs.Common.{◌≡◌, Bool, true, false, ◌&&◌, ◌||◌, List, [], ◌∷◌, ◌++◌, IsTrue, Option, Some, None, refl, sym, ◌∙◌}
+use Rattle.std.proofs.lemmas.Bool.{false≢true}
 use Rattle.conditional.specs.Entries.{under}
 use Rattle.c_text.specs.Token.{PlainToken}
 use Rattle.c_text.specs.Preprocessing.{Reading}
@@ -31,9 +32,7 @@ seen-empty (Some s) r = no-token (is_defined s.name r.table)
 pub seen-run : (sought : Option PlainSought) (here there : Bool) (run : List PlainToken) (o : Option Reading) → (IsTrue here → IsTrue there) → is_read_in sought (read_where here (λ r. read_of r run ∷ []) o) ≡ is_read_in sought (read_where there (λ r. read_of r (under here run) ∷ []) o)
 seen-run sought here there run None inside = refl
 seen-run sought true true run (Some r) inside = refl
-seen-run sought true false run (Some r) inside =
-    let e : false ≡ true = inside refl in
-    cc
+seen-run sought true false run (Some r) inside = absurd (false≢true (inside refl))
 seen-run sought false true run (Some r) inside = seen-none sought ∙ sym (seen-empty sought r)
 seen-run sought false false run (Some r) inside = refl
 

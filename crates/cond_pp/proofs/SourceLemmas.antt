@@ -23,7 +23,7 @@ use Rattle.read_walks.specs.Laws.{LinesLeadOn, WalksAreOne, SourceReadsAreWalked
 use Rattle.cond_readings.specs.Readings.{came_to, taken}
 use Rattle.cond_pp.specs.declared.walk.CondWalker.{CondWalker}
 use Rattle.cond_pp.specs.declared.walk.Inclusion.{Inclusion}
-use Rattle.cond_pp.specs.Groups.{PlainGroup, groups_of, open_at}
+use Rattle.cond_groups.specs.Groups.{PlainGroup, groups_of, open_at}
 use Rattle.cond_pp.specs.Walks.{ahead, after_file, including, reads_ahead, reads_included, walk_at}
 use Rattle.cond_pp.specs.Watches.{PlainSought, is_read_in, read_where}
 use Rattle.cond_pp.proofs.FileLemmas.{among-files}

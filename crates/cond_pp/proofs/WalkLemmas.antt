@@ -1,6 +1,7 @@
 -- The walk of a configuration, line by line.
 use Rattle.std.proofs.Common.{◌≡◌, ℕ, Bool, true, false, List, [], ◌∷◌, map, IsTrue, Option, Some, None, refl, sym, ap, ◌∙◌, ◌++◌, subst}
-use Rattle.std.specs.Prelude.{if◌then◌else◌}
+use Rattle.std.specs.Prelude.{if◌then◌else◌, is_some}
+use Rattle.std.proofs.lemmas.Bool.{false≢true}
 use Rattle.std.proofs.lemmas.List.Elements.{All-head, All-cons, All-tail}
 use Rattle.cond_formula.specs.declared.formulas.Formula.{Formula}
 use Rattle.cond_formula.specs.Conditions.{Condition, condition_of, value}
@@ -13,13 +14,13 @@ use Rattle.c_text.specs.Trees.{Role, role_of}
 use Rattle.file_walks.specs.Walk.{Walk, Open, flushed, are_read, text_read, end_of_file, reads, waits, group_read, branch_read, directive_read, by_role}
 use Rattle.cond_readings.specs.Readings.{unless_refused, came_to, taken}
 use Rattle.unit_files.specs.Settings.{entered}
-use Rattle.cond_readings.specs.TakenLaws.{taken-then, taken-off, taken-refuses, with-none}
-use Rattle.cond_pp.specs.declared.groups.OpenGroups.{OpenGroups}
+use Rattle.cond_readings.specs.TakenLaws.{taken-then, taken-off, taken-same, taken-refuses, with-none}
+use Rattle.cond_groups.specs.declared.groups.OpenGroups.{OpenGroups}
 use Rattle.cond_pp.specs.declared.walk.CondWalker.{CondWalker}
 use Rattle.cond_pp.specs.declared.walk.Inclusion.{Inclusion}
-use Rattle.cond_pp.specs.Groups.{PlainGroup, Fits, AllFit, open_at, level_at, read_in, innermost, left, groups_of}
+use Rattle.cond_groups.specs.Groups.{PlainGroup, Fits, AllFit, open_at, level_at, read_in, innermost, left, groups_of}
 use Rattle.cond_pp.specs.Walks.{IsFit, ahead, including, after_file}
-use Rattle.cond_pp.proofs.GroupLemmas.{read-is, read-inside, group-is, alone-is}
+use Rattle.cond_groups.specs.GroupLaws.{read-is, read-inside}
 
 pub under-none : (b : Bool) → under {P = PlainToken} b [] ≡ []
 under-none true = refl
@@ -72,25 +73,9 @@ pub fit-kept : (features : ℕ → Bool) (w v : CondWalker) → v.entered ≡ w.
 fit-kept features w v entered_is groups_are fit =
     subst (λ (f : Formula). AllFit features (condition_of f) (groups_of v.groups)) (sym entered_is) (subst (λ (g : OpenGroups). AllFit features (condition_of w.entered) (groups_of g)) (sym groups_are) fit)
 
-level-is : (features : ℕ → Bool) (g : PlainGroup) (here : Condition) (last : Bool) → g.within ≡ here → g.last ≡ last → open_at features g ≡ level_at (value features here) (value features g.reads_when) (value features g.waits_when) last
-level-is features g here last within_is last_is =
-    ap (λ (k : Condition). level_at (value features k) (value features g.reads_when) (value features g.waits_when) g.last) within_is
-    ∙ ap (λ (l : Bool). level_at (value features here) (value features g.reads_when) (value features g.waits_when) l) last_is
-
--- a line that begins a group
-pub group-begins : (s : Setting) (features : ℕ → Bool) (at here : Condition) (groups : List PlainGroup) (g : PlainGroup) (line : PlainLine) (o new : Option Reading) (next : Walk → Flow) → AllFit features at groups → read_in at groups ≡ here → g.within ≡ here → g.last ≡ false → ((nx : Open → Reading → Flow) → taken (value features here) (λ r. by_condition s (spec.condition_at s.value_of r.table line.tokens) (nx (reads false) r) (nx (waits false) r)) o ≡ taken (value features here) (λ r. nx (open_at features g) r) new) → taken (value features at) (λ r. group_read s (emptied r (map (open_at features) groups)) line next) o ≡ taken (value features at) (λ r. next (emptied r (map (open_at features) (g ∷ groups)))) new
-group-begins s features at here groups g line o new next fit here_is within_is last_is step =
-    let e = level-is features g here false within_is last_is in
-    let seen = ap (λ (k : Condition). value features k) here_is in
-    group-is s (value features at) (value features here) line o new (value features g.reads_when) (value features g.waits_when) [] (map (open_at features) groups) next
-    (λ there. read-is features at groups fit there ∙ seen)
-    (λ h. read-inside features at groups fit (seen ∙ h))
-    (λ nx. step nx ∙ ap (λ (l : Open). taken (value features here) (λ r. nx l r) new) e)
-    ∙ ap (λ (l : Open). taken (value features at) (λ r. next (emptied r (l ∷ map (open_at features) groups))) new) (sym e)
-
 -- a line that begins a further branch
 pub branch-begins : (s : Setting) (features : ℕ → Bool) (at : Condition) (groups : List PlainGroup) (old g : PlainGroup) (line : PlainLine) (last : Bool) (o new : Option Reading) (next : Walk → Flow) → Some old ≡ innermost groups → AllFit features at groups → (Fits features at old → (outer : List Open) → taken (value features at) (λ r. branch_read s (emptied r (open_at features old ∷ outer)) line last (open_at features old ∷ outer) next) o ≡ taken (value features at) (λ r. next (emptied r (open_at features g ∷ outer))) new) → taken (value features at) (λ r. branch_read s (emptied r (map (open_at features) groups)) line last (map (open_at features) groups) next) o ≡ taken (value features at) (λ r. next (emptied r (map (open_at features) (g ∷ left groups)))) new
-branch-begins s features at [] old g line last o new next is fit step = cc
+branch-begins s features at [] old g line last o new next is fit step = absurd (false≢true (ap is_some (sym is)))
 branch-begins s features at (g' ∷ outer) old g line last o new next is fit step =
     let e : g' ≡ old = cc in
     let fits = subst (λ (k : PlainGroup). Fits features at k) e (All-head (λ k. Fits features at k) g' outer fit) in
@@ -98,11 +83,35 @@ branch-begins s features at (g' ∷ outer) old g line last o new next is fit ste
     ∙ step fits (map (open_at features) outer)
 
 pub branch-fits : (features : ℕ → Bool) (at : Condition) (groups : List PlainGroup) (old g : PlainGroup) → Some old ≡ innermost groups → AllFit features at groups → (Fits features at old → Fits features at g) → AllFit features at (g ∷ left groups)
-branch-fits features at [] old g is fit fits = cc
+branch-fits features at [] old g is fit fits = absurd (false≢true (ap is_some (sym is)))
 branch-fits features at (g' ∷ outer) old g is fit fits =
     let e : g' ≡ old = cc in
     let here = subst (λ (k : PlainGroup). Fits features at k) e (All-head (λ k. Fits features at k) g' outer fit) in
     All-cons (λ k. Fits features at k) g outer (fits here) (All-tail (λ k. Fits features at k) g' outer fit)
+
+-- a directive line that belongs to no group
+alone-is : (s : Setting) (e h : Bool) (line : PlainLine) (o new : Option Reading) (source : Option spec.Source) (read_on : Reading → Flow) (run : List PlainToken) (groups : List Open) (next : Walk → Flow) → (IsTrue e → are_read groups ≡ h) → (IsTrue h → IsTrue e) → ((nx : Reading → Flow) → taken h (λ r. then_read (read_directive s r line.tokens) nx) o ≡ taken h (λ r. then_read (entered s.deeper source r) nx) new) → ((r : Reading) → read_on r ≡ (if h then entered s.deeper source r else on r)) → taken e (λ r. directive_read s (record { reading = r; run = run; groups = groups }) line next) o ≡ taken e (λ r. then_read (read_on r) (λ a. next (record { reading = a; run = run; groups = groups }))) new
+alone-is s true true line o new source read_on run groups next are inside step is =
+    let nx : Reading → Flow = λ a. next (record { reading = a; run = run; groups = groups }) in
+    ap (λ (b : Bool). taken true (λ r. if b then then_read (read_directive s r line.tokens) nx else nx r) o) (are refl)
+    ∙ step nx
+    ∙ taken-same true (λ r. then_read (entered s.deeper source r) nx) (λ r. then_read (read_on r) nx) new (λ r. ap (λ (f : Flow). then_read f nx) (sym (is r)))
+alone-is s true false line o new source read_on run groups next are inside step is =
+    let nx : Reading → Flow = λ a. next (record { reading = a; run = run; groups = groups }) in
+    let moved : o ≡ new =
+    sym (taken-off (λ r. then_read (read_directive s r line.tokens) nx) o) ∙ step nx ∙ taken-off (λ r. then_read (entered s.deeper source r) nx) new
+    in
+    ap (λ (b : Bool). taken true (λ r. if b then then_read (read_directive s r line.tokens) nx else nx r) o) (are refl)
+    ∙ ap (λ (m : Option Reading). taken true nx m) moved
+    ∙ taken-same true nx (λ r. then_read (read_on r) nx) new (λ r. ap (λ (f : Flow). then_read f nx) (sym (is r)))
+alone-is s false true line o new source read_on run groups next are inside step is = absurd (false≢true (inside refl))
+alone-is s false false line o new source read_on run groups next are inside step is =
+    let nx : Reading → Flow = λ a. next (record { reading = a; run = run; groups = groups }) in
+    let moved : o ≡ new =
+    sym (taken-off (λ r. then_read (read_directive s r line.tokens) nx) o) ∙ step nx ∙ taken-off (λ r. then_read (entered s.deeper source r) nx) new
+    in
+    taken-off (λ r. directive_read s (record { reading = r; run = run; groups = groups }) line next) o
+    ∙ moved ∙ sym (taken-off (λ r. then_read (read_on r) nx) new)
 
 same-either : (h : Bool) (r : Reading) → on r ≡ (if h then on r else on r)
 same-either true r = refl
@@ -136,9 +145,9 @@ end-closed s true (Some r) = refl
 end-closed s false (Some r) = refl
 
 pub ends-open : (s : Setting) (features : ℕ → Bool) (at : Condition) (groups : List PlainGroup) (g : PlainGroup) (o : Option Reading) → Some g ≡ innermost groups → taken (value features at) (λ r. end_of_file s (map (open_at features) groups) r) o ≡ unless_refused (value features at) o
-ends-open s features at [] g o is = cc
+ends-open s features at [] g o is = absurd (false≢true (ap is_some (sym is)))
 ends-open s features at (g' ∷ outer) g o is = end-open s (value features at) (open_at features g') (map (open_at features) outer) o
 
 pub ends-closed : (s : Setting) (features : ℕ → Bool) (at : Condition) (groups : List PlainGroup) (o : Option Reading) → None ≡ innermost groups → taken (value features at) (λ r. end_of_file s (map (open_at features) groups) r) o ≡ o
 ends-closed s features at [] o is = end-closed s (value features at) o
-ends-closed s features at (g ∷ outer) o is = cc
+ends-closed s features at (g ∷ outer) o is = absurd (false≢true (ap is_some is))

@@ -1,5 +1,7 @@
 -- What is read in a step, and what is read behind the walk that it leads to.
 use Rattle.std.proofs.Common.{◌≡◌, Bool, true, false, List, [], ◌++◌, Option, Some, None, refl, ap, sym, ◌∙◌, append-nil}
+use Rattle.std.specs.Prelude.{is_some}
+use Rattle.std.proofs.lemmas.Bool.{false≢true}
 use Rattle.c_text.specs.Preprocessing.{Reading, Refusal, Flow, on, refused, then_read, feature_token, unbalanced}
 use Rattle.active_tokens.specs.Reads.{Read, behind}
 use Rattle.file_walks.specs.Walk.{Walk}
@@ -31,11 +33,11 @@ module _ (walks_are_one : WalksAreOne) where
     lead-on (refused why) after (goes_on w h k m) same next =
         let none = same (λ v. on v.reading) in
         let some = ap came_to (k (λ v. on v.reading)) in
-        cc
+        absurd (false≢true (ap is_some (sym none ∙ some)))
     lead-on (on a) after (stops why k m) same next =
         let some = same (λ v. on v.reading) in
         let none = ap came_to (k (λ v. on v.reading)) in
-        cc
+        absurd (false≢true (ap is_some (sym none ∙ some)))
     lead-on (refused why') after (stops why k m) same next = m next ∙ sym (append-nil (what (λ v. [])))
 
     -- what comes to the same, whatever is next, reads nothing behind itself
@@ -43,14 +45,14 @@ module _ (walks_are_one : WalksAreOne) where
     stay m (goes_on w h k l) same next =
         let some : m ≡ Some w.reading = sym (same (λ v. on v.reading)) ∙ ap came_to (k (λ v. on v.reading)) in
         let none : m ≡ None = sym (same (λ v. refused some_refusal)) ∙ ap came_to (k (λ v. refused some_refusal)) in
-        cc
+        absurd (false≢true (ap is_some (sym none ∙ some)))
     stay m (stops why k l) same next = l next ∙ sym (append-nil (what (λ v. [])))
 
   stay-behind : (x : Flow) (after : Reading → Walk) (m : Option Reading) → ((next : Walk → Flow) → m ≡ came_to (then_read x (λ a. next (after a)))) → (next : Walk → List Read) → [] ≡ behind x (λ a. next (after a))
   stay-behind (on a) after m same next =
       let some = same (λ v. on v.reading) in
       let none = same (λ v. refused some_refusal) in
-      cc
+      absurd (false≢true (ap is_some (sym none ∙ some)))
   stay-behind (refused why) after m same next = refl
 
   -- A step of the definitions that leads on, whatever is next, to what another walk comes to: what is read in the step stands before

@@ -1,5 +1,3 @@
-pub mod Truths
-pub mod Groups
 pub mod Walks
 pub mod Streams
 pub mod Watches

@@ -15,7 +15,7 @@ use Rattle.cond_pp.specs.declared.walk.CondWalker.{CondWalker}
 use Rattle.cond_pp.specs.declared.walk.Inclusion.{Inclusion}
 use Rattle.cond_readings.specs.Readings.{taken}
 use Rattle.unit_files.specs.Settings.{entered}
-use Rattle.cond_pp.specs.Groups.{AllFit, groups_of, open_at, read_in}
+use Rattle.cond_groups.specs.Groups.{AllFit, groups_of, open_at, read_in}
 use Rattle.cond_pp.specs.Watches.{read_where}
 
 -- the walk of a configuration with its reading

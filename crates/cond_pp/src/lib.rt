@@ -2,12 +2,8 @@
 #![tactic(auto)]
 
 mod activity;
-mod branches;
-mod conditions;
-mod groups;
 mod laws;
 mod projects;
-mod runs;
 mod streams;
 mod units;
 mod walk;

@@ -12,17 +12,15 @@ ghost use Rattle.active_tokens.specs.Reads.{Following, read_of, reads_of_inclusi
 ghost use Rattle.file_walks.specs.Walk.{Walk, flushed, text_read, group_read, branch_read, end_read, directive_read, by_role, step, finished};
 ghost use Rattle.read_walks.specs.WalkReads.{reads_at_flush, reads_of_step};
 ghost use Rattle.cond_readings.specs.Readings.{reading_at, unless_refused};
-ghost use Rattle.cond_pp.specs.Groups.{groups_of, read_in, branch_read_in, end_read_in, line_read_in};
+ghost use Rattle.cond_groups.specs.Groups.{groups_of, read_in, branch_read_in, end_read_in, line_read_in};
 ghost use Rattle.unit_files.specs.Settings.{IsSettingOf, MayEnter};
 ghost use Rattle.cond_pp.specs.Walks.{IsFit, ahead, after_file, reads_ahead, reads_included, reads_named};
 ghost use Rattle.cond_pp.specs.Watches.{is_seen, read_where};
 
-use crate::branches::{Branch, begun, next_branch, refuse_end};
-use crate::groups::OpenGroups;
-use crate::runs::read_run;
 use crate::watch::Watch;
 use c_text::{Line, Token};
 use cond_formula::{Formula, NoMemory, Oracle};
+use cond_groups::{OpenGroups, begin_group, next_branch, read_run, refuse_end};
 use cond_readings::{CondReading, read_directive};
 use read_walks::{reads_are_tested, walks_are_one};
 use std::alloc::Global;
@@ -214,13 +212,7 @@ impl<'a> CondWalker<'a> {
             → ahead (has c) self.old (λ v. group_read s v (plain_line line.now) next) (reading_at (has c) (map string_bytes place.now.features.now) reading.old)
             ≡ ahead (has c) self.new next (reading_at (has c) (map string_bytes place.now.features.now) reading.new)) }
     {
-        let here = self.here();
-        let branch = Branch {
-            within: here,
-            asked: here,
-            last: false,
-        };
-        let group = begun(alloc, place, reading, oracle, line, &branch)?;
+        let group = begin_group(alloc, place, reading, oracle, line, self.here())?;
         self.groups.push(group)?;
         Ok(())
     }

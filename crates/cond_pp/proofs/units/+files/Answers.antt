@@ -10,10 +10,10 @@ use Rattle.file_walks.specs.Walk.{Walk, step, finished}
 use Rattle.unit_files.specs.Inclusions.{plain_source, IsAmong}
 use Rattle.unit_files.specs.SourceFiles.{deeper_of}
 use Rattle.cond_readings.specs.Readings.{taken, reading_at}
-use Rattle.cond_pp.specs.Groups.{groups_of}
+use Rattle.cond_groups.specs.Groups.{groups_of}
 use Rattle.cond_pp.specs.Walks.{IsFit, ahead, after_file, including, reads_ahead, reads_included}
 use Rattle.cond_pp.specs.declared.walk.Inclusion.{Inclusion}
-use Rattle.cond_pp.proofs.GroupLemmas.{fits-none}
+use Rattle.cond_groups.specs.GroupLaws.{fits-none}
 use Rattle.active_tokens.specs.Reads.{Read}
 use Rattle.active_tokens.specs.Active.{reads_of_source}
 use Rattle.read_walks.specs.SourceReads.{deeper_reads_of, following_in}

@@ -5,7 +5,7 @@ use Rattle.cond_formula.specs.Conditions.{condition_of, value}
 use Rattle.c_text.specs.Lines.{plain_line}
 use Rattle.file_walks.specs.Walk.{branch_read}
 use Rattle.cond_readings.specs.Readings.{reading_at, taken}
-use Rattle.cond_pp.specs.Groups.{PlainGroup, AllFit, groups_of, open_at, plain_group}
+use Rattle.cond_groups.specs.Groups.{PlainGroup, AllFit, groups_of, open_at, plain_group}
 use Rattle.cond_pp.specs.declared.walk.CondWalker.{CondWalker}
 use Rattle.cond_pp.proofs.WalkLemmas.{emptied, ahead-emptied, branch-begins, branch-fits}
 use Rattle.cond_pp.proofs.walk.CondWalker.begin_branch.Goals as goal

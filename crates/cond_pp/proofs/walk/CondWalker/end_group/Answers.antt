@@ -1,7 +1,7 @@
 use Rattle.std.proofs.Common.{List, sym, subst}
 use Rattle.cond_formula.specs.Conditions.{condition_of}
-use Rattle.cond_pp.specs.Groups.{PlainGroup, AllFit, groups_of}
-use Rattle.cond_pp.proofs.GroupLemmas.{fits-left}
+use Rattle.cond_groups.specs.Groups.{PlainGroup, AllFit, groups_of}
+use Rattle.cond_groups.specs.GroupLaws.{fits-left}
 use Rattle.cond_pp.proofs.walk.CondWalker.end_group.Goals as goal
 
 pub returns-in_ok-refuse_end-in-Some-clause-fit : goal.returns-in_ok-refuse_end-in-Some-clause-fit

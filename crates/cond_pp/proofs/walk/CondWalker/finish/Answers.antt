@@ -4,7 +4,7 @@ use Rattle.cond_formula.specs.Features.{has}
 use Rattle.cond_formula.specs.Conditions.{Condition, condition_of, value}
 use Rattle.file_walks.specs.Walk.{end_of_file}
 use Rattle.cond_readings.specs.Readings.{reading_at, unless_refused}
-use Rattle.cond_pp.specs.Groups.{groups_of, plain_group}
+use Rattle.cond_groups.specs.Groups.{groups_of, plain_group}
 use Rattle.active_tokens.specs.Reads.{Read}
 use Rattle.cond_pp.specs.Watches.{plain_sought, is_read_in}
 use Rattle.cond_pp.proofs.LineLemmas.{run-reads}

@@ -5,9 +5,9 @@ use Rattle.cond_formula.specs.Conditions.{Condition, condition_of, value}
 use Rattle.c_text.specs.Token.{plain_token}
 use Rattle.c_text.specs.Preprocessing.{read_run}
 use Rattle.cond_readings.specs.Readings.{reading_at, taken}
-use Rattle.cond_pp.specs.Groups.{groups_of, open_at, read_in}
+use Rattle.cond_groups.specs.Groups.{groups_of, open_at, read_in}
 use Rattle.cond_pp.specs.declared.walk.CondWalker.{CondWalker}
-use Rattle.cond_pp.proofs.GroupLemmas.{read-inside}
+use Rattle.cond_groups.specs.GroupLaws.{read-inside}
 use Rattle.cond_pp.proofs.WalkLemmas.{flush-is, ahead-emptied}
 use Rattle.cond_pp.proofs.walk.CondWalker.flush.Goals as goal
 

@@ -6,9 +6,9 @@ use Rattle.cond_formula.specs.Conditions.{Condition, condition_of, value}
 use Rattle.c_text.specs.Token.{plain_token}
 use Rattle.active_tokens.specs.Reads.{read_of}
 use Rattle.cond_readings.specs.Readings.{reading_at}
-use Rattle.cond_pp.specs.Groups.{groups_of, read_in}
+use Rattle.cond_groups.specs.Groups.{groups_of, read_in}
 use Rattle.cond_pp.specs.Watches.{plain_sought, is_read_in, read_where}
-use Rattle.cond_pp.proofs.GroupLemmas.{read-inside}
+use Rattle.cond_groups.specs.GroupLaws.{read-inside}
 use Rattle.cond_pp.proofs.SeenLemmas.{seen-run}
 use Rattle.cond_pp.proofs.walk.CondWalker.look_at_run.Goals as goal
 

@@ -10,11 +10,11 @@ use Rattle.active_tokens.specs.Reads.{reads_of_inclusion}
 use Rattle.unit_files.specs.Inclusions.{plain_source}
 use Rattle.cond_readings.specs.Readings.{reading_at, taken}
 use Rattle.unit_files.specs.Settings.{entered}
-use Rattle.cond_pp.specs.Groups.{groups_of, read_in}
+use Rattle.cond_groups.specs.Groups.{groups_of, read_in}
 use Rattle.unit_files.specs.declared.inclusions.Source.{Source}
 use Rattle.cond_pp.specs.declared.walk.Inclusion.{Inclusion}
 use Rattle.cond_pp.specs.Watches.{read_where}
-use Rattle.cond_pp.proofs.GroupLemmas.{read-inside}
+use Rattle.cond_groups.specs.GroupLaws.{read-inside}
 use Rattle.cond_pp.proofs.InclusionLemmas.{found-reads, no-reads}
 use Rattle.cond_pp.proofs.WalkLemmas.{alone-finds, finds-none}
 use Rattle.cond_pp.proofs.walk.CondWalker.read_alone.Goals as goal

@@ -7,7 +7,7 @@ use Rattle.c_text.specs.Trees.{role_of}
 use Rattle.active_tokens.specs.Reads.{read_of}
 use Rattle.cond_readings.specs.Readings.{reading_at}
 use Rattle.cond_pp.specs.declared.watch.Sought.{Sought}
-use Rattle.cond_pp.specs.Groups.{groups_of, line_read_in}
+use Rattle.cond_groups.specs.Groups.{groups_of, line_read_in}
 use Rattle.cond_pp.specs.Watches.{plain_sought, is_read_in, read_where}
 use Rattle.cond_pp.proofs.LineLemmas.{directive-seen}
 use Rattle.std.specs.Prelude.{if◌then◌else◌}

@@ -6,7 +6,7 @@ use Rattle.c_text.specs.Lines.{plain_line}
 use Rattle.c_text.specs.Trees.{begins, begins_branch, begins_last, closes}
 use Rattle.unit_files.specs.Roles.{plain_role}
 use Rattle.cond_readings.specs.Readings.{reading_at}
-use Rattle.cond_pp.specs.Groups.{groups_of, read_in}
+use Rattle.cond_groups.specs.Groups.{groups_of, read_in}
 use Rattle.cond_pp.proofs.ReadLemmas.{no-inclusion, alone-named}
 use Rattle.cond_pp.proofs.WalkLemmas.{of-role}
 use Rattle.cond_pp.proofs.walk.CondWalker.read_role.Goals as goal

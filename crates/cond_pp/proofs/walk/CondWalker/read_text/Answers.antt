@@ -6,9 +6,9 @@ use Rattle.c_text.specs.declared.token.Token.{Token}
 use Rattle.c_text.specs.Token.{plain_token}
 use Rattle.c_text.specs.Lines.{plain_line}
 use Rattle.cond_readings.specs.Readings.{taken}
-use Rattle.cond_pp.specs.declared.groups.OpenGroups.{OpenGroups}
-use Rattle.cond_pp.specs.Groups.{groups_of, open_at, read_in}
-use Rattle.cond_pp.proofs.GroupLemmas.{read-is}
+use Rattle.cond_groups.specs.declared.groups.OpenGroups.{OpenGroups}
+use Rattle.cond_groups.specs.Groups.{groups_of, open_at, read_in}
+use Rattle.cond_groups.specs.GroupLaws.{read-is}
 use Rattle.cond_pp.proofs.WalkLemmas.{text-is}
 use Rattle.cond_pp.proofs.walk.CondWalker.read_text.Goals as goal
 
