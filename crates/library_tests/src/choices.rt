@@ -17,7 +17,7 @@ fn when(alloc: Global, when: Formula, item: Item) -> Result<Choice<Item>, NoMemo
     Ok(Choice { branches })
 }
 
-fn leaf(alloc: Global, number: u32, text: &str) -> Result<Item, NoMemory> {
+pub fn leaf(alloc: Global, number: u32, text: &str) -> Result<Item, NoMemory> {
     let span = Span { start: 0, end: 0 };
     let token = Token {
         kind: TokenKind::Punctuator,
@@ -58,7 +58,7 @@ fn statement(alloc: Global) -> Result<Forest, NoMemory> {
 }
 
 /// The spelling of the tree that a configuration sees, with a blank behind each token.
-fn seen(alloc: Global, forest: &Forest, bits: u128) -> Result<Vec<u8>, NoMemory> {
+pub fn seen(alloc: Global, forest: &Forest, bits: u128) -> Result<Vec<u8>, NoMemory> {
     let tree = project(alloc, forest, Config { bits })?;
     let mut text = Vec::new(alloc);
     for token in spell(alloc, &tree)? {

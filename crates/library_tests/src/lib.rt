@@ -6,9 +6,13 @@ mod choices;
 #[cfg(test)]
 mod formulas;
 #[cfg(test)]
+mod paths;
+#[cfg(test)]
 mod refutations;
 #[cfg(test)]
 mod spans;
+#[cfg(test)]
+mod states;
 #[cfg(test)]
 mod tokens;
 #[cfg(test)]

@@ -1,0 +1,9 @@
+pub mod SeenLaws
+pub mod Branches
+pub mod PartLists
+pub mod Wholes
+pub mod PlainForms
+pub mod Fitting
+pub mod Finishing
+pub mod Making
+pub mod Reading

@@ -1,0 +1,12 @@
+//! The laws on tokens that are read with their numbers.
+ghost use Rattle.choice_states.specs.Reading.{TreesAreRead, LeavesAreTheTokens};
+
+/// Tokens with numbers are read as the tree that they are read as without.
+pub fn trees_are_read()
+    ensures { TreesAreRead }
+{}
+
+/// The leaves of what tokens are read as are those tokens, in their order and with their numbers.
+pub fn leaves_are_the_tokens()
+    ensures { LeavesAreTheTokens }
+{}

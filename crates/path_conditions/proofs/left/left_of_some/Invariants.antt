@@ -1,0 +1,8 @@
+use Rattle.std.proofs.Common.{◌≡◌, ℕ, Bool, ◌||◌, drop, IsTrue}
+use Rattle.cond_formula.specs.Conditions.{condition_of, conditions_of, value, all_true, any_true}
+use Rattle.path_conditions.proofs.left.left_of_some.Given as goal
+
+abbrev pub invariant-loop-part : goal.invariant-loop-part
+invariant-loop-part l =
+    (on : ℕ → Bool) → IsTrue (all_true on (conditions_of l.path))
+    → (value on (condition_of l.left) || any_true on (conditions_of (drop l.part-index l.parts))) ≡ any_true on (conditions_of l.parts)
