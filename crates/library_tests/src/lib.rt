@@ -6,6 +6,8 @@ mod choices;
 #[cfg(test)]
 mod formulas;
 #[cfg(test)]
+mod heights;
+#[cfg(test)]
 mod paths;
 #[cfg(test)]
 mod refutations;
