@@ -11,13 +11,13 @@ fn always(alloc: Global, number: u32, text: &str) -> Result<Choice<Item>, NoMemo
     when(alloc, Formula::True, leaf(alloc, number, text)?)
 }
 
-fn when(alloc: Global, when: Formula, item: Item) -> Result<Choice<Item>, NoMemory> {
+pub(crate) fn when(alloc: Global, when: Formula, item: Item) -> Result<Choice<Item>, NoMemory> {
     let mut branches = Vec::with_capacity(alloc, 1)?;
     branches.push((when, item))?;
     Ok(Choice { branches })
 }
 
-pub fn leaf(alloc: Global, number: u32, text: &str) -> Result<Item, NoMemory> {
+pub(crate) fn leaf(alloc: Global, number: u32, text: &str) -> Result<Item, NoMemory> {
     let span = Span { start: 0, end: 0 };
     let token = Token {
         kind: TokenKind::Punctuator,
@@ -58,7 +58,7 @@ fn statement(alloc: Global) -> Result<Forest, NoMemory> {
 }
 
 /// The spelling of the tree that a configuration sees, with a blank behind each token.
-pub fn seen(alloc: Global, forest: &Forest, bits: u128) -> Result<Vec<u8>, NoMemory> {
+pub(crate) fn seen(alloc: Global, forest: &Forest, bits: u128) -> Result<Vec<u8>, NoMemory> {
     let tree = project(alloc, forest, Config { bits })?;
     let mut text = Vec::new(alloc);
     for token in spell(alloc, &tree)? {

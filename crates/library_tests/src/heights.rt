@@ -1,3 +1,4 @@
+use crate::choices::when;
 use c_text::{Origin, Place, Token, TokenKind};
 use c_tree::Kind;
 use choice_trees::{Choice, Forest, Item};
@@ -24,14 +25,8 @@ fn leaf(alloc: Global, kind: TokenKind, text: &str) -> Result<Item, NoMemory> {
     Ok(Item::Leaf(0, token))
 }
 
-fn under(alloc: Global, when: Formula, item: Item) -> Result<Choice<Item>, NoMemory> {
-    let mut branches = Vec::with_capacity(alloc, 1)?;
-    branches.push((when, item))?;
-    Ok(Choice { branches })
-}
-
 fn mark(alloc: Global, text: &str) -> Result<Choice<Item>, NoMemory> {
-    under(
+    when(
         alloc,
         Formula::True,
         leaf(alloc, TokenKind::Punctuator, text)?,
@@ -44,7 +39,7 @@ fn in_parentheses(alloc: Global, count: usize) -> Result<Item, NoMemory> {
     for _ in 0..count {
         let mut parts = Vec::with_capacity(alloc, 3)?;
         parts.push(mark(alloc, "(")?)?;
-        parts.push(under(alloc, Formula::True, item)?)?;
+        parts.push(when(alloc, Formula::True, item)?)?;
         parts.push(mark(alloc, ")")?)?;
         item = Item::Node(Kind::Parenthesized, parts);
     }
@@ -52,9 +47,9 @@ fn in_parentheses(alloc: Global, count: usize) -> Result<Item, NoMemory> {
 }
 
 /// The item alone at file scope, under a condition.
-fn alone(alloc: Global, when: Formula, item: Item) -> Result<Forest, NoMemory> {
+fn alone(alloc: Global, condition: Formula, item: Item) -> Result<Forest, NoMemory> {
     let mut items = Vec::with_capacity(alloc, 1)?;
-    items.push(under(alloc, when, item)?)?;
+    items.push(when(alloc, condition, item)?)?;
     Ok(Forest { items })
 }
 
@@ -67,14 +62,14 @@ fn is_too_high(alloc: Global, forest: &Forest) -> Result<(bool, bool), NoMemory>
 /// An array with this many elements, and a star where the first feature is on.
 fn array(alloc: Global, size: Item) -> Result<Item, NoMemory> {
     let mut parts = Vec::with_capacity(alloc, 5)?;
-    parts.push(under(
+    parts.push(when(
         alloc,
         Formula::Var(0),
         leaf(alloc, TokenKind::Punctuator, "*")?,
     )?)?;
-    parts.push(under(alloc, Formula::True, leaf(alloc, TokenKind::Name, "a")?)?)?;
+    parts.push(when(alloc, Formula::True, leaf(alloc, TokenKind::Name, "a")?)?)?;
     parts.push(mark(alloc, "[")?)?;
-    parts.push(under(alloc, Formula::True, size)?)?;
+    parts.push(when(alloc, Formula::True, size)?)?;
     parts.push(mark(alloc, "]")?)?;
     Ok(Item::Node(Kind::ArrayDeclarator, parts))
 }
