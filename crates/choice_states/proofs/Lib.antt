@@ -7,3 +7,4 @@ pub mod Fitting
 pub mod Finishing
 pub mod Making
 pub mod Reading
+pub mod ListPlaces

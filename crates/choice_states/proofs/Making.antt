@@ -4,7 +4,7 @@ use Rattle.c_tree.specs.declared.kinds.Kind.{Kind}
 use Rattle.c_tree.specs.declared.terminals.Terminal.{Terminal}
 use Rattle.c_tree.specs.declared.terminals.Terminal.TheVariants.{Other}
 use Rattle.c_tree.specs.Places.{Place, Beginning, no_beginning, begins, Move, shifts, enters, takes, skips, finishes, passes, fails, move, back}
-use Rattle.c_tree.specs.Machine.{Making, Frame, frame, Outcome, goes_on, nested, begun, alone, moved, arrives, outcome, whole, finished, finished_of}
+use Rattle.c_tree.specs.Machine.{Making, Frame, frame, Outcome, goes_on, nested, begun, alone, moved, arrives, outcome, whole, finished_of}
 
 module _
     {A : Type 0} (a b : Making A) (same_parts : (kind : Kind) (parts : List A) → b.of_parts kind parts ≡ a.of_parts kind parts) (same_nothing : b.of_nothing ≡ a.of_nothing)

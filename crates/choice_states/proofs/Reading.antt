@@ -1,16 +1,15 @@
 -- Tokens with numbers are read as without, and their leaves are the tokens: the numbers are told by tokens that say where they stand.
-use Rattle.std.proofs.Common.{◌≡◌, ℕ, zero, suc, Bool, List, [], ◌∷◌, ◌++◌, map, drop, get_or, append_assoc, Option, Some, None, refl, sym, ap, ◌∙◌}
+use Rattle.std.proofs.Common.{◌≡◌, ℕ, zero, suc, List, [], ◌∷◌, ◌++◌, map, drop, get_or, append_assoc, Option, Some, None, refl, sym, ap, ◌∙◌}
 use Rattle.std.specs.Prelude.{option_map}
 use Rattle.std.proofs.lemmas.List.{map-append}
 use Rattle.c_text.specs.Token.{PlainToken}
-use Rattle.c_tree.specs.declared.kinds.Kind.{Kind}
 use Rattle.c_tree.specs.Terminals.{terminal}
 use Rattle.c_tree.specs.Trees.{PlainTree, PlainTrees, leaf, node, none, more, trees, written, all_written, spelled}
 use Rattle.c_tree.specs.Machine.{Making, Frame, outcome, going_on, next, read_on, start, finished_of, of_trees, read}
 use Rattle.c_tree.proofs.Makings.{Carries, frame_map, outcome-carried, going_on-carried, finished_of-carried, read-carried}
 use Rattle.c_tree.proofs.Sound.{read_is_spelt}
 use Rattle.choice_trees.specs.Leaves.{Leaf, texts}
-use Rattle.choice_states.specs.Seen.{Seen, leaves_of, token_seen, node_seen, nothing_seen, of_seen}
+use Rattle.choice_states.specs.Seen.{Seen, leaves_of, node_seen, nothing_seen, of_seen}
 use Rattle.choice_states.specs.Reading.{leaf_seen, next_seen, read_seen, seen_of, TreesAreRead, LeavesAreTheTokens}
 use Rattle.choice_states.proofs.SeenLaws.{trees_carried}
 use Rattle.choice_states.proofs.Making.{outcome-same, finished_of-same}

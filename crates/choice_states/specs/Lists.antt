@@ -1,23 +1,51 @@
 -- Lists that have begun only where they have an entry, and parts that are left out.
-use Rattle.std.specs.Prelude.{ℕ, ◌==◌, List, [], ◌∷◌, drop, if◌then◌else◌}
+use Rattle.std.specs.Prelude.{ℕ, ◌==◌, Bool, true, false, List, [], ◌∷◌, drop, length, Option, Some, None, if◌then◌else◌}
+use Rattle.c_tree.specs.declared.kinds.Kind.{Kind}
 use Rattle.c_tree.specs.declared.kinds.Kind.TheVariants.{Block, StructDefinition, Call, Braces, LocalDeclaration, Member, Items, Members, Arguments, Initialisers}
-use Rattle.c_tree.specs.Grammar.{expression, initialiser, item, items, member, members, arguments, initialisers, declarators, local, member_of, word, needed, optional}
+use Rattle.c_tree.specs.Grammar.{expression, initialiser, item, items, member, members, arguments, initialisers, declarators, local, member_of, Slot, needed, optional}
 use Rattle.c_tree.specs.Places.{Place, inside, in_brackets, in_list, separated_from, declarator_next}
 use Rattle.c_tree.specs.Machine.{Frame, frame}
+use Rattle.choice_states.specs.Parts.{is_there}
+
+-- the part of a node of a kind that is such a list
+abbrev pub list_part : Kind → Option Slot
+list_part Block = Some (optional items)
+list_part StructDefinition = Some (needed members)
+list_part Call = Some (optional arguments)
+list_part Braces = Some (needed initialisers)
+list_part LocalDeclaration = Some (needed (declarators local))
+list_part Member = Some (needed (declarators member_of))
+list_part kind = None
+
+-- how many parts stand behind it
+abbrev pub behind_list : Kind → ℕ
+behind_list StructDefinition = 2
+behind_list kind = 1
+
+-- a place in such a list, before an entry, in a node of a kind
+abbrev pub is_before_entry : Place → Kind → Bool
+is_before_entry (in_list Items item) Block = true
+is_before_entry (in_list Members member) StructDefinition = true
+is_before_entry (separated_from Arguments (expression n)) Call = n == 1
+is_before_entry (separated_from Initialisers initialiser) Braces = true
+is_before_entry (declarator_next local) LocalDeclaration = true
+is_before_entry (declarator_next member_of) Member = true
+is_before_entry before kind = false
+
+-- the place before the list in a node, by the parts that are to come behind it
+abbrev pub before_list : Kind → List Slot → Option Slot → List Place
+before_list kind slots None = []
+before_list kind slots (Some list) = if length slots == behind_list kind then inside kind (list ∷ slots) ∷ [] else []
 
 -- The place around a list, where it hasn't begun: by its place before an entry, and the place behind it.
 abbrev pub around_of : Place → Place → List Place
-around_of (in_list Items item) (inside Block (word end ∷ [])) = inside Block (optional items ∷ word end ∷ []) ∷ []
-around_of (in_list Members member) (inside StructDefinition (word end ∷ word semicolon ∷ [])) =
-    inside StructDefinition (needed members ∷ word end ∷ word semicolon ∷ []) ∷ []
-around_of (separated_from Arguments (expression n)) (inside Call (word end ∷ [])) =
-    if n == 1 then inside Call (optional arguments ∷ word end ∷ []) ∷ [] else []
-around_of (separated_from Initialisers initialiser) (inside Braces (word end ∷ [])) =
-    inside Braces (needed initialisers ∷ word end ∷ []) ∷ []
-around_of (declarator_next local) (inside LocalDeclaration (word end ∷ [])) =
-    inside LocalDeclaration (needed (declarators local) ∷ word end ∷ []) ∷ []
-around_of (declarator_next member_of) (inside Member (word end ∷ [])) = inside Member (needed (declarators member_of) ∷ word end ∷ []) ∷ []
+around_of before (inside kind slots) = if is_before_entry before kind then before_list kind slots (list_part kind) else []
 around_of before behind = []
+
+-- in a node that has such a list
+abbrev pub is_around_list : Place → Bool
+is_around_list (inside kind slots) = is_there (list_part kind)
+is_around_list place = false
 
 -- the frames where the list hasn't begun
 abbrev pub without_list : {A : Type 0} → List Place → Place → Frame A → List (Frame A) → List (Frame A)

@@ -3,7 +3,7 @@ use Rattle.std.specs.Prelude.{◌≡◌, ℕ, zero, suc, ◌-◌, Bool, true, fa
 use Rattle.c_tree.specs.declared.kinds.Kind.{Kind}
 use Rattle.c_tree.specs.declared.kinds.Kind.TheVariants.{If, Else, While, Do, For}
 use Rattle.c_tree.specs.Grammar.{row}
-use Rattle.c_tree.specs.Places.{Place, inside, operator}
+use Rattle.c_tree.specs.Places.{Place, inside, operator, in_list, entered, separated_from}
 use Rattle.choice_states.specs.Seen.{Seen, Parts}
 
 abbrev pub is_empty : {A : Type 0} → List A → Bool
@@ -57,9 +57,16 @@ abbrev pub has_operand : Place → Parts → Bool
 has_operand (operator wanted own) parts = not (is_empty (values parts))
 has_operand place parts = true
 
+-- in a list of a kind whose parts have numbers: no grammar has one
+abbrev pub is_numbered_list : Place → Bool
+is_numbered_list (in_list kind category) = is_numbered kind
+is_numbered_list (entered kind category) = is_numbered kind
+is_numbered_list (separated_from kind category) = is_numbered kind
+is_numbered_list place = false
+
 -- the parts that a node has where one stands at a place behind them
 abbrev pub parts_fit : Place → Parts → Bool
-parts_fit place parts = is_aligned (part_count place) parts && has_operand place parts
+parts_fit place parts = is_aligned (part_count place) parts && (has_operand place parts && not (is_numbered_list place))
 
 -- those that it has where one stands in a part before the place
 abbrev pub all_but_one : Option ℕ → Parts → Bool
@@ -68,7 +75,7 @@ all_but_one (Some zero) parts = false
 all_but_one (Some (suc n)) parts = aligned n parts
 
 abbrev pub parts_fit_within : Place → Parts → Bool
-parts_fit_within place parts = all_but_one (part_count place) parts
+parts_fit_within place parts = all_but_one (part_count place) parts && not (is_numbered_list place)
 
 -- those of a whole node of a kind, or of one that is its one part
 abbrev pub parts_are_whole : Option Kind → Parts → Bool

@@ -1,9 +1,13 @@
 -- What tokens with numbers are read as; each law is the contract of a function of this crate.
-use Rattle.std.specs.Prelude.{◌≡◌, List, [], ◌∷◌, Option, Some, None, option_map}
+use Rattle.std.specs.Prelude.{◌≡◌, ℕ, Bool, List, [], ◌∷◌, Option, Some, None, option_map}
 use Rattle.c_tree.specs.Terminals.{terminal}
 use Rattle.c_tree.specs.Machine.{Frame, outcome, going_on, start, finished_of, of_trees, read}
-use Rattle.choice_trees.specs.Leaves.{Leaf, texts}
-use Rattle.choice_states.specs.Seen.{Seen, token_seen, of_seen}
+use Rattle.choice_trees.specs.declared.trees.Forest.{Forest}
+use Rattle.choice_trees.specs.ChoiceTrees.{forest_at}
+use Rattle.choice_trees.specs.Leaves.{Leaf, texts, forest_leaves}
+use Rattle.c_tree.specs.declared.kinds.Kind.TheVariants.{Unit}
+use Rattle.choice_states.specs.Seen.{Seen, token_seen, of_seen, node_seen, seen_in}
+use Rattle.choice_states.specs.Parts.{values}
 
 abbrev pub leaf_seen : Leaf → Seen
 leaf_seen leaf = token_seen leaf.number leaf.text
@@ -30,3 +34,9 @@ TreesAreRead = (leaves : List Leaf) → option_map (λ seen. seen.tree) (seen_of
 -- its leaves are the tokens
 abbrev pub LeavesAreTheTokens : Type 0
 LeavesAreTheTokens = (leaves : List Leaf) (seen : Seen) → seen_of leaves ≡ Some seen → seen.leaves ≡ leaves
+
+-- what is seen of a unit is made of what is seen of its items
+abbrev pub UnitsAreSeen : Type 0
+UnitsAreSeen =
+    (on : ℕ → Bool) (forest : Forest) →
+    record { tree = forest_at on forest; leaves = forest_leaves on forest } ≡ node_seen Unit (values (seen_in on forest.items.items))

@@ -16,7 +16,7 @@ use Rattle.choice_states.specs.declared.states.After.TheOpen as after
 use Rattle.choice_states.specs.declared.states.After.TheFolds.{fold-After}
 use Rattle.choice_states.specs.Seen.{Seen, node_seen, of_seen, Parts, choice_seen, seen_in}
 use Rattle.choice_states.specs.Parts.{first_of, is_there, values, parts_fit, parts_fit_within, parts_are_whole}
-use Rattle.choice_states.specs.Lists.{frames_at}
+use Rattle.choice_states.specs.Lists.{is_around_list, frames_at}
 
 -- what the next token leads to, in the nodes around
 abbrev pub Leading : Type 0
@@ -88,7 +88,7 @@ without_entry around [] kind token = is_wrong
 without_entry around (outer ∷ frames) kind token = outcome of_seen kind token (frame around outer.parts ∷ frames)
 
 abbrev pub unbegun : Place → Standing
-unbegun around = record { fits = true; stay = leaves; leads = without_entry around }
+unbegun around = record { fits = is_around_list around; stay = leaves; leads = without_entry around }
 
 -- a node whose first parts are those of another
 abbrev pub taken : Place → Place → Parts → Standing

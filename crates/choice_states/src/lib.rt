@@ -14,7 +14,7 @@ mod states;
 
 pub use closings::finished;
 pub use joins::{joined, split};
-pub use laws::{leaves_are_the_tokens, trees_are_read};
+pub use laws::{leaves_are_the_tokens, trees_are_read, units_are_seen};
 pub use lists::{around, list_at};
 pub use parts::{certain, leaf_of, some_are_there};
 pub use places::{behind_left_out, ending, is_same_place};

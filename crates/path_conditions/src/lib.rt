@@ -8,6 +8,6 @@ mod presences;
 mod said;
 
 pub use left::{conjoined, left_of};
-pub use paths::{exclude, with, without};
+pub use paths::{copied, exclude, with, without};
 pub use presences::{Presence, presence_on};
 pub use said::{follows, is_excluded};

@@ -9,7 +9,7 @@ use cond_formula::{Formula, NoMemory};
 use std::alloc::Global;
 
 /// The same path.
-fn copied(alloc: Global, path: &[Formula]) -> Result<Vec<Formula>, NoMemory>
+pub fn copied(alloc: Global, path: &[Formula]) -> Result<Vec<Formula>, NoMemory>
     ensures { IfOk result (λ copies. map condition_of copies.items ≡ map condition_of path.now) }
 {
     let mut copies = Vec::with_capacity(alloc, path.len())?;
