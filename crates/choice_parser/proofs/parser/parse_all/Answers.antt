@@ -1,0 +1,18 @@
+use Rattle.std.proofs.Common.{length, subst, sym, ap, ◌∙◌}
+use Rattle.cond_formula.specs.Features.{has}
+use Rattle.cond_formula.specs.Conditions.{condition_of, value}
+use Rattle.choice_parser.specs.Steps.{stood}
+use Rattle.choice_parser.specs.Units.{Progress, IsParsed}
+use Rattle.choice_parser.proofs.UnitLemmas.{progress_ends}
+use Rattle.choice_parser.proofs.ParsedLemmas.{parsed_so}
+use Rattle.choice_parser.proofs.parser.parse_all.Goals as goal
+
+pub returns-clause-parsed : goal.returns-clause-parsed
+returns-clause-parsed g c = λ c' admitted.
+    let ends = progress_ends (has c') c.args.stream.now.tokens.items (value (has c') (condition_of c.in_ok-so_far.so_far.refused)) (stood c.in_ok-so_far.so_far.state c.in_ok-so_far.so_far.items.items (has c'))
+    (subst (λ tokens. Progress (has c') tokens (length tokens) (value (has c') (condition_of c.in_ok-so_far.so_far.refused)) (stood c.in_ok-so_far.so_far.state c.in_ok-so_far.so_far.items.items (has c')))
+    c.deref.ensures.value (c.in_ok-so_far.ensures.read c' admitted)) in
+    subst (λ forest. IsParsed (has c') c.args.stream.now.tokens.items (value (has c') (condition_of c.in_ok-low.low.refused)) forest) (sym c.in_ok-low.ensures.forest_is)
+    (parsed_so (record { trees = c.trees_are_read.ensures; leaves = c.leaves_are_the_tokens.ensures; units = c.units_are_seen.ensures; spelt = c.what_is_read_is_spelt.ensures; read = c.what_is_spelt_is_read.ensures })
+    (has c') c.args.stream.now.tokens.items ends.0 (value (has c') (condition_of c.in_ok-parsed.parsed.refused)) (value (has c') (condition_of c.in_ok-low.low.refused)) c.in_ok-parsed.parsed.forest
+    ends.1 (c.in_ok-parsed.ensures.ended c' ends.0 (ap (value (has c')) c.in_ok-so_far.ensures.kept ∙ admitted) ends.2) (c.in_ok-low.ensures.refused_is (has c')))

@@ -1,0 +1,13 @@
+//! The parser of a unit's tokens in all configurations: one sweep over the tokens under conditions, by the same moves as that of one
+//! configuration.
+#![tactic(auto)]
+
+mod alternatives;
+mod parser;
+mod places;
+mod reading;
+mod refusals;
+mod settling;
+mod units;
+
+pub use parser::{Parsed, parse_all};
