@@ -11,6 +11,7 @@ use plain_parse::{ParseError, parse};
 use std::alloc::{AllocError, Global};
 use std::fmt;
 
+#[cycle(trees)]
 fn is_same(a: &Tree, b: &Tree) -> bool {
     match (a, b) {
         (Tree::Leaf(a), Tree::Leaf(b)) => {
@@ -21,6 +22,7 @@ fn is_same(a: &Tree, b: &Tree) -> bool {
     }
 }
 
+#[cycle(trees)]
 fn are_same(a: &[Tree], b: &[Tree]) -> bool {
     if a.len() != b.len() {
         return false;

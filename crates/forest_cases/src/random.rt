@@ -19,11 +19,16 @@ impl Draws {
             (self.x / 65536) % below
         }
     }
+
+    /// One of three features.
+    fn feature(&mut self) -> u8 {
+        self.draw(3).min(2) as u8
+    }
 }
 
 fn condition(alloc: Global, draws: &mut Draws) -> Result<Formula, NoMemory> {
-    let a = Formula::Var(draws.draw(3) as u8);
-    let b = Formula::not(alloc, Formula::Var(draws.draw(3) as u8))?;
+    let a = Formula::Var(draws.feature());
+    let b = Formula::not(alloc, Formula::Var(draws.feature()))?;
     match draws.draw(6) {
         0 | 1 => Ok(a),
         2 | 3 => Ok(b),
@@ -52,7 +57,7 @@ fn stream(
     let count = tokens.len() as u64;
     for _ in 0..groups {
         let start = draws.draw(count);
-        let length = 1 + draws.draw(6);
+        let length = draws.draw(6).saturating_add(1);
         let when = condition(alloc, draws)?;
         for i in start..start.saturating_add(length).min(count) {
             if let Some(entry) = tokens.get_mut(i as usize) {
