@@ -18,7 +18,7 @@ use Rattle.choice_states.specs.States.{Standing, standing}
 use Rattle.choice_states.specs.StateLaws.{standing-In, standing-Split}
 use Rattle.choice_parser.specs.Deaths.{is_dead, DeadIsWrong, LivesIfSome, LivesAsSplit, IsRefused}
 use Rattle.choice_parser.specs.DeathLaws.{is_dead-In, is_dead-Split}
-use Rattle.choice_parser.proofs.Divisions.{Divides}
+use Rattle.choice_settling.proofs.Divisions.{Divides}
 
 none_such : {A : Type 0} → true ≡ false → A
 none_such h = cc

@@ -20,7 +20,7 @@ use Rattle.choice_states.specs.Parts.{values}
 use Rattle.choice_states.specs.States as states
 use Rattle.choice_states.specs.States.{Stay, Standing, dead, IsClean}
 use Rattle.choice_states.specs.Reading.{leaf_seen, next_seen, read_seen, finished_seen}
-use Rattle.choice_parser.specs.Steps.{seen_of, IsSound, IsBehind, IsRead, ReadsThere, Keeps, Reads, Settles}
+use Rattle.choice_settling.specs.Steps.{seen_of, IsSound, IsBehind, IsRead, ReadsThere, Keeps, Reads, Settles}
 use Rattle.choice_parser.specs.Deaths.{if_left, within_unit}
 use Rattle.choice_parser.specs.Units.{numbered_at, Nodes, leading, StandsBehind, StaysBehind, behind, HasRead, IsInUnit, IsSoFar, Progress, IsEnded, EndsNoUnit, EndsUnit, IsEndOfUnit, IsRefusedHere}
 

@@ -1,10 +1,3 @@
-pub mod Around
-pub mod LeftOut
-pub mod Leaving
-pub mod Steps
-pub mod Beginnings
-pub mod Pushing
-pub mod SpotLaws
 pub mod Deaths
 pub mod DeathLaws
 pub mod Units

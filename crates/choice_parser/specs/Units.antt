@@ -19,7 +19,7 @@ use Rattle.choice_states.specs.Parts.{values}
 use Rattle.choice_states.specs.States.{Standing, stays, leaves, takes}
 use Rattle.choice_states.specs.Reading.{read_seen, finished_seen}
 use Rattle.choice_parser.specs.declared.parser.Parsed.{Parsed}
-use Rattle.choice_parser.specs.Steps.{IsSound, IsRead}
+use Rattle.choice_settling.specs.Steps.{IsSound, IsRead}
 use Rattle.choice_parser.specs.Deaths.{within_unit}
 
 -- the tokens that are present, with their numbers in the stream, from this one on

@@ -2,12 +2,8 @@
 //! configuration.
 #![tactic(auto)]
 
-mod alternatives;
 mod parser;
-mod places;
-mod reading;
 mod refusals;
-mod settling;
 mod units;
 
 pub use parser::{Parsed, parse_all};

@@ -9,14 +9,14 @@ ghost use Rattle.cond_tokens.specs.declared.tokens.CondToken.{CondToken as Entry
 ghost use Rattle.choice_lookahead.specs.Ahead.{next_kind};
 ghost use Rattle.choice_states.specs.Seen.{seen_in};
 ghost use Rattle.choice_states.specs.Parts.{values};
-ghost use Rattle.choice_parser.specs.Steps.{seen_of, stood};
+ghost use Rattle.choice_settling.specs.Steps.{seen_of, stood};
 ghost use Rattle.choice_parser.specs.Units.{Nodes, StandsBehind, StaysBehind, HasRead, behind, IsSoFar, Progress, IsEnded, IsLowPart, IsParsed};
 
-use crate::reading::{Reading, read};
 use crate::refusals::buried;
-use crate::settling::{Ahead, settled};
 use crate::units::{end_of_text, refused_in, still_in_unit};
 use c_tree::{Kind, terminal, what_is_read_is_spelt, what_is_spelt_is_read};
+use choice_reading::{Reading, read};
+use choice_settling::{Ahead, settled};
 use choice_states::{State, leaves_are_the_tokens, trees_are_read, units_are_seen};
 use choice_trees::{Choice, Forest, Item};
 use cond_formula::{Formula, NoMemory, Oracle};

@@ -1,7 +1,7 @@
 use Rattle.std.proofs.Common.{length, subst, sym, ap, ◌∙◌}
 use Rattle.cond_formula.specs.Features.{has}
 use Rattle.cond_formula.specs.Conditions.{condition_of, value}
-use Rattle.choice_parser.specs.Steps.{stood}
+use Rattle.choice_settling.specs.Steps.{stood}
 use Rattle.choice_parser.specs.Units.{Progress, IsParsed}
 use Rattle.choice_parser.proofs.UnitLemmas.{progress_ends}
 use Rattle.choice_parser.proofs.ParsedLemmas.{parsed_so}

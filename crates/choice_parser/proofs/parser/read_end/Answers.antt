@@ -2,7 +2,7 @@ use Rattle.std.proofs.Common.{true, IsTrue, subst, sym, ap, ◌∙◌}
 use Rattle.cond_formula.specs.Features.{has}
 use Rattle.cond_formula.specs.Conditions.{condition_of, conditions_of, value, all_true}
 use Rattle.choice_states.specs.Seen.{seen_in}
-use Rattle.choice_parser.specs.Steps.{seen_of, stood}
+use Rattle.choice_settling.specs.Steps.{seen_of, stood}
 use Rattle.choice_parser.specs.Units.{IsRefusedHere}
 use Rattle.choice_parser.proofs.UnitLemmas.{end_so_far}
 use Rattle.choice_parser.proofs.parser.read_end.Goals as goal

@@ -3,7 +3,7 @@ use Rattle.cond_formula.specs.Features.{has}
 use Rattle.cond_formula.specs.Conditions.{condition_of, conditions_of, value, all_true}
 use Rattle.choice_states.specs.Seen.{seen_in}
 use Rattle.choice_parser.specs.Deaths.{is_dead}
-use Rattle.choice_parser.specs.Steps.{stood}
+use Rattle.choice_settling.specs.Steps.{stood}
 use Rattle.choice_parser.proofs.UnitLemmas.{first_read_so, first_then}
 use Rattle.choice_parser.proofs.parser.read_first.Goals as goal
 

@@ -9,7 +9,7 @@ use Rattle.choice_states.specs.States.{standing, at_place}
 use Rattle.choice_states.specs.StateLaws.{standing-At}
 use Rattle.grammar_moves.specs.PlainPlaces.{plain_place}
 use Rattle.choice_states.specs.Seen.{seen_in}
-use Rattle.choice_parser.specs.Steps.{stood}
+use Rattle.choice_settling.specs.Steps.{stood}
 use Rattle.choice_parser.proofs.UnitLemmas.{begins_unit, token_of, rest_of, progress_next}
 use Rattle.choice_parser.proofs.parser.read_tokens.Goals as goal
 

@@ -1,7 +1,7 @@
 use Rattle.std.proofs.Common.{◌≡◌, Bool, List, IsTrue}
 use Rattle.cond_formula.specs.Features.{has}
 use Rattle.cond_formula.specs.Conditions.{condition_of, value}
-use Rattle.choice_parser.specs.Steps.{stood}
+use Rattle.choice_settling.specs.Steps.{stood}
 use Rattle.choice_parser.specs.Units.{Progress}
 use Rattle.choice_parser.proofs.parser.read_tokens.Given as goal
 

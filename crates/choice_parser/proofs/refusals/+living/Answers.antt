@@ -1,7 +1,7 @@
 use Rattle.std.proofs.Common.{subst, sym}
 use Rattle.std.proofs.lemmas.Result.{IfOk-weaker}
 use Rattle.choice_parser.specs.Deaths.{DeadIsWrong, LivesIfSome, IsRefused}
-use Rattle.choice_parser.proofs.Divisions.{divided_so}
+use Rattle.choice_settling.proofs.Divisions.{divided_so}
 use Rattle.choice_parser.proofs.RefusalLemmas.{dead_split, lives_split, refused_split}
 use Rattle.choice_parser.proofs.refusals.+living.Goals as goal
 

@@ -1,0 +1,10 @@
+pub mod ReadSplits
+pub mod TokenFits
+pub mod ReadingLemmas
+pub mod BeginningLemmas
+pub mod NodeReading
+pub mod PlaceReading
+pub mod AfterReading
+pub mod PushReading
+pub mod PresenceLemmas
+pub mod StateReading

@@ -1,0 +1,45 @@
+-- Alternatives that leave a node for a token that waits.
+use Rattle.std.proofs.Common.{◌≡◌, ℕ, Bool, true, false, not, ◌&&◌, List, IsTrue, sym, ap, ◌∙◌, subst}
+use Rattle.std.specs.Bool.{if◌then◌else◌}
+use Rattle.std.specs.declared.alloc.Global.{Global}
+use Rattle.std.specs.Prelude.{Box}
+use Rattle.cond_formula.specs.declared.formulas.Formula.{Formula}
+use Rattle.cond_formula.specs.Conditions.{condition_of, conditions_of, value, all_true}
+use Rattle.choice_states.specs.declared.states.State.{State, Split}
+use Rattle.choice_states.specs.States.{leaves, Standing, standing, owes, Finishes}
+use Rattle.choice_states.specs.StateLaws.{standing-Split, owes-Split}
+use Rattle.choice_settling.specs.Leaving.{EachOwes, IsLeft}
+use Rattle.choice_settling.proofs.Divisions.{Divides}
+
+-- ---- each that leaves it has to
+
+either_owes : (f path first_path second_path : Bool) (whole first second : Standing) (owed owed_first owed_second : Bool)
+    → first_path ≡ (path && f) → second_path ≡ (path && not f) → whole ≡ (if f then first else second) → owed ≡ (if f then owed_first else owed_second)
+    → IsTrue path → whole.stay ≡ leaves
+    → (IsTrue first_path → first.stay ≡ leaves → owed_first ≡ true) → (IsTrue second_path → second.stay ≡ leaves → owed_second ≡ true) → owed ≡ true
+either_owes true path first_path second_path whole first second owed owed_first owed_second one other is so there left owes owe =
+    so ∙ owes (one ∙ ap (λ b. b && true) there) (sym (ap (λ (s : Standing). s.stay) is) ∙ left)
+either_owes false path first_path second_path whole first second owed owed_first owed_second one other is so there left owes owe =
+    so ∙ owe (other ∙ ap (λ b. b && true) there) (sym (ap (λ (s : Standing). s.stay) is) ∙ left)
+
+pub owes_split :
+    (path first_path second_path : List Formula) (f when : Formula) (first second first_new second_new : Box State Global) → Divides path f first_path second_path
+    → EachOwes first_path when first.value first_new.value → EachOwes second_path when second.value second_new.value
+    → EachOwes path when (Split f first second) (Split f first_new second_new)
+owes_split path first_path second_path f when first second first_new second_new paths one other = λ on parts there holds left.
+    either_owes (value on (condition_of f)) (all_true on (conditions_of path)) (all_true on (conditions_of first_path)) (all_true on (conditions_of second_path))
+    (standing (Split f first second) on parts) (standing first.value on parts) (standing second.value on parts)
+    (owes (Split f first_new second_new) on) (owes first_new.value on) (owes second_new.value on)
+    (paths.first on) (paths.second on) (standing-Split f first second on parts) (owes-Split f first_new second_new on) there left
+    (λ t. one on parts t holds) (λ t. other on parts t holds)
+
+-- ---- what becomes of the node
+
+pub is_left : (path : List Formula) (when : Formula) (on : ℕ → Bool) (before between after : Standing) (owed : Bool)
+    → between ≡ before → (IsTrue (all_true on (conditions_of path)) → IsTrue (value on (condition_of when)) → before.stay ≡ leaves → owed ≡ true)
+    → (IsTrue between.fits → Finishes between owed after) → IsLeft path when on before after
+is_left path when on before between after owed same owes finishes = λ fits. (
+  owed,
+  subst (λ s. Finishes s owed after) same (finishes (subst (λ (s : Standing). IsTrue s.fits) (sym same) fits)),
+  owes,
+)

@@ -1,0 +1,4 @@
+pub mod Around
+pub mod LeftOut
+pub mod Leaving
+pub mod Steps
