@@ -1,47 +1,12 @@
 //! Whether the parser of all configurations says of each what that of one configuration says.
 
 use crate::streams::{stream_of, tokens_in};
-use c_text::Token;
-use c_tree::Tree;
 use choice_parser::{Parsed, parse_all};
-use choice_trees::{Choice, Item, project};
+use choice_trees::{Choice, Item};
 use cond_formula::{Config, Formula, NoMemory, PlainOracle};
 use cond_tokens::CondStream;
-use plain_parse::{ParseError, parse};
 use std::alloc::{AllocError, Global};
-use std::fmt;
-
-#[cycle(trees)]
-fn is_same(a: &Tree, b: &Tree) -> bool {
-    match (a, b) {
-        (Tree::Leaf(a), Tree::Leaf(b)) => {
-            a.same_spelling(b) && a.origin.span.start == b.origin.span.start
-        }
-        (Tree::Node(k, a), Tree::Node(l, b)) => *k == *l && are_same(a, b),
-        _ => false,
-    }
-}
-
-#[cycle(trees)]
-fn are_same(a: &[Tree], b: &[Tree]) -> bool {
-    if a.len() != b.len() {
-        return false;
-    }
-    for (i, part) in a.iter().enumerate() {
-        if !is_same(part, &b[i]) {
-            return false;
-        }
-    }
-    true
-}
-
-fn parsed(alloc: Global, tokens: &[Token]) -> Result<Tree, ParseError> {
-    if tokens.len() < 4_294_967_295 {
-        parse(alloc, tokens)
-    } else {
-        Err(ParseError::Memory)
-    }
-}
+use tree_comparisons::Comparison;
 
 pub fn nodes(f: &Formula) -> u64 {
     match f {
@@ -79,39 +44,6 @@ pub fn size_of(parts: &[Choice<Item>], size: Size) -> Size {
     size
 }
 
-/// What both parsers say of a configuration.
-#[derive(Clone, Copy)]
-pub enum Comparison {
-    SameTree,
-    BothRefuse,
-    OtherTree,
-    WronglyRefused,
-    WronglyRead,
-}
-
-impl Comparison {
-    pub fn is_same(self) -> bool {
-        match self {
-            Comparison::SameTree => true,
-            Comparison::BothRefuse => true,
-            _ => false,
-        }
-    }
-}
-
-impl fmt::Display for Comparison {
-    fn fmt<W: fmt::Write>(&self, f: &mut fmt::Formatter<W>) -> fmt::Result {
-        let text = match self {
-            Comparison::SameTree => "tree",
-            Comparison::BothRefuse => "refused",
-            Comparison::OtherTree => "OTHER TREE",
-            Comparison::WronglyRefused => "WRONGLY REFUSED",
-            Comparison::WronglyRead => "WRONGLY READ",
-        };
-        f.write_str(text)
-    }
-}
-
 /// Compares what the trees of all configurations say of one with its own tree, or with its refusal.
 pub fn compared(
     alloc: Global,
@@ -120,20 +52,10 @@ pub fn compared(
     c: Config,
 ) -> Result<Comparison, NoMemory> {
     let tokens = tokens_in(alloc, stream, c)?;
-    let refused = parsed_all.refused.value(c);
-    match parsed(alloc, &tokens) {
-        Ok(_) if refused => Ok(Comparison::WronglyRefused),
-        Ok(tree) => {
-            let projected = project(alloc, &parsed_all.forest, c)?;
-            if is_same(&tree, &projected) {
-                Ok(Comparison::SameTree)
-            } else {
-                Ok(Comparison::OtherTree)
-            }
-        }
-        Err(ParseError::Memory) => Err(AllocError),
-        Err(_) if refused => Ok(Comparison::BothRefuse),
-        Err(_) => Ok(Comparison::WronglyRead),
+    if tokens.len() < 4_294_967_295 {
+        tree_comparisons::compared(alloc, &tokens, parsed_all, c)
+    } else {
+        Err(AllocError)
     }
 }
 

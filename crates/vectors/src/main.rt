@@ -2,7 +2,8 @@
 //!
 //! The answers were computed by a program of its own, so they test the definitions too. Each case
 //! that differs is printed, and at the end of a file how many of its cases agree. Then the streams of the
-//! projects of the cases are compared with what preprocessing gives, configuration by configuration.
+//! projects of the cases, and their trees in all configurations, are compared with what preprocessing and parsing give,
+//! configuration by configuration.
 #![tactic(auto)]
 
 #[cfg(test)]
@@ -27,7 +28,7 @@ fn main(rt: HostRuntime) -> anyhow::Result<()> {
     for suite in &SUITES {
         run(&rt, suite)?;
     }
-    for file in &["tokens.tsv", "macros.tsv"] {
+    for file in &["tokens.tsv", "macros.tsv", "run.tsv"] {
         streams::run(&rt, file)?;
     }
     Ok(())

@@ -1,5 +1,5 @@
-//! Streams of the projects of the cases: in each admitted configuration, whatever is asked of their conditions, they are what
-//! preprocessing gives there.
+//! Streams of the projects of the cases, and the trees of all configurations that are made of them: in each admitted configuration,
+//! whatever is asked of their conditions, they are what preprocessing and parsing give there.
 ghost use Rattle.std.specs.Prelude.{◌≡◌, ◌<◌, ◌≤◌, map, length, All};
 ghost use Rattle.text_edits.specs.Files.{plain_files};
 ghost use Rattle.project_file.specs.View.{project_view};
@@ -9,6 +9,7 @@ use crate::answer::copy_of;
 use crate::case::{Case, Output};
 use anyhow::{Context, Result};
 use c_text::Token;
+use choice_parser::{Parsed, parse_all};
 use cond_formula::{Config, Oracle, PlainOracle};
 use cond_pp::preprocess_all;
 use cond_tokens::CondStream;
@@ -18,15 +19,16 @@ use std::alloc::{AllocError, Global};
 use std::fs;
 use std::rt::Files as FileAccess;
 use text_edits::Files;
+use tree_comparisons::{Comparison, compared};
 use verdict_query::ModelOracle;
 
 /// The most features whose configurations are all looked at: those of the features behind them have them off.
 const MOST_FEATURES: usize = 7;
 
-/// What a stream and preprocessing say of a configuration.
+/// What a stage of all configurations and its twin say of one.
 #[derive(Clone, Copy, Debug, PartialEq, Eq)]
-enum Comparison {
-    SameTokens,
+enum Agreement {
+    Same,
     BothRefuse,
     Differ,
 }
@@ -49,14 +51,40 @@ impl Tally {
     }
 
     /// Counts one more.
-    fn count(&mut self, comparison: Comparison) {
-        let counted = match comparison {
-            Comparison::SameTokens => &mut self.same,
-            Comparison::BothRefuse => &mut self.refused,
-            Comparison::Differ => &mut self.different,
+    fn count(&mut self, agreement: Agreement) {
+        let counted = match agreement {
+            Agreement::Same => &mut self.same,
+            Agreement::BothRefuse => &mut self.refused,
+            Agreement::Differ => &mut self.different,
         };
         *counted = counted.saturating_add(1);
     }
+
+    fn show<R: Print>(&self, rt: &R, what: &str, same_what: &str, file: &str) -> Result<()> {
+        let Tally {
+            same,
+            refused,
+            different,
+        } = *self;
+        println!(rt;
+            "{what} of {file}: {same} have the same {same_what}, {refused} are refused by both, {different} differ"
+        )?;
+        Ok(())
+    }
+}
+
+/// Streams beside tokens, and forests beside trees.
+#[derive(Clone, Copy, Debug)]
+struct Tallies {
+    streams: Tally,
+    forests: Tally,
+}
+
+/// What is read of a unit in all configurations.
+#[derive(Drop)]
+struct Readings {
+    stream: CondStream,
+    parsed: Parsed,
 }
 
 /// A project with its files, and the place of a unit among its units.
@@ -85,41 +113,80 @@ fn are_same(tokens: &[Token], others: &[&Token]) -> bool {
             && token.origin == other.origin)
 }
 
+/// Compares the trees of all configurations with the tree of the tokens in one.
+fn compare_trees(
+    alloc: Global,
+    tokens: &[Token],
+    parsed: &Parsed,
+    c: Config,
+) -> Result<Agreement, AllocError> {
+    if tokens.len() >= u32::MAX as usize {
+        return Err(AllocError);
+    }
+    match compared(alloc, tokens, parsed, c)? {
+        Comparison::SameTree => Ok(Agreement::Same),
+        Comparison::BothRefuse => Ok(Agreement::BothRefuse),
+        _ => Ok(Agreement::Differ),
+    }
+}
+
+/// The trees of a stream in all configurations.
+fn parsed<O: Oracle>(
+    alloc: Global,
+    stream: &CondStream,
+    oracle: &mut O,
+) -> Result<Parsed, AllocError> {
+    if stream.tokens.len() >= u32::MAX as usize {
+        return Err(AllocError);
+    }
+    parse_all(alloc, stream, oracle)
+}
+
 impl ProjectUnit<'_> {
     fn compare(
         &self,
         alloc: Global,
-        stream: &CondStream,
+        readings: &Readings,
         c: Config,
-    ) -> Result<Comparison, AllocError>
+        tallies: &mut Tallies,
+    ) -> Result<bool, AllocError>
         requires there { self.now.unit < length self.now.project.now.units.items }
         requires named { map (λ f. f.name) (plain_files self.now.files.now) ≡ names_of (project_view self.now.project.now) }
         requires short { All (λ f. length f.bytes ≤ 4294967295) (plain_files self.now.files.now) }
         requires few { length self.now.files.now.list.items < 4294967295 }
     {
-        let refused = stream.refused.value(c);
+        let refused = readings.stream.refused.value(c);
         match preprocess(alloc, self.project, self.files, self.unit, c) {
             Ok(tokens) => {
-                let agree = !refused && are_same(&tokens, &seen(alloc, stream, c)?);
-                Ok(if agree {
-                    Comparison::SameTokens
-                } else {
-                    Comparison::Differ
-                })
+                if refused || !are_same(&tokens, &seen(alloc, &readings.stream, c)?) {
+                    tallies.streams.count(Agreement::Differ);
+                    return Ok(false);
+                }
+                tallies.streams.count(Agreement::Same);
+                let trees = compare_trees(alloc, &tokens, &readings.parsed, c)?;
+                tallies.forests.count(trees);
+                Ok(trees != Agreement::Differ)
             }
-            Err(PpError::Refused(_, _)) if refused => Ok(Comparison::BothRefuse),
-            Err(PpError::Refused(_, _)) => Ok(Comparison::Differ),
+            Err(PpError::Refused(_, _)) => {
+                let agreement = if refused {
+                    Agreement::BothRefuse
+                } else {
+                    Agreement::Differ
+                };
+                tallies.streams.count(agreement);
+                Ok(refused)
+            }
             Err(PpError::Memory) => Err(AllocError),
         }
     }
 
-    /// Compares the stream that comes of this oracle in each admitted configuration, and prints where it differs.
+    /// Compares what comes of this oracle in each admitted configuration, and prints where it differs.
     fn compare_all<R: Print + AllocGlobal, O: Oracle>(
         &self,
         rt: &R,
         oracle: &mut O,
         label: &str,
-        tally: &mut Tally,
+        tallies: &mut Tallies,
     ) -> Result<()>
         requires there { self.now.unit < length self.now.project.now.units.items }
         requires named { map (λ f. f.name) (plain_files self.now.files.now) ≡ names_of (project_view self.now.project.now) }
@@ -128,15 +195,15 @@ impl ProjectUnit<'_> {
     {
         let alloc: Global = rt.alloc();
         let stream = preprocess_all(alloc, self.project, self.files, self.unit, oracle)?;
+        let parsed = parsed(alloc, &stream, oracle)?;
+        let readings = Readings { stream, parsed };
         let configurations = 1u128 << self.project.features.len().min(MOST_FEATURES);
         for bits in 0..configurations {
             let c = Config { bits };
             if !self.project.model.admits(c) {
                 continue;
             }
-            let comparison = self.compare(alloc, &stream, c)?;
-            tally.count(comparison);
-            if comparison == Comparison::Differ {
+            if !self.compare(alloc, &readings, c, tallies)? {
                 let unit = self.unit;
                 println!(rt; "{label}: unit {unit} differs in configuration {bits}")?;
             }
@@ -150,7 +217,7 @@ fn compare_units<R: Print + AllocGlobal>(
     project: &Project,
     files: &Files,
     label: &str,
-    tally: &mut Tally,
+    tallies: &mut Tallies,
 ) -> Result<()>
     requires named { map (λ f. f.name) (plain_files files.now) ≡ names_of (project_view project.now) }
     requires short { All (λ f. length f.bytes ≤ 4294967295) (plain_files files.now) }
@@ -162,9 +229,9 @@ fn compare_units<R: Print + AllocGlobal>(
             files,
             unit: number as u32,
         };
-        it.compare_all(rt, &mut PlainOracle, label, tally)?;
+        it.compare_all(rt, &mut PlainOracle, label, tallies)?;
         let mut oracle = ModelOracle::new(rt.alloc(), &project.model);
-        it.compare_all(rt, &mut oracle, label, tally)?;
+        it.compare_all(rt, &mut oracle, label, tallies)?;
     }
     Ok(())
 }
@@ -174,7 +241,7 @@ fn compare<R: Print + AllocGlobal>(
     rt: &R,
     case: &Case,
     label: &str,
-    tally: &mut Tally,
+    tallies: &mut Tallies,
 ) -> Result<()> {
     let alloc: Global = rt.alloc();
     let mut store = MemoryStore::new(alloc, copy_of(alloc, &case.files)?, Vec::new(alloc));
@@ -190,28 +257,24 @@ fn compare<R: Print + AllocGlobal>(
     if files.list.len() >= u32::MAX as usize {
         return Ok(());
     }
-    compare_units(rt, &project, &files, label, tally)
+    compare_units(rt, &project, &files, label, tallies)
 }
 
-/// Compares the streams of all projects of a file of cases, and prints how many agree.
+/// Compares the streams and forests of all projects of a file of cases, and prints how many agree.
 pub(crate) fn run<R: FileAccess + Print + AllocGlobal>(rt: &R, file: &'static str) -> Result<()> {
     let alloc: Global = rt.alloc();
     let text = fs::read_to_string(rt, file).context(file)?;
-    let mut tally = Tally::new();
+    let mut tallies = Tallies {
+        streams: Tally::new(),
+        forests: Tally::new(),
+    };
     let mut number: u32 = 0;
     for line in text.lines() {
         number = number.saturating_add(1);
         let case = Case::read(alloc, Output::Nothing, line)?;
         let label = format!(in alloc; "{file}:{number}")?;
-        compare(rt, &case, &label, &mut tally)?;
+        compare(rt, &case, &label, &mut tallies)?;
     }
-    let Tally {
-        same,
-        refused,
-        different,
-    } = tally;
-    println!(rt;
-        "streams of {file}: {same} have the same tokens, {refused} are refused by both, {different} differ"
-    )?;
-    Ok(())
+    tallies.streams.show(rt, "streams", "tokens", file)?;
+    tallies.forests.show(rt, "forests", "tree", file)
 }
