@@ -1,8 +1,7 @@
-use crate::case::Case;
 use morpheus_top::morpheus;
 use project_store::{MemorySink, MemoryStore};
 use std::alloc::{AllocError, Global};
-use text_edits::{Files, SourceFile};
+use vector_cases::{Case, copy_of};
 
 /// What a command answered.
 #[derive(Debug, Drop)]
@@ -10,17 +9,6 @@ pub(crate) struct Answer {
     pub(crate) status: u8,
     pub(crate) out: MemorySink,
     pub(crate) store: MemoryStore,
-}
-
-/// A second copy of the files.
-pub(crate) fn copy_of(alloc: Global, files: &Files) -> Result<Files, AllocError> {
-    let mut list = Vec::new(alloc);
-    for file in &files.list {
-        let name = file.name.clone()?;
-        let bytes = file.bytes.clone()?;
-        list.push(SourceFile { name, bytes })?;
-    }
-    Ok(Files { list })
 }
 
 impl Answer {

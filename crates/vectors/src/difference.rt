@@ -1,7 +1,7 @@
 use crate::answer::Answer;
-use crate::case::Case;
 use std::alloc::{AllocError, Global};
 use std::fmt;
+use vector_cases::Case;
 
 /// Where an answer differs from the one that is wanted.
 #[derive(Debug, Drop)]

@@ -1,10 +1,10 @@
 use crate::answer::Answer;
-use crate::case::{Case, Output};
 use crate::difference::first_difference;
 use anyhow::{Context, Result};
 use std::alloc::Global;
 use std::fs;
 use std::rt::Files;
+use vector_cases::{Case, Output};
 
 /// The vectors of one command.
 #[derive(Clone, Copy, Debug)]

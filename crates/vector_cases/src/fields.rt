@@ -1,10 +1,12 @@
+//! The fields of a line.
+
 use crate::escapes::unescaped;
 use std::alloc::{AllocError, AllocFailed, Global};
 use thiserror::Error;
 
 /// Why a line holds no case.
 #[derive(Clone, Copy, Debug, PartialEq, Eq, Error)]
-pub(crate) enum LineError {
+pub enum LineError {
     #[error("a field is missing")]
     MissingField,
     #[error("a field after the label")]

@@ -5,8 +5,6 @@ ghost use Rattle.text_edits.specs.Files.{plain_files};
 ghost use Rattle.project_file.specs.View.{project_view};
 ghost use Rattle.project_store.specs.Reads.{names_of};
 
-use crate::answer::copy_of;
-use crate::case::{Case, Output};
 use anyhow::{Context, Result};
 use c_text::Token;
 use choice_parser::{Parsed, parse_all};
@@ -20,6 +18,7 @@ use std::fs;
 use std::rt::Files as FileAccess;
 use text_edits::Files;
 use tree_comparisons::{Comparison, compared};
+use vector_cases::{Case, Output, copy_of};
 use verdict_query::ModelOracle;
 
 /// The most features whose configurations are all looked at: those of the features behind them have them off.

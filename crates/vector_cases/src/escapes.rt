@@ -1,3 +1,5 @@
+//! Bytes as a field of a line spells them.
+
 use crate::fields::LineError;
 use std::alloc::Global;
 

@@ -1,10 +1,12 @@
+//! Cases: a command over files, and the answer that is wanted.
+
 use crate::fields::{Fields, LineError};
 use std::alloc::{AllocError, Global};
 use text_edits::{Files, SourceFile};
 
 /// What the cases of a file say of what a command writes.
 #[derive(Clone, Copy, Debug, PartialEq, Eq)]
-pub(crate) enum Output {
+pub enum Output {
     /// The bytes of `OUT/FILE`, where the status is 0.
     Written,
     /// Nothing: the command writes no file.
@@ -13,21 +15,21 @@ pub(crate) enum Output {
 
 /// A command over a store, with the answer that is wanted.
 #[derive(Debug, Drop)]
-pub(crate) struct Case {
-    pub(crate) files: Files,
-    pub(crate) words: Vec<String>,
-    pub(crate) status: u8,
-    pub(crate) printed: Vec<u8>,
+pub struct Case {
+    pub files: Files,
+    pub words: Vec<String>,
+    pub status: u8,
+    pub printed: Vec<u8>,
     /// The name under which the command may write.
-    pub(crate) target: Option<String>,
+    pub target: Option<String>,
     /// What is written there, if anything is.
-    pub(crate) written: Option<Vec<u8>>,
-    pub(crate) label: String,
+    pub written: Option<Vec<u8>>,
+    pub label: String,
 }
 
 impl Case {
     /// The case that a line holds.
-    pub(crate) fn read(alloc: Global, output: Output, line: &str) -> Result<Case, LineError> {
+    pub fn read(alloc: Global, output: Output, line: &str) -> Result<Case, LineError> {
         let mut fields = Fields::new(line);
         let files = read_files(alloc, &mut fields)?;
         let words = read_words(alloc, &mut fields)?;
@@ -63,7 +65,7 @@ impl Case {
     }
 
     /// What is wanted under the name after the command, if anything.
-    pub(crate) fn wanted_at(&self, name: &str) -> Option<&[u8]> {
+    pub fn wanted_at(&self, name: &str) -> Option<&[u8]> {
         if self.writes(name) {
             return self.written.as_ref().map(|bytes| bytes.as_slice());
         }
@@ -104,4 +106,15 @@ fn target_name(alloc: Global, words: &[String]) -> Result<Option<String>, AllocE
         (Some(file), Some(out)) => Ok(Some(format!(in alloc; "{out}/{file}")?)),
         _ => Ok(None),
     }
+}
+
+/// A second copy of the files.
+pub fn copy_of(alloc: Global, files: &Files) -> Result<Files, AllocError> {
+    let mut list = Vec::new(alloc);
+    for file in &files.list {
+        let name = file.name.clone()?;
+        let bytes = file.bytes.clone()?;
+        list.push(SourceFile { name, bytes })?;
+    }
+    Ok(Files { list })
 }
