@@ -11,7 +11,7 @@ use Rattle.c_text.specs.Directives.{PlainMacro, PlainDirective, if_line, ifdef_l
 use Rattle.c_text.specs.Macros.{Meaning, Table, Item, Replaced, fine, bad_call, replaced}
 use Rattle.c_text.specs.Trees.{Part, finish, breaks, text_lines, directive_line, group, broken_group, Branches, no_branch, branch}
 use Rattle.c_text.specs.Preprocessing.{Refusal, refused_token, refused_ignored, Reading, Flow, on, refused, then_read, unless, emitted, read_run, tokens_of_lines, Condition, holds, fails, condition_at, meaning, put, same_meaning, redefined, Source, source_of, Setting, included, directed, read_directive, by_condition, skip, branched, read_part, read_branches}
-use Rattle.active_tokens.specs.Reads.{Read, behind, unless_refused, Following, included_reads, reads_of_inclusion, reads_of_passed, by_truth, reads_of_branch, reads_of_part, reads_of_branches}
+use Rattle.active_tokens.specs.Reads.{Read, reads_behind, unless_refused, Following, included_reads, reads_of_inclusion, reads_of_passed, by_truth, reads_of_branch, reads_of_part, reads_of_branches}
 use Rattle.active_tokens.proofs.Everywhere.{each-append, each-left, each-right, each-map, by-choice}
 use Rattle.active_tokens.proofs.Replacing.{Comes, ComesItem, Tokens, Items, GoodMeaning, GoodFound, GoodTable, GoodReplaced, replaced-good}
 
@@ -156,7 +156,7 @@ module _ (Q : TokenKind → List ℕ → ℕ → PlainSpan → Type 0) where
   GoodDeeper (Some read) None = ⊥
   GoodDeeper (Some read) (Some reads) = (source : Source) (r : Reading) → GoodReading r → GoodReads (reads source r) → GoodFlow (read source r)
 
-  then-good : (flow : Flow) (next : Reading → Flow) (reads : Reading → List Read) → GoodFlow flow → ((r : Reading) → GoodReading r → GoodReads (reads r) → GoodFlow (next r)) → GoodReads (behind flow reads) → GoodFlow (then_read flow next)
+  then-good : (flow : Flow) (next : Reading → Flow) (reads : Reading → List Read) → GoodFlow flow → ((r : Reading) → GoodReading r → GoodReads (reads r) → GoodFlow (next r)) → GoodReads (reads_behind flow reads) → GoodFlow (then_read flow next)
   then-good (on r) next reads g keeps a = keeps r g a
   then-good (refused why) next reads g keeps a = tt
 
@@ -212,7 +212,7 @@ module _ (Q : TokenKind → List ℕ → ℕ → PlainSpan → Type 0) where
 
     branched-good : (r : Reading) (line : PlainLine) (body : Part) (others : Branches) (taken passed : List Read) → (GoodReads taken → GoodFlow (read_part s r body)) → (GoodReads passed → GoodFlow (read_branches s r others)) → GoodReads (reads_of_branch s f r line body others taken passed) → GoodFlow (branched s r line (read_part s r body) others (read_branches s r others))
     branched-good r line body others taken passed b o a =
-        condition-good (condition_at s.value_of r.table line.tokens) taken passed (behind (read_part s r body) (λ after. reads_of_passed s f after others))
+        condition-good (condition_at s.value_of r.table line.tokens) taken passed (reads_behind (read_part s r body) (λ after. reads_of_passed s f after others))
         (then_read (read_part s r body) (λ after. skip s after others)) (read_branches s r others)
         (λ x. then-skip-good (read_part s r body) others (b x)) o a.1
 

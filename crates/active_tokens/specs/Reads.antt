@@ -17,9 +17,9 @@ abbrev pub read_of : Reading → List PlainToken → Read
 read_of r tokens = record { tokens = tokens; table = r.table }
 
 -- what is read behind a reading that may have been refused
-abbrev pub behind : Flow → (Reading → List Read) → List Read
-behind (on r) next = next r
-behind (refused why) next = []
+abbrev pub reads_behind : Flow → (Reading → List Read) → List Read
+reads_behind (on r) next = next r
+reads_behind (refused why) next = []
 
 -- nothing where there is a refusal
 abbrev pub unless_refused : Option Refusal → List Read → List Read
@@ -63,19 +63,19 @@ module _ (s : Setting) (f : Following) where
   reads_of_branch r line body others taken passed =
       read_of r line.tokens
       ∷ by_truth (condition_at s.value_of r.table line.tokens)
-      (taken ++ behind (read_part s r body) (λ after. reads_of_passed after others)) passed
+      (taken ++ reads_behind (read_part s r body) (λ after. reads_of_passed after others)) passed
 
   abbrev mutual
     pub reads_of_part : Reading → Part → List Read
     reads_of_part r finish = []
     reads_of_part r breaks = read_of r f.misplaced ∷ []
     reads_of_part r (text_lines lines rest) =
-        read_of r (tokens_of_lines lines) ∷ behind (read_run r (tokens_of_lines lines)) (λ after. reads_of_part after rest)
+        read_of r (tokens_of_lines lines) ∷ reads_behind (read_run r (tokens_of_lines lines)) (λ after. reads_of_part after rest)
     reads_of_part r (directive_line line rest) =
-        reads_of_directive r line.tokens ++ behind (read_directive s r line.tokens) (λ after. reads_of_part after rest)
+        reads_of_directive r line.tokens ++ reads_behind (read_directive s r line.tokens) (λ after. reads_of_part after rest)
     reads_of_part r (group first body others last rest) =
         reads_of_branch r first body others (reads_of_part r body) (reads_of_branches r others)
-        ++ behind (branched s r first (read_part s r body) others (read_branches s r others))
+        ++ reads_behind (branched s r first (read_part s r body) others (read_branches s r others))
         (λ after. read_of after last.tokens ∷ unless_refused (refused_ignored (drop 2 last.tokens)) (reads_of_part after rest))
     reads_of_part r (broken_group first body others) =
         reads_of_branch r first body others (reads_of_part r body) (reads_of_branches r others)

@@ -22,7 +22,7 @@ use Rattle.choice_states.specs.States.{Stay, Standing, dead, IsClean}
 use Rattle.choice_states.specs.Reading.{leaf_seen, next_seen, read_seen, finished_seen}
 use Rattle.choice_settling.specs.Steps.{seen_of, IsSound, IsBehind, IsRead, ReadsThere, Keeps, Reads, Settles}
 use Rattle.choice_parser.specs.Deaths.{if_left, within_unit}
-use Rattle.choice_parser.specs.Units.{numbered_at, Nodes, leading, StandsBehind, StaysBehind, behind, HasRead, IsInUnit, IsSoFar, Progress, IsEnded, EndsNoUnit, EndsUnit, IsEndOfUnit, IsRefusedHere}
+use Rattle.choice_parser.specs.Units.{numbered_at, Nodes, leading, StandsBehind, StaysBehind, nodes_behind, HasRead, IsInUnit, IsSoFar, Progress, IsEnded, EndsNoUnit, EndsUnit, IsEndOfUnit, IsRefusedHere}
 
 -- ---- reading on
 
@@ -36,7 +36,7 @@ read_next_one (Some frames) leaf leaves = refl
 
 -- one token more of those ahead
 pub reads_behind : (on : ℕ → Bool) (number : ℕ) (entry : CondToken) (rest : List CondToken) (nodes : Nodes)
-    → read_seen nodes (numbered_at on number (entry ∷ rest)) ≡ read_seen (behind on number entry nodes) (numbered_at on (suc number) rest)
+    → read_seen nodes (numbered_at on number (entry ∷ rest)) ≡ read_seen (nodes_behind on number entry nodes) (numbered_at on (suc number) rest)
 reads_behind on number entry rest nodes =
     elim (value on (condition_of entry.when)) as (λ there.
     read_seen nodes (if there then record { number = Some number; text = plain_token entry.token } ∷ numbered_at on (suc number) rest else numbered_at on (suc number) rest)
@@ -46,13 +46,13 @@ reads_behind on number entry rest nodes =
     ]
 
 pub behind_there : (on : ℕ → Bool) (number : ℕ) (entry : CondToken) (nodes : Nodes) → IsTrue (value on (condition_of entry.when))
-    → behind on number entry nodes ≡ going_on (leading nodes (terminal (plain_token entry.token)) (seen_of number entry))
+    → nodes_behind on number entry nodes ≡ going_on (leading nodes (terminal (plain_token entry.token)) (seen_of number entry))
 behind_there on number entry None there =
     ap (λ b. read_seen None (if b then record { number = Some number; text = plain_token entry.token } ∷ [] else [])) there
 behind_there on number entry (Some frames) there =
     ap (λ b. read_seen (Some frames) (if b then record { number = Some number; text = plain_token entry.token } ∷ [] else [])) there
 
-pub behind_absent : (on : ℕ → Bool) (number : ℕ) (entry : CondToken) (nodes : Nodes) → value on (condition_of entry.when) ≡ false → behind on number entry nodes ≡ nodes
+pub behind_absent : (on : ℕ → Bool) (number : ℕ) (entry : CondToken) (nodes : Nodes) → value on (condition_of entry.when) ≡ false → nodes_behind on number entry nodes ≡ nodes
 behind_absent on number entry nodes absent = ap (λ b. read_seen nodes (if b then record { number = Some number; text = plain_token entry.token } ∷ [] else [])) absent
 
 pub next_there : (on : ℕ → Bool) (entry : CondToken) (rest : List CondToken) → IsTrue (value on (condition_of entry.when)) → next_kind on (entry ∷ rest) ≡ terminal (plain_token entry.token)
@@ -77,9 +77,9 @@ pub record LeadsOn (nodes : Nodes) (standing : Standing) : Type 0 where
   pub leads_are : (kind : Terminal) (token : Seen) → standing.leads [] kind token ≡ leading nodes kind token
 
 leads_behind : (o : Outcome Seen) (next : Terminal → Seen → Outcome Seen) → IsBehind o next → (kind : Terminal) (token : Seen) → next kind token ≡ leading (going_on o) kind token
-leads_behind (goes_on frames) next behind = behind
-leads_behind (is_whole value) next behind = absurd behind
-leads_behind is_wrong next behind = behind
+leads_behind (goes_on frames) next nodes_behind = nodes_behind
+leads_behind (is_whole value) next nodes_behind = absurd nodes_behind
+leads_behind is_wrong next nodes_behind = nodes_behind
 
 dead_leads : (nodes : Nodes) → nodes ≡ None → LeadsOn nodes dead
 dead_leads nodes none = record {
@@ -195,9 +195,9 @@ whole_begun (begins places true inner) a b frames = refl
 
 whole_moved : (place : Place) (parts : List Seen) (m : Move) (a b : Seen) (frames : List (Frame Seen)) (ends others : Seen → Outcome Seen)
     → ((value : Seen) → whole (ends value) ≡ whole (others value)) → whole (moved of_seen place parts m a frames ends) ≡ whole (moved of_seen place parts m b frames others)
-whole_moved place parts (shifts behind) a b frames ends others same = refl
-whole_moved place parts (enters behind beginning) a b frames ends others same = whole_begun beginning a b (frame behind parts ∷ frames)
-whole_moved place parts (takes behind inner) a b frames ends others same = refl
+whole_moved place parts (shifts nodes_behind) a b frames ends others same = refl
+whole_moved place parts (enters nodes_behind beginning) a b frames ends others same = whole_begun beginning a b (frame nodes_behind parts ∷ frames)
+whole_moved place parts (takes nodes_behind inner) a b frames ends others same = refl
 whole_moved place parts (skips other) a b frames ends others same = whole_moved place (parts ++ of_seen.of_nothing ∷ []) other a b frames ends others same
 whole_moved place parts (finishes kind) a b frames ends others same = same (node_seen kind parts)
 whole_moved place parts passes a b frames ends others same = same (alone of_seen parts)
@@ -355,7 +355,7 @@ pub record FirstRead (on : ℕ → Bool) (number : ℕ) (entry : CondToken) (res
 
 stands_then : (on : ℕ → Bool) (number : ℕ) (entry : CondToken) (rest : List CondToken) (nodes : Nodes) (before read still last : Standing) (new dies there : Bool)
     → value on (condition_of entry.when) ≡ there → FirstRead on number entry rest nodes before read still last false new dies → StandsBehind on (entry ∷ rest) nodes before
-    → IsSoFar on (suc number) rest (behind on number entry nodes) new last
+    → IsSoFar on (suc number) rest (nodes_behind on number entry nodes) new last
 stands_then on number entry rest nodes before read still last new dies true there first stands =
     let leads : LeadsOn (going_on (leading nodes (terminal (plain_token entry.token)) (seen_of number entry))) still =
     reads_in_unit nodes (terminal (plain_token entry.token)) (seen_of number entry) read still (first.there there stands) (subst (λ b. IsInUnit b read still) there first.in_unit)
@@ -372,9 +372,9 @@ stands_then on number entry rest nodes before read still last new dies false abs
 
 pub first_so_far : (on : ℕ → Bool) (number : ℕ) (entry : CondToken) (rest : List CondToken) (nodes : Nodes) (before read still last : Standing) (old new dies : Bool)
     → FirstRead on number entry rest nodes before read still last old new dies → IsSoFar on number (entry ∷ rest) nodes old before
-    → IsSoFar on (suc number) rest (behind on number entry nodes) new last
+    → IsSoFar on (suc number) rest (nodes_behind on number entry nodes) new last
 first_so_far on number entry rest nodes before read still last true new dies first ends =
-    subst (λ b. IsSoFar on (suc number) rest (behind on number entry nodes) b last) (sym first.refused_is) (ap finished_seen (sym (reads_behind on number entry rest nodes)) ∙ ends)
+    subst (λ b. IsSoFar on (suc number) rest (nodes_behind on number entry nodes) b last) (sym first.refused_is) (ap finished_seen (sym (reads_behind on number entry rest nodes)) ∙ ends)
 first_so_far on number entry rest nodes before read still last false new dies first stands =
     stands_then on number entry rest nodes before read still last new dies (value on (condition_of entry.when)) refl first stands
 
@@ -399,9 +399,9 @@ first_read_so on number entry rest tokens kind nodes before read still last old 
 
 pub first_then : (on : ℕ → Bool) (number : ℕ) (entry : CondToken) (rest : List CondToken) (nodes : Nodes) (before read still last : Standing) (old new dies : Bool)
     → FirstRead on number entry rest nodes before read still last old new dies → IsSoFar on number (entry ∷ rest) nodes old before
-    → IsSoFar on (number + 1) rest (behind on number entry nodes) new last
+    → IsSoFar on (number + 1) rest (nodes_behind on number entry nodes) new last
 first_then on number entry rest nodes before read still last old new dies first so_far =
-    subst (λ n. IsSoFar on n rest (behind on number entry nodes) new last) (sym (add-one number)) (first_so_far on number entry rest nodes before read still last old new dies first so_far)
+    subst (λ n. IsSoFar on n rest (nodes_behind on number entry nodes) new last) (sym (add-one number)) (first_so_far on number entry rest nodes before read still last old new dies first so_far)
 
 -- ---- the end of the unit
 
@@ -431,17 +431,17 @@ rest_of tokens i = take_all (length tokens - i) (drop i tokens) (let l : length 
 
 pub progress_next : (on : ℕ → Bool) (tokens : List CondToken) (number : ℕ) (entry : CondToken) (rest : List CondToken) (old new : Bool) (before after : Standing)
     → drop number tokens ≡ entry ∷ rest → rest ≡ drop (number + 1) tokens → Progress on tokens number old before
-    → ((nodes : Nodes) → IsSoFar on number (entry ∷ rest) nodes old before → IsSoFar on (number + 1) rest (behind on number entry nodes) new after)
+    → ((nodes : Nodes) → IsSoFar on number (entry ∷ rest) nodes old before → IsSoFar on (number + 1) rest (nodes_behind on number entry nodes) new after)
     → Progress on tokens (number + 1) new after
 progress_next on tokens number entry rest old new before after dropped rest_is progress step = record {
-  nodes = behind on number entry progress.nodes;
+  nodes = nodes_behind on number entry progress.nodes;
   reads =
-      ap (λ n. read_seen (behind on number entry progress.nodes) (numbered_at on n (drop (number + 1) tokens))) (add-one number)
-      ∙ ap (λ xs. read_seen (behind on number entry progress.nodes) (numbered_at on (suc number) xs)) (sym rest_is)
+      ap (λ n. read_seen (nodes_behind on number entry progress.nodes) (numbered_at on n (drop (number + 1) tokens))) (add-one number)
+      ∙ ap (λ xs. read_seen (nodes_behind on number entry progress.nodes) (numbered_at on (suc number) xs)) (sym rest_is)
       ∙ sym (reads_behind on number entry rest progress.nodes)
       ∙ ap (λ xs. read_seen progress.nodes (numbered_at on number xs)) (sym dropped) ∙ progress.reads;
   so_far =
-      subst (λ xs. IsSoFar on (number + 1) xs (behind on number entry progress.nodes) new after) rest_is
+      subst (λ xs. IsSoFar on (number + 1) xs (nodes_behind on number entry progress.nodes) new after) rest_is
       (step progress.nodes (subst (λ xs. IsSoFar on number xs progress.nodes old before) dropped progress.so_far));
 }
 

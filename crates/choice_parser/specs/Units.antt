@@ -57,8 +57,8 @@ pub record StaysBehind (on : ℕ → Bool) (ahead : List CondToken) (nodes : Nod
   pub leads_are : (token : Seen) → standing.leads [] (next_kind on ahead) token ≡ leading nodes (next_kind on ahead) token
 
 -- what has been read behind one token more, if it is present
-abbrev pub behind : (ℕ → Bool) → ℕ → CondToken → Nodes → Nodes
-behind on number entry nodes = read_seen nodes (numbered_at on number (entry ∷ []))
+abbrev pub nodes_behind : (ℕ → Bool) → ℕ → CondToken → Nodes → Nodes
+nodes_behind on number entry nodes = read_seen nodes (numbered_at on number (entry ∷ []))
 
 -- a token has been read, or is still to be read behind the unit
 pub record HasRead (nodes : Nodes) (kind : Terminal) (token : Seen) (standing : Standing) : Type 0 where

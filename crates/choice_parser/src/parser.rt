@@ -88,7 +88,7 @@ fn read_first<O: Oracle>(
     ensures so_far { IfOk result (λ new. (c : List Bool) (nodes : Nodes) (rest : List Entry) → IsTrue (value (has c) (O.admits oracle.old))
         → ahead.entry.tokens.now ≡ reading.entry.token.now ∷ rest → terminals.terminal (plain_token reading.entry.token.now.token) ≡ reading.entry.terminal
         → IsSoFar (has c) reading.entry.number (reading.entry.token.now ∷ rest) nodes (value (has c) (condition_of refused.old)) (stood state parts.old.items (has c))
-        → IsSoFar (has c) (reading.entry.number + 1) rest (behind (has c) reading.entry.number reading.entry.token.now nodes) (value (has c) (condition_of refused.new)) (stood new parts.new.items (has c))) }
+        → IsSoFar (has c) (reading.entry.number + 1) rest (nodes_behind (has c) reading.entry.number reading.entry.token.now nodes) (value (has c) (condition_of refused.new)) (stood new parts.new.items (has c))) }
 {
     let alloc = ahead.alloc;
     if is_deeper(&state, MOST_LEVELS) {

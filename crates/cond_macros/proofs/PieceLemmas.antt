@@ -8,7 +8,7 @@ use Rattle.c_text.specs.Macros as spec
 use Rattle.cond_bodies.specs.Cores.{core, cores}
 use Rattle.cond_macros.specs.Looked.{looked}
 use Rattle.cond_macros.specs.Pieces.{Held, Piece, nothing_done, unless_refused, also, under_piece, items_piece, given_piece, open_piece, some_open, ended, without_calls, brought_again, progress_piece, turn_piece, turn_pieces, outside_piece}
-use Rattle.cond_macros.specs.Readings.{look, prepended, IsSound, behind, goes_on, IsSoundPiece, ListBecomes}
+use Rattle.cond_macros.specs.Readings.{look, prepended, IsSound, items_behind, goes_on, IsSoundPiece, ListBecomes}
 use Rattle.cond_macros.proofs.Cores.{in_call_twice, core-brought, cores-brought}
 
 -- ---- pieces are a monoid
@@ -239,7 +239,7 @@ module _ (exact : Bool) (table : spec.Table) (deeper : spec.Deeper) (active : Li
   pub end_reads : (so_far : Option Piece) (becomes : Option (List spec.Item)) → ListBecomes exact table deeper active so_far [] becomes → ended so_far ≡ becomes
   end_reads None becomes reads = reads.same
   end_reads (Some piece) becomes reads = by_calls piece.done piece.open_calls reads.sound ∙ reads.same where
-    by_calls : (done : List spec.Item) (calls : List Held) → IsSound exact calls → ended (Some (record { done = done; open_calls = calls })) ≡ prepended done (behind exact table deeper active calls [])
+    by_calls : (done : List spec.Item) (calls : List Held) → IsSound exact calls → ended (Some (record { done = done; open_calls = calls })) ≡ prepended done (items_behind exact table deeper active calls [])
     by_calls done [] sound = ap (λ (l : List spec.Item). Some l) (sym (append-nil done))
     by_calls done (held ∷ []) sound = refl
     by_calls done (held ∷ other ∷ calls) sound = absurd sound

@@ -21,14 +21,14 @@ IsSound exact (held ∷ other ∷ calls) = ⊥
 
 module _ (exact : Bool) (table : spec.Table) (deeper : spec.Deeper) (active : List (List ℕ)) where
   -- what items become behind these open calls
-  abbrev pub behind : List Held → List spec.Item → Option (List spec.Item)
-  behind [] rest = look exact (spec.outside table deeper active rest)
-  behind (held ∷ []) rest = look exact (spec.inside table deeper active held.call rest)
-  behind (held ∷ other ∷ calls) rest = None
+  abbrev pub items_behind : List Held → List spec.Item → Option (List spec.Item)
+  items_behind [] rest = look exact (spec.outside table deeper active rest)
+  items_behind (held ∷ []) rest = look exact (spec.inside table deeper active held.call rest)
+  items_behind (held ∷ other ∷ calls) rest = None
 
   abbrev pub goes_on : Option Piece → List spec.Item → Option (List spec.Item)
   goes_on None rest = None
-  goes_on (Some piece) rest = prepended piece.done (behind piece.open_calls rest)
+  goes_on (Some piece) rest = prepended piece.done (items_behind piece.open_calls rest)
 
   abbrev pub IsSoundPiece : Option Piece → Type 0
   IsSoundPiece None = ⊤

@@ -7,7 +7,7 @@ use Rattle.c_text.specs.Token.{PlainToken, plain_token}
 use Rattle.c_text.specs.Lines.{PlainLine}
 use Rattle.c_text.specs.Trees.{role_of}
 use Rattle.c_text.specs.Preprocessing.{Reading, Flow, Setting, on, refused, then_read, read_run}
-use Rattle.active_tokens.specs.Reads.{Read, read_of, Following, behind}
+use Rattle.active_tokens.specs.Reads.{Read, read_of, Following, reads_behind}
 use Rattle.file_walks.specs.Walk.{Walk, flushed}
 use Rattle.read_walks.specs.WalkReads.{reads_at_flush, reads_by_role, reads_of_step}
 use Rattle.read_walks.specs.Laws.{Leads, goes_on, stops, WalksAreOne, TestIsJoined}
@@ -28,7 +28,7 @@ flush-leads w = by_flow (read_run w.reading w.run)
     by_flow :
         (x : Flow)
         → Leads (λ v. Unit {0}) (λ next. then_read x (λ after. next (record w { reading = after; run = [] })))
-        (λ next. read_of w.reading w.run ∷ behind x (λ after. next (record w { reading = after; run = [] })))
+        (λ next. read_of w.reading w.run ∷ reads_behind x (λ after. next (record w { reading = after; run = [] })))
     by_flow (on r) = goes_on (record w { reading = r; run = [] }) tt (λ next. refl) (λ next. refl)
     by_flow (refused why) = stops why (λ next. refl) (λ next. refl)
 

@@ -9,7 +9,7 @@ use Rattle.c_text.specs.Lines.{PlainLine}
 use Rattle.c_text.specs.Trees.{Role, begins, begins_branch, begins_last, closes, stands_alone, role_of}
 use Rattle.c_text.specs.Preprocessing.{Reading, Refusal, Flow, Setting, on, refused, Condition as Truth, holds, fails, condition_at, refused_ignored, read_directive}
 use Rattle.c_text.specs.Directives.{directive_of}
-use Rattle.active_tokens.specs.Reads.{Read, read_of, Following, behind, unless_refused, by_truth, reads_of_inclusion}
+use Rattle.active_tokens.specs.Reads.{Read, read_of, Following, reads_behind, unless_refused, by_truth, reads_of_inclusion}
 use Rattle.file_walks.specs.Walk.{Open, are_read}
 use Rattle.read_walks.specs.WalkReads.{reads_at_group, reads_at_branch, reads_at_end, reads_at_directive, reads_by_role}
 use Rattle.cond_groups.specs.Groups.{PlainGroup, Fits, AllFit, open_at, level_at, read_in, branch_read_in, end_read_in, line_read_in}
@@ -22,7 +22,7 @@ unless-none : (found : Option Refusal) → unless_refused found [] ≡ []
 unless-none None = refl
 unless-none (Some why) = refl
 
-pub behind-none : (x : Flow) → behind x (λ a. []) ≡ []
+pub behind-none : (x : Flow) → reads_behind x (λ a. []) ≡ []
 behind-none (on r) = refl
 behind-none (refused why) = refl
 
@@ -63,11 +63,11 @@ module _ (s : Setting) (f : Following) (line : PlainLine) where
   alone-reads : (e h : Bool) (groups : List Open) (r : Reading) → (IsTrue e → are_read groups ≡ h) → (IsTrue h → IsTrue e) → read_where e (λ a. reads_at_directive s f (emptied a groups) line (λ v. [])) (Some r) ≡ read_where h line_read (Some r) ++ read_where h (λ a. reads_of_inclusion s f a (directive_of line.tokens)) (Some r)
   alone-reads true true groups r are inside =
       let all : List Read = read_of r line.tokens ∷ reads_of_inclusion s f r (directive_of line.tokens) in
-      ap (λ (b : Bool). if b then all ++ behind (read_directive s r line.tokens) (λ a. []) else []) (are refl)
+      ap (λ (b : Bool). if b then all ++ reads_behind (read_directive s r line.tokens) (λ a. []) else []) (are refl)
       ∙ ap (λ (l : List Read). all ++ l) (behind-none (read_directive s r line.tokens))
       ∙ append-nil all
   alone-reads true false groups r are inside =
-      ap (λ (b : Bool). if b then (read_of r line.tokens ∷ reads_of_inclusion s f r (directive_of line.tokens)) ++ behind (read_directive s r line.tokens) (λ a. []) else []) (are refl)
+      ap (λ (b : Bool). if b then (read_of r line.tokens ∷ reads_of_inclusion s f r (directive_of line.tokens)) ++ reads_behind (read_directive s r line.tokens) (λ a. []) else []) (are refl)
   alone-reads false true groups r are inside = absurd (false≢true (inside refl))
   alone-reads false false groups r are inside = refl
 

@@ -9,7 +9,7 @@ use Rattle.c_text.specs.Token.{PlainToken}
 use Rattle.c_text.specs.Lines.{PlainLine, plain_line, AreItsLines}
 use Rattle.c_text.specs.Preprocessing as spec
 use Rattle.c_text.specs.Preprocessing.{Reading, Flow, Setting, Syntax, IsSyntaxOf, on, refused, setting}
-use Rattle.active_tokens.specs.Reads.{Read, Following, behind}
+use Rattle.active_tokens.specs.Reads.{Read, Following, reads_behind}
 use Rattle.active_tokens.specs.Active.{AreMisplaced, reads_of_source}
 use Rattle.file_walks.specs.Walk.{Walk, step, start}
 use Rattle.file_walks.specs.Nests as nests
@@ -58,11 +58,11 @@ deeper-alike s x misplaced (suc more) = refl
 
 -- ---- one line, and the file that is read behind it
 
-behind-flow : (x : Flow) (next : Reading → List Read) → behind x next ≡ read_where true next (came_to x)
+behind-flow : (x : Flow) (next : Reading → List Read) → reads_behind x next ≡ read_where true next (came_to x)
 behind-flow (on r) next = refl
 behind-flow (refused why) next = refl
 
-reads-behind : (e : Bool) (inner : Reading → Flow) (next : Reading → List Read) (n : Option Reading) → read_where e (λ r. behind (inner r) next) n ≡ read_where e next (taken true inner n)
+reads-behind : (e : Bool) (inner : Reading → Flow) (next : Reading → List Read) (n : Option Reading) → read_where e (λ r. reads_behind (inner r) next) n ≡ read_where e next (taken true inner n)
 reads-behind e inner next None = refl
 reads-behind true inner next (Some r) = behind-flow (inner r) next
 reads-behind false inner next (Some r) = sym (nowhere next (came_to (inner r)))
@@ -82,11 +82,11 @@ line-carried lead_on one joined sought s f features w v line rest lines found o 
     let e' = value features (condition_of v.entered) in
     let inner : Reading → Flow = λ r. including features s.deeper found r in
     let others = reads_ahead features v next m in
-    let others_are : read_where e' (λ r. behind (inner r) (λ a. next (walk_at features v a))) n ≡ others =
+    let others_are : read_where e' (λ r. reads_behind (inner r) (λ a. next (walk_at features v a))) n ≡ others =
     reads-behind e' inner (λ a. next (walk_at features v a)) n ∙ ap (λ (x : Option Reading). reads_ahead features v next x) (sym reading_is)
     in
     let all : reads_ahead features w (λ u. reads_of_step s f u line next) o ≡ own ++ others =
-    carried one (λ r u. nests.behind (nests.nest_of (walk_at features w r).groups) line ≡ Some (nests.nest_of u.groups)) (λ r. step s (walk_at features w r) line) (λ r. reads_of_step s f (walk_at features w r) line) inner (λ r a. walk_at features v a) (value features (condition_of w.entered)) e' o n (λ r. lead_on s f (walk_at features w r) line) goes next
+    carried one (λ r u. nests.nest_behind (nests.nest_of (walk_at features w r).groups) line ≡ Some (nests.nest_of u.groups)) (λ r. step s (walk_at features w r) line) (λ r. reads_of_step s f (walk_at features w r) line) inner (λ r a. walk_at features v a) (value features (condition_of w.entered)) e' o n (λ r. lead_on s f (walk_at features w r) line) goes next
     ∙ ap (λ (l : List Read). own ++ l) others_are
     in
     ap (λ (b : Bool). b || is_read_in sought others) (after_is ∙ line_is)

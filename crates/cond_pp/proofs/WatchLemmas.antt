@@ -3,7 +3,7 @@ use Rattle.std.proofs.Common.{◌≡◌, Bool, true, false, List, [], ◌++◌, 
 use Rattle.std.specs.Prelude.{is_some}
 use Rattle.std.proofs.lemmas.Bool.{false≢true}
 use Rattle.c_text.specs.Preprocessing.{Reading, Refusal, Flow, on, refused, then_read, feature_token, unbalanced}
-use Rattle.active_tokens.specs.Reads.{Read, behind}
+use Rattle.active_tokens.specs.Reads.{Read, reads_behind}
 use Rattle.file_walks.specs.Walk.{Walk}
 use Rattle.read_walks.specs.Laws.{Leads, goes_on, stops, WalksAreOne}
 use Rattle.cond_readings.specs.Readings.{came_to, taken}
@@ -24,7 +24,7 @@ module _ (walks_are_one : WalksAreOne) where
       or_else r (Some s) = s
 
   module _ (Holds : Walk → Type 0) (reading : (Walk → Flow) → Flow) (what : (Walk → List Read) → List Read) where
-    lead-on : (x : Flow) (after : Reading → Walk) → Leads Holds reading what → ((next : Walk → Flow) → came_to (reading next) ≡ came_to (then_read x (λ a. next (after a)))) → (next : Walk → List Read) → what next ≡ what (λ v. []) ++ behind x (λ a. next (after a))
+    lead-on : (x : Flow) (after : Reading → Walk) → Leads Holds reading what → ((next : Walk → Flow) → came_to (reading next) ≡ came_to (then_read x (λ a. next (after a)))) → (next : Walk → List Read) → what next ≡ what (λ v. []) ++ reads_behind x (λ a. next (after a))
     lead-on (on a) after (goes_on w h k m) same next =
         let w_is : w ≡ after a =
         same-walk w (after a) (λ told. came_to (reading (λ v. on (told v)))) (λ told. ap came_to (k (λ v. on (told v)))) (λ told. same (λ v. on (told v)))
@@ -48,7 +48,7 @@ module _ (walks_are_one : WalksAreOne) where
         absurd (false≢true (ap is_some (sym none ∙ some)))
     stay m (stops why k l) same next = l next ∙ sym (append-nil (what (λ v. [])))
 
-  stay-behind : (x : Flow) (after : Reading → Walk) (m : Option Reading) → ((next : Walk → Flow) → m ≡ came_to (then_read x (λ a. next (after a)))) → (next : Walk → List Read) → [] ≡ behind x (λ a. next (after a))
+  stay-behind : (x : Flow) (after : Reading → Walk) (m : Option Reading) → ((next : Walk → Flow) → m ≡ came_to (then_read x (λ a. next (after a)))) → (next : Walk → List Read) → [] ≡ reads_behind x (λ a. next (after a))
   stay-behind (on a) after m same next =
       let some = same (λ v. on v.reading) in
       let none = same (λ v. refused some_refusal) in
@@ -57,7 +57,7 @@ module _ (walks_are_one : WalksAreOne) where
 
   -- A step of the definitions that leads on, whatever is next, to what another walk comes to: what is read in the step stands before
   -- what is read behind that walk.
-  pub carried : (Holds : Reading → Walk → Type 0) (reading : Reading → (Walk → Flow) → Flow) (what : Reading → (Walk → List Read) → List Read) (inner : Reading → Flow) (after : Reading → Reading → Walk) (e e' : Bool) (o n : Option Reading) → ((r : Reading) → Leads (Holds r) (reading r) (what r)) → ((next : Walk → Flow) → taken e (λ r. reading r next) o ≡ taken e' (λ r. then_read (inner r) (λ a. next (after r a))) n) → (next : Walk → List Read) → read_where e (λ r. what r next) o ≡ read_where e (λ r. what r (λ v. [])) o ++ read_where e' (λ r. behind (inner r) (λ a. next (after r a))) n
+  pub carried : (Holds : Reading → Walk → Type 0) (reading : Reading → (Walk → Flow) → Flow) (what : Reading → (Walk → List Read) → List Read) (inner : Reading → Flow) (after : Reading → Reading → Walk) (e e' : Bool) (o n : Option Reading) → ((r : Reading) → Leads (Holds r) (reading r) (what r)) → ((next : Walk → Flow) → taken e (λ r. reading r next) o ≡ taken e' (λ r. then_read (inner r) (λ a. next (after r a))) n) → (next : Walk → List Read) → read_where e (λ r. what r next) o ≡ read_where e (λ r. what r (λ v. [])) o ++ read_where e' (λ r. reads_behind (inner r) (λ a. next (after r a))) n
   carried Holds reading what inner after e e' None None leads same next = refl
   carried Holds reading what inner after e false None (Some s) leads same next = refl
   carried Holds reading what inner after e true None (Some s) leads same next = stay-behind (inner s) (after s) None same next

@@ -2,7 +2,7 @@
 use Rattle.std.proofs.Common.{◌≡◌, Bool, true, false, not, List, [], ◌∷◌, ◌++◌, Some, map, refl, sym, ap, ◌∙◌}
 use Rattle.std.specs.Prelude.{if◌then◌else◌}
 use Rattle.std.proofs.lemmas.List.{map-append}
-use Rattle.feature_model.specs.Reading.{joined}
+use Rattle.feature_model.specs.Reading.{joined_sides}
 use Rattle.feature_model.specs.ReaderView.{chained, chain_view}
 
 abbrev pub same : Bool → Bool → Bool
@@ -46,7 +46,7 @@ chained-step v xs ys zs ws a b p first second last joins =
     ∙ ap (λ l. chained (map v l)) (sym first)
 
 -- one operand more
-pub chain_view-push : (xs : List Bool) (y : Bool) → chain_view (xs ++ y ∷ []) ≡ Some (joined same (chain_view xs) y)
+pub chain_view-push : (xs : List Bool) (y : Bool) → chain_view (xs ++ y ∷ []) ≡ Some (joined_sides same (chain_view xs) y)
 chain_view-push [] y = ap (λ t. Some t) (same_true y)
 chain_view-push (x ∷ xs) y = ap (λ t. Some t) (chained-push (x ∷ xs) y)
 

@@ -3,7 +3,7 @@ use Rattle.std.proofs.Common.{◌≡◌, ℕ, zero, suc, ◌≤◌, List, [], �
 use Rattle.feature_model.specs.declared.signs.Sign.TheVariants.{Not, And, Or, Implies, Equals, Opens, Closes}
 use Rattle.feature_model.specs.Tokens.{Token, Name, Mark}
 use Rattle.feature_model.specs.Trees.{Tree, named, inverse, grouped, both, either, implies, equals, spell, strength, Fits}
-use Rattle.feature_model.specs.Reading.{Sides, Wanting, wants, has, joined, implied, no_sides, inversions, trees, read, at_start}
+use Rattle.feature_model.specs.Reading.{Sides, Wanting, wants, has, joined_sides, implied, no_sides, inversions, trees, read, at_start}
 
 abbrev pub sides : Option Tree → List Tree → Option Tree → Sides Tree
 sides same premises any = record { same = same; premises = premises; any = any }
@@ -27,7 +27,7 @@ binding k = 0
 abbrev pub Tight : Tree → Type 0
 Tight t =
     (s : Sides Tree) (all : Option Tree) (n : ℕ) (outer : List (Wanting Tree ℕ)) (k : List Token)
-    → wanted_read s all n outer (spell t k) ≡ had_read s (joined both all (inversions n t)) outer k
+    → wanted_read s all n outer (spell t k) ≡ had_read s (joined_sides both all (inversions n t)) outer k
 
 abbrev pub Conjunct : Tree → Type 0
 Conjunct t =

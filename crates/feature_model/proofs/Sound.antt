@@ -5,7 +5,7 @@ use Rattle.feature_model.specs.declared.signs.Sign.{Sign}
 use Rattle.feature_model.specs.declared.signs.Sign.TheVariants.{Not, And, Or, Implies, Equals, Opens, Closes}
 use Rattle.feature_model.specs.Tokens.{Token, Name, Mark}
 use Rattle.feature_model.specs.Trees.{Tree, named, inverse, grouped, both, either, implies, equals, spell, strength, Fits, Spells}
-use Rattle.feature_model.specs.Reading.{Sides, Wanting, Place, wants, has, Reading, joined, implied, no_sides, inversions, trees, read, next, closed, finished, whole, at_start}
+use Rattle.feature_model.specs.Reading.{Sides, Wanting, Place, wants, has, Reading, joined_sides, implied, no_sides, inversions, trees, read, next, closed, finished, whole, at_start}
 
 -- the tokens that were read, and then these
 abbrev side_text : Sign → Option Tree → List Token → List Token
@@ -70,7 +70,7 @@ OuterFits (w ∷ ws) = WantingFits w × OuterFits ws
 
 -- spelling what is joined
 spell-side : (op : Tree → Tree → Tree) (sign : Sign) → ((a b : Tree) (k : List Token) → spell (op a b) k ≡ spell a (Mark sign ∷ spell b k))
-    → (o : Option Tree) (c : Tree) (k : List Token) → spell (joined op o c) k ≡ side_text sign o (spell c k)
+    → (o : Option Tree) (c : Tree) (k : List Token) → spell (joined_sides op o c) k ≡ side_text sign o (spell c k)
 spell-side op sign e None c k = refl
 spell-side op sign e (Some a) c k = e a c k
 
@@ -84,9 +84,9 @@ spell-inversions (suc n) a k = spell-inversions n (inverse a) k
 
 spell-whole : (s : Sides Tree) (c : Tree) (k : List Token) → spell (whole trees s c) k ≡ sides_text s (spell c k)
 spell-whole s c k =
-    spell-side equals Equals (λ a b l. refl) s.same (implied implies s.premises (joined either s.any c)) k
+    spell-side equals Equals (λ a b l. refl) s.same (implied implies s.premises (joined_sides either s.any c)) k
     ∙ ap (side_text Equals s.same)
-    (spell-implied s.premises (joined either s.any c) k
+    (spell-implied s.premises (joined_sides either s.any c) k
     ∙ ap (premises_text s.premises) (spell-side either Or (λ a b l. refl) s.any c k))
 
 premises_text-push : (ps : List Tree) (p : Tree) (k : List Token) → premises_text (ps ++ p ∷ []) k ≡ premises_text ps (spell p (Mark Implies ∷ k))
@@ -98,11 +98,11 @@ fits_inversions : (n : ℕ) (a : Tree) → 5 ≤ strength a → Fits a → (5 �
 fits_inversions zero a h f = (h, f)
 fits_inversions (suc n) a h f = fits_inversions n (inverse a) (omega arith) (h, f)
 
-fits_all : (o : Option Tree) (c : Tree) → SideFits 4 o → 5 ≤ strength c → Fits c → (4 ≤ strength (joined both o c)) × Fits (joined both o c)
+fits_all : (o : Option Tree) (c : Tree) → SideFits 4 o → 5 ≤ strength c → Fits c → (4 ≤ strength (joined_sides both o c)) × Fits (joined_sides both o c)
 fits_all None c g h f = (omega arith, f)
 fits_all (Some a) c g h f = (omega arith, (g.0, h, g.1, f))
 
-fits_any : (o : Option Tree) (c : Tree) → SideFits 3 o → 4 ≤ strength c → Fits c → (3 ≤ strength (joined either o c)) × Fits (joined either o c)
+fits_any : (o : Option Tree) (c : Tree) → SideFits 3 o → 4 ≤ strength c → Fits c → (3 ≤ strength (joined_sides either o c)) × Fits (joined_sides either o c)
 fits_any None c g h f = (omega arith, f)
 fits_any (Some a) c g h f = (omega arith, (g.0, h, g.1, f))
 
@@ -110,15 +110,15 @@ fits_implied : (ps : List Tree) (c : Tree) → PremisesFit ps → 2 ≤ strength
 fits_implied [] c g h f = (h, f)
 fits_implied (p ∷ ps) c g h f = let r = fits_implied ps c g.2 h f in (omega arith, (g.0, r.0, g.1, r.1))
 
-fits_same : (o : Option Tree) (c : Tree) → SideFits 1 o → 2 ≤ strength c → Fits c → (1 ≤ strength (joined equals o c)) × Fits (joined equals o c)
+fits_same : (o : Option Tree) (c : Tree) → SideFits 1 o → 2 ≤ strength c → Fits c → (1 ≤ strength (joined_sides equals o c)) × Fits (joined_sides equals o c)
 fits_same None c g h f = (omega arith, f)
 fits_same (Some a) c g h f = (omega arith, (g.0, h, g.1, f))
 
 fits_whole : (s : Sides Tree) (c : Tree) → HasFits s c → (1 ≤ strength (whole trees s c)) × Fits (whole trees s c)
 fits_whole s c g =
     let a = fits_any s.any c g.sides.any g.strong g.fits in
-    let i = fits_implied s.premises (joined either s.any c) g.sides.premises (omega arith) a.1 in
-    fits_same s.same (implied implies s.premises (joined either s.any c)) g.sides.same i.0 i.1
+    let i = fits_implied s.premises (joined_sides either s.any c) g.sides.premises (omega arith) a.1 in
+    fits_same s.same (implied implies s.premises (joined_sides either s.any c)) g.sides.same i.0 i.1
 
 fits_push : (ps : List Tree) (p : Tree) → PremisesFit ps → 3 ≤ strength p → Fits p → PremisesFit (ps ++ p ∷ [])
 fits_push [] p g h f = (h, f, tt)
@@ -139,13 +139,13 @@ GoesIf before token (Some r) = Goes before token r
 
 -- an operand in its place
 operand_text : (w : Wanting Tree ℕ) (a : Tree) (k : List Token)
-    → sides_text w.sides (spell (joined both w.all (inversions w.nots a)) k) ≡ wanting_text w (spell a k)
+    → sides_text w.sides (spell (joined_sides both w.all (inversions w.nots a)) k) ≡ wanting_text w (spell a k)
 operand_text w a k =
     ap (sides_text w.sides)
     (spell-side both And (λ x y l. refl) w.all (inversions w.nots a) k
     ∙ ap (side_text And w.all) (spell-inversions w.nots a k))
 
-operand_fits : (w : Wanting Tree ℕ) (a : Tree) → WantingFits w → 5 ≤ strength a → Fits a → HasFits w.sides (joined both w.all (inversions w.nots a))
+operand_fits : (w : Wanting Tree ℕ) (a : Tree) → WantingFits w → 5 ≤ strength a → Fits a → HasFits w.sides (joined_sides both w.all (inversions w.nots a))
 operand_fits w a g h f =
     let i = fits_inversions w.nots a h f in
     let j = fits_all w.all (inversions w.nots a) g.all i.0 i.1 in
@@ -205,10 +205,10 @@ behind_goes s c outer (Mark Implies) g o =
     record {
       text = λ k.
           ap (λ l. outer_text outer (side_text Equals s.same l))
-          (premises_text-push s.premises (joined either s.any c) k
+          (premises_text-push s.premises (joined_sides either s.any c) k
           ∙ ap (premises_text s.premises) (spell-side either Or (λ a b l. refl) s.any c (Mark Implies ∷ k)));
       place = record {
-        sides = record { same = g.sides.same; premises = fits_push s.premises (joined either s.any c) g.sides.premises a.0 a.1; any = tt };
+        sides = record { same = g.sides.same; premises = fits_push s.premises (joined_sides either s.any c) g.sides.premises a.0 a.1; any = tt };
         all = tt;
       };
       outer = o;

@@ -6,7 +6,7 @@ use Rattle.std.proofs.lemmas.List.{map-append}
 use Rattle.feature_model.specs.declared.signs.Sign.TheVariants.{Not, And, Or, Implies, Equals, Opens, Closes}
 use Rattle.feature_model.specs.Tokens.{Token, Name, Mark}
 use Rattle.feature_model.specs.Trees.{Tree, named, inverse, grouped, both, either, implies, equals, holds}
-use Rattle.feature_model.specs.Reading.{Algebra, Sides, Wanting, Place, wants, has, Reading, joined, implied, inversions, trees, truths, read, next, placed, closed, finished, whole, at_start}
+use Rattle.feature_model.specs.Reading.{Algebra, Sides, Wanting, Place, wants, has, Reading, joined_sides, implied, inversions, trees, truths, read, next, placed, closed, finished, whole, at_start}
 
 abbrev odd : ℕ → Bool
 odd zero = false
@@ -44,7 +44,7 @@ module _ (features : List (String Global)) (on : ℕ → Bool) where
 
   joined_hold :
       (op : Tree → Tree → Tree) (p : Bool → Bool → Bool) → ((a b : Tree) → p (truth a) (truth b) ≡ truth (op a b))
-      → (o : Option Tree) (a : Tree) → joined p (option_map truth o) (truth a) ≡ truth (joined op o a)
+      → (o : Option Tree) (a : Tree) → joined_sides p (option_map truth o) (truth a) ≡ truth (joined_sides op o a)
   joined_hold op p e None a = refl
   joined_hold op p e (Some b) a = e b a
 
@@ -54,20 +54,20 @@ module _ (features : List (String Global)) (on : ℕ → Bool) where
   implied_hold [] c = refl
   implied_hold (p ∷ ps) c = ap (λ x. not (truth p) || x) (implied_hold ps c)
 
-  abbrev any_hold : (o : Option Tree) (a : Tree) → joined (λ x y. x || y) (option_map truth o) (truth a) ≡ truth (joined either o a)
+  abbrev any_hold : (o : Option Tree) (a : Tree) → joined_sides (λ x y. x || y) (option_map truth o) (truth a) ≡ truth (joined_sides either o a)
   any_hold o a = joined_hold either (λ x y. x || y) (λ x y. refl) o a
 
   whole_holds : (s : Sides Tree) (c : Tree) → whole T (at_sides s) (truth c) ≡ truth (whole trees s c)
   whole_holds s c =
       ap
       (λ x.
-      joined (λ a b. if a then b else not b) (option_map truth s.same)
+      joined_sides (λ a b. if a then b else not b) (option_map truth s.same)
       (implied (λ a b. not a || b) (map truth s.premises) x))
       (any_hold s.any c)
-      ∙ ap (joined (λ a b. if a then b else not b) (option_map truth s.same))
-      (implied_hold s.premises (joined either s.any c))
+      ∙ ap (joined_sides (λ a b. if a then b else not b) (option_map truth s.same))
+      (implied_hold s.premises (joined_sides either s.any c))
       ∙ joined_hold equals (λ a b. if a then b else not b) (λ a b. refl) s.same
-      (implied implies s.premises (joined either s.any c))
+      (implied implies s.premises (joined_sides either s.any c))
 
   placed_holds :
       (w : Wanting Tree ℕ) (outer : List (Wanting Tree ℕ)) (a : Tree)
@@ -75,7 +75,7 @@ module _ (features : List (String Global)) (on : ℕ → Bool) where
   placed_holds w outer a =
       ap
       (λ x. let r : Reading Bool Bool = record { place = has (at_sides w.sides) x; outer = map at_wanting outer } in r)
-      (ap (joined (λ x y. x && y) (option_map truth w.all)) (inversions_hold w.nots a)
+      (ap (joined_sides (λ x y. x && y) (option_map truth w.all)) (inversions_hold w.nots a)
       ∙ joined_hold both (λ x y. x && y) (λ x y. refl) w.all (inversions w.nots a))
 
   wanted_holds :
@@ -123,7 +123,7 @@ module _ (features : List (String Global)) (on : ℕ → Bool) where
   behind_holds s c outer (Mark Implies) =
       ap (λ x. waiting (option_map truth s.same) (map truth s.premises ++ x ∷ []) None outer) (any_hold s.any c)
       ∙ ap (λ l. waiting (option_map truth s.same) l None outer)
-      (sym (map-append truth s.premises (joined either s.any c ∷ [])))
+      (sym (map-append truth s.premises (joined_sides either s.any c ∷ [])))
   behind_holds s c outer (Mark Equals) = ap (λ x. waiting (Some x) [] None outer) (whole_holds s c)
   behind_holds s c outer (Mark Opens) = refl
   behind_holds s c outer (Mark Closes) =

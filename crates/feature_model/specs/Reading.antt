@@ -40,9 +40,9 @@ pub record Reading (A N : Type 0) : Type 0 where
   pub place : Place A N
   pub outer : List (Wanting A N)
 
-abbrev pub joined : {A : Type 0} → (A → A → A) → Option A → A → A
-joined op None right = right
-joined op (Some left) right = op left right
+abbrev pub joined_sides : {A : Type 0} → (A → A → A) → Option A → A → A
+joined_sides op None right = right
+joined_sides op (Some left) right = op left right
 
 abbrev pub implied : {A : Type 0} → (A → A → A) → List A → A → A
 implied op [] conclusion = conclusion
@@ -64,10 +64,10 @@ module _ {A N : Type 0} (R : Algebra A N) where
   -- all that waits in a group, with its last conjuncts
   abbrev pub whole : Sides A → A → A
   whole sides last =
-      joined R.same_as sides.same (implied R.leads_to sides.premises (joined R.any_of sides.any last))
+      joined_sides R.same_as sides.same (implied R.leads_to sides.premises (joined_sides R.any_of sides.any last))
 
   abbrev pub placed : Wanting A N → List (Wanting A N) → A → Reading A N
-  placed w outer a = record { place = has w.sides (joined R.all_of w.all (R.inverted w.nots a)); outer = outer }
+  placed w outer a = record { place = has w.sides (joined_sides R.all_of w.all (R.inverted w.nots a)); outer = outer }
 
   abbrev pub closed : List (Wanting A N) → A → Option (Reading A N)
   closed [] a = None
@@ -80,21 +80,21 @@ module _ {A N : Type 0} (R : Algebra A N) where
   wanted w outer (Mark Opens) = wanting no_sides (w ∷ outer)
   wanted w outer (Mark sign) = None
 
-  abbrev pub behind : Sides A → A → List (Wanting A N) → Token → Option (Reading A N)
-  behind s c outer (Name name) = None
-  behind s c outer (Mark And) =
+  abbrev pub reading_behind : Sides A → A → List (Wanting A N) → Token → Option (Reading A N)
+  reading_behind s c outer (Name name) = None
+  reading_behind s c outer (Mark And) =
       Some (record { place = wants (record { sides = s; all = Some c; nots = R.plain }); outer = outer })
-  behind s c outer (Mark Or) =
-      wanting (record { same = s.same; premises = s.premises; any = Some (joined R.any_of s.any c) }) outer
-  behind s c outer (Mark Implies) =
-      wanting (record { same = s.same; premises = s.premises ++ joined R.any_of s.any c ∷ []; any = None }) outer
-  behind s c outer (Mark Equals) = wanting (record { same = Some (whole s c); premises = []; any = None }) outer
-  behind s c outer (Mark Closes) = closed outer (R.in_group (whole s c))
-  behind s c outer (Mark sign) = None
+  reading_behind s c outer (Mark Or) =
+      wanting (record { same = s.same; premises = s.premises; any = Some (joined_sides R.any_of s.any c) }) outer
+  reading_behind s c outer (Mark Implies) =
+      wanting (record { same = s.same; premises = s.premises ++ joined_sides R.any_of s.any c ∷ []; any = None }) outer
+  reading_behind s c outer (Mark Equals) = wanting (record { same = Some (whole s c); premises = []; any = None }) outer
+  reading_behind s c outer (Mark Closes) = closed outer (R.in_group (whole s c))
+  reading_behind s c outer (Mark sign) = None
 
   abbrev pub next : Place A N → List (Wanting A N) → Token → Option (Reading A N)
   next (wants w) outer token = wanted w outer token
-  next (has s c) outer token = behind s c outer token
+  next (has s c) outer token = reading_behind s c outer token
 
   abbrev pub finished : Place A N → List (Wanting A N) → Option A
   finished (wants w) outer = None

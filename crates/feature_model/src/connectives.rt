@@ -1,6 +1,6 @@
 //! The connectives of constraints, as formulas.
 ghost use Rattle.std.specs.Prelude.{◌≡◌, ℕ, Bool, not, ◌&&◌, ◌||◌, if◌then◌else◌, All, IfOk, IfSome, option_map, map, length, ◌≤◌};
-ghost use Rattle.feature_model.specs.Reading.{joined, implied};
+ghost use Rattle.feature_model.specs.Reading.{joined_sides, implied};
 ghost use Rattle.feature_model.specs.Trees.{feature_number, on_feature};
 ghost use Rattle.feature_model.specs.ReaderView.{value_in, chained};
 ghost use Rattle.feature_model.specs.Bounds.{IsBelow};
@@ -59,7 +59,7 @@ pub fn joined_by_and(
     left: Option<Formula>,
     right: Formula,
 ) -> Result<Formula, NoMemory>
-    ensures value { (on : ℕ → Bool) → IfOk result (λ f. value_in on f ≡ joined (λ a b. a && b) (option_map (value_in on) left) (value_in on right)) }
+    ensures value { (on : ℕ → Bool) → IfOk result (λ f. value_in on f ≡ joined_sides (λ a b. a && b) (option_map (value_in on) left) (value_in on right)) }
     ensures below { (count : ℕ) → IfSome left (IsBelow count) → IsBelow count right → IfOk result (IsBelow count) }
 {
     match left {
@@ -76,7 +76,7 @@ pub fn joined_by_or(
     left: Option<Formula>,
     right: Formula,
 ) -> Result<Formula, NoMemory>
-    ensures value { (on : ℕ → Bool) → IfOk result (λ f. value_in on f ≡ joined (λ a b. a || b) (option_map (value_in on) left) (value_in on right)) }
+    ensures value { (on : ℕ → Bool) → IfOk result (λ f. value_in on f ≡ joined_sides (λ a b. a || b) (option_map (value_in on) left) (value_in on right)) }
     ensures below { (count : ℕ) → IfSome left (IsBelow count) → IsBelow count right → IfOk result (IsBelow count) }
 {
     match left {

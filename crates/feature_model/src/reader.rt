@@ -1,6 +1,6 @@
 //! The reader of a constraint's tokens. Its open groups stand on a stack of its own.
 ghost use Rattle.std.specs.Prelude.{◌≡◌, ◌++◌, if◌then◌else◌, None, ℕ, Bool, List, String, Some, [], ◌∷◌, All, IfOk, IfSome, option_map, map, length, ◌≤◌, MatchOption};
-ghost use Rattle.feature_model.specs.Reading.{at_start, at_sides, no_sides, truths, whole, placed, closed, wanted, behind, next, finished, read};
+ghost use Rattle.feature_model.specs.Reading.{at_start, at_sides, no_sides, truths, whole, placed, closed, wanted, reading_behind, next, finished, read};
 ghost use Rattle.std.specs.declared.alloc.Global.{Global};
 ghost use Rattle.feature_model.specs.Tokens.{Mark};
 ghost use Rattle.feature_model.specs.declared.signs.Sign.TheVariants.{Or, Implies, Equals};
@@ -232,7 +232,7 @@ fn behind_or(
     last: Formula,
     outer: Vec<Wanting>,
 ) -> Result<Reader, NoMemory>
-    ensures value { (features : List (String Global)) (on : ℕ → Bool) → IfOk result (λ r. Some (reader_view on r) ≡ behind (truths features on) (sides_view on sides) (value_in on last) (outer_view on outer) (Mark Or)) }
+    ensures value { (features : List (String Global)) (on : ℕ → Bool) → IfOk result (λ r. Some (reader_view on r) ≡ reading_behind (truths features on) (sides_view on sides) (value_in on last) (outer_view on outer) (Mark Or)) }
     ensures below { (count : ℕ) → HasBelow count sides last → All (WantingBelow count) outer.items → IfOk result (ReaderBelow count) }
 {
     let Sides {
@@ -257,7 +257,7 @@ fn behind_implies(
     last: Formula,
     outer: Vec<Wanting>,
 ) -> Result<Reader, NoMemory>
-    ensures value { (features : List (String Global)) (on : ℕ → Bool) → IfOk result (λ r. Some (reader_view on r) ≡ behind (truths features on) (sides_view on sides) (value_in on last) (outer_view on outer) (Mark Implies)) }
+    ensures value { (features : List (String Global)) (on : ℕ → Bool) → IfOk result (λ r. Some (reader_view on r) ≡ reading_behind (truths features on) (sides_view on sides) (value_in on last) (outer_view on outer) (Mark Implies)) }
     ensures below { (count : ℕ) → HasBelow count sides last → All (WantingBelow count) outer.items → IfOk result (ReaderBelow count) }
 {
     let Sides {
@@ -283,7 +283,7 @@ fn behind_equals(
     last: Formula,
     outer: Vec<Wanting>,
 ) -> Result<Reader, NoMemory>
-    ensures value { (features : List (String Global)) (on : ℕ → Bool) → IfOk result (λ r. Some (reader_view on r) ≡ behind (truths features on) (sides_view on sides) (value_in on last) (outer_view on outer) (Mark Equals)) }
+    ensures value { (features : List (String Global)) (on : ℕ → Bool) → IfOk result (λ r. Some (reader_view on r) ≡ reading_behind (truths features on) (sides_view on sides) (value_in on last) (outer_view on outer) (Mark Equals)) }
     ensures below { (count : ℕ) → HasBelow count sides last → All (WantingBelow count) outer.items → IfOk result (ReaderBelow count) }
 {
     let same = operands(alloc, sides, last)?;
@@ -304,7 +304,7 @@ fn behind_sign(
     outer: Vec<Wanting>,
     sign: Sign,
 ) -> Result<Option<Reader>, NoMemory>
-    ensures value { (features : List (String Global)) (on : ℕ → Bool) → IfOk result (λ r. option_map (reader_view on) r ≡ behind (truths features on) (sides_view on sides) (value_in on last) (outer_view on outer) (Mark sign)) }
+    ensures value { (features : List (String Global)) (on : ℕ → Bool) → IfOk result (λ r. option_map (reader_view on) r ≡ reading_behind (truths features on) (sides_view on sides) (value_in on last) (outer_view on outer) (Mark sign)) }
     ensures below { (count : ℕ) → HasBelow count sides last → All (WantingBelow count) outer.items → IfOk result (λ r. IfSome r (ReaderBelow count)) }
 {
     match sign {
@@ -347,7 +347,7 @@ fn behind(
     outer: Vec<Wanting>,
     token: &Token,
 ) -> Result<Option<Reader>, NoMemory>
-    ensures value { (features : List (String Global)) (on : ℕ → Bool) → IfOk result (λ r. option_map (reader_view on) r ≡ behind (truths features on) (sides_view on sides) (value_in on last) (outer_view on outer) (token_view token.now)) }
+    ensures value { (features : List (String Global)) (on : ℕ → Bool) → IfOk result (λ r. option_map (reader_view on) r ≡ reading_behind (truths features on) (sides_view on sides) (value_in on last) (outer_view on outer) (token_view token.now)) }
     ensures below { (count : ℕ) → HasBelow count sides last → All (WantingBelow count) outer.items → IfOk result (λ r. IfSome r (ReaderBelow count)) }
 {
     match token {

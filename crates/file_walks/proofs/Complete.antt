@@ -5,17 +5,17 @@ use Rattle.std.proofs.lemmas.List.{append_assoc}
 use Rattle.std.proofs.lemmas.List.Elements.{All-head, All-tail}
 use Rattle.c_text.specs.Lines.{PlainLine}
 use Rattle.c_text.specs.Trees.{Part, finish, breaks, text_lines, directive_line, group, broken_group, Branches, no_branch, branch, Role, begins, begins_branch, begins_last, closes, stands_alone, role_of, lines_in, lines_of_branches, IsFormed, AreFormed, HasRole, IsText, BeginsNoText, are_some}
-use Rattle.file_walks.specs.Nests.{Nest, behind, behind_role, by_place, misplaced_in}
+use Rattle.file_walks.specs.Nests.{Nest, nest_behind, behind_role, by_place, misplaced_in}
 use Rattle.file_walks.proofs.Spines.{Spine, ground, level, broken_level, map_front, broken_front, with_text, with_group, with_branch, with_role, with_line}
 use Rattle.file_walks.proofs.Forms.{by_next, spine_of}
 
 -- ---- one line
 
-pub behind-role : (role : Role) (nest : Nest) (line : PlainLine) → HasRole role line → behind nest line ≡ behind_role role nest
+pub behind-role : (role : Role) (nest : Nest) (line : PlainLine) → HasRole role line → nest_behind nest line ≡ behind_role role nest
 behind-role role nest line h =
     ap (λ (b : Bool). if b then behind_role (role_of line.tokens) nest else Some nest) h.0 ∙ ap (λ (r : Role). behind_role r nest) h.1
 
-pub behind-text : (nest : Nest) (line : PlainLine) → IsText line → behind nest line ≡ Some nest
+pub behind-text : (nest : Nest) (line : PlainLine) → IsText line → nest_behind nest line ≡ Some nest
 behind-text nest line h = ap (λ (b : Bool). if b then behind_role (role_of line.tokens) nest else Some nest) h
 
 pub line-role : (role : Role) (nest : Nest) (line : PlainLine) (spine : Spine) → HasRole role line → with_line nest line spine ≡ with_role role nest line spine
@@ -26,10 +26,10 @@ line-role role nest line spine h =
 pub line-text : (nest : Nest) (line : PlainLine) (spine : Spine) → IsText line → with_line nest line spine ≡ map_front (with_text line) spine
 line-text nest line spine h = ap (λ (b : Bool). if b then with_role (role_of line.tokens) nest line spine else map_front (with_text line) spine) h
 
-pub spine-step : (nest next : Nest) (line : PlainLine) (lines : List PlainLine) → behind nest line ≡ Some next → spine_of nest (line ∷ lines) ≡ with_line nest line (spine_of next lines)
+pub spine-step : (nest next : Nest) (line : PlainLine) (lines : List PlainLine) → nest_behind nest line ≡ Some next → spine_of nest (line ∷ lines) ≡ with_line nest line (spine_of next lines)
 spine-step nest next line lines h = ap (λ (o : Option Nest). by_next o nest line (λ n. spine_of n lines)) h
 
-pub place-step : (nest next : Nest) (line : PlainLine) (lines : List PlainLine) → behind nest line ≡ Some next → misplaced_in nest (line ∷ lines) ≡ misplaced_in next lines
+pub place-step : (nest next : Nest) (line : PlainLine) (lines : List PlainLine) → nest_behind nest line ≡ Some next → misplaced_in nest (line ∷ lines) ≡ misplaced_in next lines
 place-step nest next line lines h = ap (λ (o : Option Nest). by_place o line (λ n. misplaced_in n lines)) h
 
 role-step : (role : Role) (nest next : Nest) (line : PlainLine) (lines : List PlainLine) → HasRole role line → behind_role role nest ≡ Some next → spine_of nest (line ∷ lines) ≡ with_role role nest line (spine_of next lines)

@@ -3,7 +3,7 @@ use Rattle.std.proofs.Common.{◌≡◌, Bool, true, false, List, [], ◌∷◌,
 use Rattle.std.specs.Prelude.{if◌then◌else◌}
 use Rattle.c_text.specs.Lines.{PlainLine}
 use Rattle.c_text.specs.Trees.{Part, finish, breaks, directive_line, group, broken_group, no_branch, Role, begins, begins_branch, begins_last, closes, stands_alone, role_of}
-use Rattle.file_walks.specs.Nests.{Nest, behind, behind_role, behind_branch}
+use Rattle.file_walks.specs.Nests.{Nest, nest_behind, behind_role, behind_branch}
 use Rattle.file_walks.proofs.Spines.{Spine, ground, level, broken_level, map_front, broken_front, with_text, with_group, with_branch, with_role, with_line, Fits}
 
 -- at the end of the file
@@ -18,7 +18,7 @@ by_next (Some next) nest line others = with_line nest line (others next)
 -- the spine of lines, where these groups are open before them
 abbrev pub spine_of : Nest → List PlainLine → Spine
 spine_of nest [] = at_end nest
-spine_of nest (line ∷ lines) = by_next (behind nest line) nest line (λ next. spine_of next lines)
+spine_of nest (line ∷ lines) = by_next (nest_behind nest line) nest line (λ next. spine_of next lines)
 
 abbrev pub by_before : Option Nest → PlainLine → (Nest → List PlainLine) → List PlainLine
 by_before None line others = []
@@ -27,7 +27,7 @@ by_before (Some next) line others = line ∷ others next
 -- the lines before it
 abbrev pub lines_before : Nest → List PlainLine → List PlainLine
 lines_before nest [] = []
-lines_before nest (line ∷ lines) = by_before (behind nest line) line (λ next. lines_before next lines)
+lines_before nest (line ∷ lines) = by_before (nest_behind nest line) line (λ next. lines_before next lines)
 
 abbrev pub is_nil : Nest → Bool
 is_nil [] = true
@@ -40,7 +40,7 @@ by_whole (Some next) others = others next
 -- whether each line fits and all groups are closed
 abbrev pub is_whole : Nest → List PlainLine → Bool
 is_whole nest [] = is_nil nest
-is_whole nest (line ∷ lines) = by_whole (behind nest line) (λ next. is_whole next lines)
+is_whole nest (line ∷ lines) = by_whole (nest_behind nest line) (λ next. is_whole next lines)
 
 -- ---- a line before a spine
 
@@ -92,7 +92,7 @@ role-fits stands_alone nest next line spine h fits =
     let e : nest ≡ next = cc in
     map_front-fits nest (directive_line line) spine (subst (λ n. Fits n spine) (sym e) fits)
 
-pub line-fits : (nest next : Nest) (line : PlainLine) (spine : Spine) → behind nest line ≡ Some next → Fits next spine → Fits nest (with_line nest line spine)
+pub line-fits : (nest next : Nest) (line : PlainLine) (spine : Spine) → nest_behind nest line ≡ Some next → Fits next spine → Fits nest (with_line nest line spine)
 line-fits nest next line spine h fits = by_cases line.directive h
   where
     by_cases :
@@ -106,8 +106,8 @@ line-fits nest next line spine h fits = by_cases line.directive h
 pub spine-fits : (nest : Nest) (lines : List PlainLine) → Fits nest (spine_of nest lines)
 spine-fits [] [] = tt
 spine-fits (e ∷ nest) [] = tt
-spine-fits nest (line ∷ lines) = by_cases (behind nest line) refl (λ next. spine-fits next lines)
+spine-fits nest (line ∷ lines) = by_cases (nest_behind nest line) refl (λ next. spine-fits next lines)
   where
-    by_cases : (o : Option Nest) → behind nest line ≡ o → ((next : Nest) → Fits next (spine_of next lines)) → Fits nest (by_next o nest line (λ next. spine_of next lines))
+    by_cases : (o : Option Nest) → nest_behind nest line ≡ o → ((next : Nest) → Fits next (spine_of next lines)) → Fits nest (by_next o nest line (λ next. spine_of next lines))
     by_cases None h others = broken_front-fits nest breaks
     by_cases (Some next) h others = line-fits nest next line (spine_of next lines) h (others next)

@@ -3,7 +3,7 @@ use Rattle.std.proofs.Common.{◌≡◌, ◌≢◌, ℕ, Bool, true, false, List
 use Rattle.c_text.specs.Lines.{PlainLine}
 use Rattle.c_text.specs.Trees.{Part, finish, breaks, text_lines, directive_line, group, broken_group, Branches, no_branch, branch, lines_in, IsFormed, ends_open, IsMisplaced, IsRead, whole_file, open_at_end, broken_at}
 use Rattle.c_text.specs.Preprocessing.{Refusal, IsFile, span_of_break, unbalanced}
-use Rattle.file_walks.specs.Nests.{Nest, behind, by_place, misplaced_in, break_of}
+use Rattle.file_walks.specs.Nests.{Nest, nest_behind, by_place, misplaced_in, break_of}
 use Rattle.file_walks.proofs.Spines.{Spine, ground, level, broken_level, front_of, broken_front, Fits}
 use Rattle.file_walks.proofs.Forms.{by_next, spine_of, lines_before, is_whole, spine-fits}
 use Rattle.file_walks.proofs.Complete.{whole-part, followed-finish, whole-places, broken-part, broken-places, end_nest, end_branches}
@@ -86,14 +86,14 @@ stops-at_end : (nest : Nest) → nest ≢ [] → spine_of nest [] ≡ broken_fro
 stops-at_end [] h = absurd (h refl)
 stops-at_end (e ∷ nest) h = refl
 
-stops-at : (nest : Nest) (line : PlainLine) (rest : List PlainLine) → behind nest line ≡ None → spine_of nest (line ∷ rest) ≡ broken_front nest breaks
+stops-at : (nest : Nest) (line : PlainLine) (rest : List PlainLine) → nest_behind nest line ≡ None → spine_of nest (line ∷ rest) ≡ broken_front nest breaks
 stops-at nest line rest h = ap (λ (o : Option Nest). by_next o nest line (λ n. spine_of n rest)) h
 
 -- behind a part that breaks at a misplaced line the line fits no group
-misplaced-behind : (part : Part) (line : PlainLine) → IsFormed false part → IsMisplaced (lines_in part) line → behind (end_nest [] part) line ≡ None
-misplaced-behind part line formed misplaced = by_cases (behind (end_nest [] part) line) refl
+misplaced-behind : (part : Part) (line : PlainLine) → IsFormed false part → IsMisplaced (lines_in part) line → nest_behind (end_nest [] part) line ≡ None
+misplaced-behind part line formed misplaced = by_cases (nest_behind (end_nest [] part) line) refl
   where
-    by_cases : (o : Option Nest) → behind (end_nest [] part) line ≡ o → o ≡ None
+    by_cases : (o : Option Nest) → nest_behind (end_nest [] part) line ≡ o → o ≡ None
     by_cases None h = refl
     by_cases (Some next) h =
         let lines = lines_in part ++ line ∷ [] in
@@ -126,10 +126,10 @@ file-is file length lines part broken is = by_cases is.is_read is.broken_is
       break_is = e ∙ ap (break_of file length) (sym (ap (λ ls. misplaced_in [] ls) (sym are) ∙ formed-places false part formed));
     }
     by_cases (broken_at line rest formed are misplaced) e =
-        let behind' = misplaced-behind part line formed misplaced in
+        let nest_behind' = misplaced-behind part line formed misplaced in
         record {
-          spine = ap (λ ls. spine_of [] ls) are ∙ broken-part part formed [] (line ∷ rest) (stops-at (end_nest [] part) line rest behind');
+          spine = ap (λ ls. spine_of [] ls) are ∙ broken-part part formed [] (line ∷ rest) (stops-at (end_nest [] part) line rest nest_behind');
           break_is =
               e
-              ∙ ap (break_of file length) (sym (ap (λ ls. misplaced_in [] ls) are ∙ broken-places part formed [] (line ∷ rest) ∙ ap (λ (o : Option Nest). by_place o line (λ n. misplaced_in n rest)) behind'));
+              ∙ ap (break_of file length) (sym (ap (λ ls. misplaced_in [] ls) are ∙ broken-places part formed [] (line ∷ rest) ∙ ap (λ (o : Option Nest). by_place o line (λ n. misplaced_in n rest)) nest_behind'));
         }

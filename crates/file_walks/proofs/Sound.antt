@@ -5,7 +5,7 @@ use Rattle.std.proofs.lemmas.List.{append_assoc}
 use Rattle.std.proofs.lemmas.List.Elements.{All-cons, All-nil}
 use Rattle.c_text.specs.Lines.{PlainLine}
 use Rattle.c_text.specs.Trees.{Part, finish, breaks, text_lines, directive_line, group, broken_group, no_branch, branch, Role, begins, begins_branch, begins_last, closes, stands_alone, role_of, lines_in, lines_of_branches, IsFormed, AreFormed, HasRole, IsText, are_some, ends_open}
-use Rattle.file_walks.specs.Nests.{Nest, behind, behind_role, by_place, misplaced_in}
+use Rattle.file_walks.specs.Nests.{Nest, nest_behind, behind_role, by_place, misplaced_in}
 use Rattle.file_walks.proofs.Spines.{Spine, ground, level, broken_level, map_front, broken_front, with_text, with_group, with_branch, with_role, with_line, Fits}
 use Rattle.file_walks.proofs.Forms.{by_next, spine_of, by_before, lines_before, by_whole, is_whole, spine-fits}
 use Rattle.file_walks.proofs.Complete.{IsFree}
@@ -83,7 +83,7 @@ role-formed stands_alone whole nest next line spine r h f =
     let e : nest ≡ next = cc in
     map_front-formed (directive_line line) (λ w p g. (r, g)) whole nest spine (subst (λ (n : Nest). Formed whole n spine) (sym e) f)
 
-line-formed : (whole : Bool) (nest next : Nest) (line : PlainLine) (spine : Spine) → behind nest line ≡ Some next → Formed whole next spine → Formed whole nest (with_line nest line spine)
+line-formed : (whole : Bool) (nest next : Nest) (line : PlainLine) (spine : Spine) → nest_behind nest line ≡ Some next → Formed whole next spine → Formed whole nest (with_line nest line spine)
 line-formed whole nest next line spine h f = by_cases line.directive refl h
   where
     by_cases :
@@ -101,10 +101,10 @@ broken-formed (e ∷ nest) = (refl, refl, tt, free-none e)
 pub spine-formed : (nest : Nest) (lines : List PlainLine) → Formed (is_whole nest lines) nest (spine_of nest lines)
 spine-formed [] [] = refl
 spine-formed (e ∷ nest) [] = (refl, refl, tt, free-none e)
-spine-formed nest (line ∷ lines) = by_cases (behind nest line) refl (λ next. spine-formed next lines)
+spine-formed nest (line ∷ lines) = by_cases (nest_behind nest line) refl (λ next. spine-formed next lines)
   where
     by_cases :
-        (o : Option Nest) → behind nest line ≡ o → ((next : Nest) → Formed (is_whole next lines) next (spine_of next lines))
+        (o : Option Nest) → nest_behind nest line ≡ o → ((next : Nest) → Formed (is_whole next lines) next (spine_of next lines))
         → Formed (by_whole o (λ next. is_whole next lines)) nest (by_next o nest line (λ next. spine_of next lines))
     by_cases None h others = broken-formed nest
     by_cases (Some next) h others = line-formed (is_whole next lines) nest next line (spine_of next lines) h (others next)
@@ -164,7 +164,7 @@ role-lines begins_last (false ∷ nest) next line spine h fits =
 role-lines closes nest next line spine h fits = refl
 role-lines stands_alone nest next line spine h fits = map_front-lines (directive_line line) (line ∷ []) (λ p. refl) spine
 
-line-lines : (nest next : Nest) (line : PlainLine) (spine : Spine) → behind nest line ≡ Some next → Fits next spine → lines_of (with_line nest line spine) ≡ line ∷ lines_of spine
+line-lines : (nest next : Nest) (line : PlainLine) (spine : Spine) → nest_behind nest line ≡ Some next → Fits next spine → lines_of (with_line nest line spine) ≡ line ∷ lines_of spine
 line-lines nest next line spine h fits = by_cases line.directive h
   where
     by_cases :
@@ -180,10 +180,10 @@ broken-lines (e ∷ nest) = refl
 pub spine-lines : (nest : Nest) (lines : List PlainLine) → lines_of (spine_of nest lines) ≡ lines_before nest lines
 spine-lines [] [] = refl
 spine-lines (e ∷ nest) [] = refl
-spine-lines nest (line ∷ lines) = by_cases (behind nest line) refl (λ next. spine-lines next lines)
+spine-lines nest (line ∷ lines) = by_cases (nest_behind nest line) refl (λ next. spine-lines next lines)
   where
     by_cases :
-        (o : Option Nest) → behind nest line ≡ o → ((next : Nest) → lines_of (spine_of next lines) ≡ lines_before next lines)
+        (o : Option Nest) → nest_behind nest line ≡ o → ((next : Nest) → lines_of (spine_of next lines) ≡ lines_before next lines)
         → lines_of (by_next o nest line (λ next. spine_of next lines)) ≡ by_before o line (λ next. lines_before next lines)
     by_cases None h others = broken-lines nest
     by_cases (Some next) h others =
@@ -229,7 +229,7 @@ role-ends begins_last nest next line spine h fits = branch-ends line spine
 role-ends closes nest next line spine h fits = refl
 role-ends stands_alone nest next line spine h fits = map_front-ends (directive_line line) (λ p. refl) spine
 
-line-ends : (nest next : Nest) (line : PlainLine) (spine : Spine) → behind nest line ≡ Some next → Fits next spine → ends_of (with_line nest line spine) ≡ ends_of spine
+line-ends : (nest next : Nest) (line : PlainLine) (spine : Spine) → nest_behind nest line ≡ Some next → Fits next spine → ends_of (with_line nest line spine) ≡ ends_of spine
 line-ends nest next line spine h fits = by_cases line.directive h
   where
     by_cases :
@@ -241,10 +241,10 @@ line-ends nest next line spine h fits = by_cases line.directive h
 pub spine-ends : (nest : Nest) (lines : List PlainLine) → misplaced_in nest lines ≡ None → is_whole nest lines ≡ false → ends_of (spine_of nest lines) ≡ true
 spine-ends [] [] h w = cc
 spine-ends (e ∷ nest) [] h w = refl
-spine-ends nest (line ∷ lines) h w = by_cases (behind nest line) refl h w (λ next. spine-ends next lines)
+spine-ends nest (line ∷ lines) h w = by_cases (nest_behind nest line) refl h w (λ next. spine-ends next lines)
   where
     by_cases :
-        (o : Option Nest) → behind nest line ≡ o → by_place o line (λ next. misplaced_in next lines) ≡ None
+        (o : Option Nest) → nest_behind nest line ≡ o → by_place o line (λ next. misplaced_in next lines) ≡ None
         → by_whole o (λ next. is_whole next lines) ≡ false
         → ((next : Nest) → misplaced_in next lines ≡ None → is_whole next lines ≡ false → ends_of (spine_of next lines) ≡ true)
         → ends_of (by_next o nest line (λ next. spine_of next lines)) ≡ true
@@ -256,7 +256,7 @@ spine-ends nest (line ∷ lines) h w = by_cases (behind nest line) refl h w (λ 
 
 pub before-all : (nest : Nest) (lines : List PlainLine) → misplaced_in nest lines ≡ None → lines_before nest lines ≡ lines
 before-all nest [] h = refl
-before-all nest (line ∷ lines) h = by_cases (behind nest line) h (λ next. before-all next lines)
+before-all nest (line ∷ lines) h = by_cases (nest_behind nest line) h (λ next. before-all next lines)
   where
     by_cases :
         (o : Option Nest) → by_place o line (λ next. misplaced_in next lines) ≡ None
@@ -273,10 +273,10 @@ pub record Before (nest : Nest) (lines : List PlainLine) (line : PlainLine) : Ty
 
 pub before-split : (nest : Nest) (lines : List PlainLine) (line : PlainLine) → misplaced_in nest lines ≡ Some line → Before nest lines line
 before-split nest [] line h = cc
-before-split nest (first ∷ lines) line h = by_cases (behind nest first) refl h (λ next. before-split next lines line)
+before-split nest (first ∷ lines) line h = by_cases (nest_behind nest first) refl h (λ next. before-split next lines line)
   where
     by_cases :
-        (o : Option Nest) → behind nest first ≡ o → by_place o first (λ next. misplaced_in next lines) ≡ Some line
+        (o : Option Nest) → nest_behind nest first ≡ o → by_place o first (λ next. misplaced_in next lines) ≡ Some line
         → ((next : Nest) → misplaced_in next lines ≡ Some line → Before next lines line) → Before nest (first ∷ lines) line
     by_cases None e h others =
         let k : first ≡ line = cc in

@@ -7,7 +7,7 @@ use Rattle.c_text.specs.Lines.{PlainLine}
 use Rattle.c_text.specs.Trees.{Part, finish, breaks, text_lines, directive_line, group, broken_group, Branches, no_branch, branch, Role, begins, begins_branch, begins_last, closes, stands_alone, role_of}
 use Rattle.c_text.specs.Preprocessing.{Reading, Flow, Setting, on, refused, then_read, unless, Condition, by_condition, read_run, read_part, read_branches, skip, tokens_of_lines, refused_ignored, condition_at, read_directive}
 use Rattle.file_walks.specs.Walk.{branch_read, Open, reads, waits, passed, skipped, Walk, are_read, is_last, end_refusal, by_role, step, text_read, flushed}
-use Rattle.file_walks.specs.Nests.{Nest, nest_of, behind, behind_role, behind_branch}
+use Rattle.file_walks.specs.Nests.{Nest, nest_of, nest_behind, behind_role, behind_branch}
 use Rattle.file_walks.proofs.Flows.{then_read-assoc, then_read-cong, then_read-unless, run_nil, branches-then, group-then}
 
 -- the rest of the innermost branch, the further branches of its group with the group's last line, and so on outwards
@@ -349,7 +349,7 @@ module _ (s : Setting) where
       alone groups r line spine (subst (λ n. Fits n spine) (sym e) fits)
 
   -- a walk over a line, and what stands behind it
-  pub step-up : (w : Walk) (next : Nest) (line : PlainLine) (spine : Spine) → behind (nest_of w.groups) line ≡ Some next → Fits next spine → step s w line (λ v. up v spine) ≡ up w (with_line (nest_of w.groups) line spine)
+  pub step-up : (w : Walk) (next : Nest) (line : PlainLine) (spine : Spine) → nest_behind (nest_of w.groups) line ≡ Some next → Fits next spine → step s w line (λ v. up v spine) ≡ up w (with_line (nest_of w.groups) line spine)
   step-up w next line spine h fits = by_cases line.directive h
     where
       by_cases :

@@ -5,7 +5,7 @@ use Rattle.c_text.specs.Lines.{PlainLine}
 use Rattle.c_text.specs.Trees.{finish, breaks, Role, begins, begins_branch, begins_last, closes, stands_alone, role_of}
 use Rattle.c_text.specs.Preprocessing.{Reading, Flow, Setting, refused, then_read, unless, read_run, read_part, read_directive, condition_at, by_condition, refused_ignored}
 use Rattle.file_walks.specs.Walk.{Walk, Open, reads, waits, passed, skipped, are_read, with_groups, end_refusal, begun, group_read, branch_read, directive_read, by_role, step, finished, text_read, walked, start}
-use Rattle.file_walks.specs.Nests.{Nest, nest_of, behind, behind_role, behind_branch}
+use Rattle.file_walks.specs.Nests.{Nest, nest_of, nest_behind, behind_role, behind_branch}
 use Rattle.file_walks.specs.Laws.{PartsAreWalked}
 use Rattle.file_walks.proofs.Flows.{then_read-on, then_read-cong}
 use Rattle.file_walks.proofs.Spines.{Spine, ground, broken_front, up, up0, up-nil, up-flushed, IsNoText, step-up, behind-branch}
@@ -50,7 +50,7 @@ role-broken s closes [] r line next h = refl
 role-broken s closes (g ∷ groups) r line next h = cc
 role-broken s stands_alone groups r line next h = cc
 
-step-broken : (s : Setting) (w : Walk) (line : PlainLine) (next : Walk → Flow) → behind (nest_of w.groups) line ≡ None → step s w line next ≡ up s w (broken_front (nest_of w.groups) breaks)
+step-broken : (s : Setting) (w : Walk) (line : PlainLine) (next : Walk → Flow) → nest_behind (nest_of w.groups) line ≡ None → step s w line next ≡ up s w (broken_front (nest_of w.groups) breaks)
 step-broken s w line next h = by_cases line.directive h ∙ sym (up-broken s w)
   where
     by_cases :
@@ -127,7 +127,7 @@ module _ (s : Setting) (line : PlainLine) (f g : Walk → Flow) where
       by_cases true = refl
       by_cases false = refl
 
-  step-cong : (w : Walk) (next : Nest) → behind (nest_of w.groups) line ≡ Some next → Agree next → step s w line f ≡ step s w line g
+  step-cong : (w : Walk) (next : Nest) → nest_behind (nest_of w.groups) line ≡ Some next → Agree next → step s w line f ≡ step s w line g
   step-cong w next e h = by_cases line.directive e
     where
       by_cases :
@@ -150,11 +150,11 @@ walk-ends s w = by_cases w.groups
 
 walked-up : (s : Setting) (lines : List PlainLine) (w : Walk) → walked s w lines ≡ up s w (spine_of (nest_of w.groups) lines)
 walked-up s [] w = walk-ends s w
-walked-up s (line ∷ lines) w = by_cases (behind (nest_of w.groups) line) refl (λ v. walked-up s lines v)
+walked-up s (line ∷ lines) w = by_cases (nest_behind (nest_of w.groups) line) refl (λ v. walked-up s lines v)
   where
     by_cases :
-        (o : Option Nest) → behind (nest_of w.groups) line ≡ o → ((v : Walk) → walked s v lines ≡ up s v (spine_of (nest_of v.groups) lines))
-        → step s w line (λ v. walked s v lines) ≡ up s w (by_next (behind (nest_of w.groups) line) (nest_of w.groups) line (λ n. spine_of n lines))
+        (o : Option Nest) → nest_behind (nest_of w.groups) line ≡ o → ((v : Walk) → walked s v lines ≡ up s v (spine_of (nest_of v.groups) lines))
+        → step s w line (λ v. walked s v lines) ≡ up s w (by_next (nest_behind (nest_of w.groups) line) (nest_of w.groups) line (λ n. spine_of n lines))
     by_cases None h others =
         step-broken s w line (λ v. walked s v lines) h
         ∙ sym (ap (λ (o : Option Nest). up s w (by_next o (nest_of w.groups) line (λ n. spine_of n lines))) h)

@@ -27,8 +27,8 @@ behind_role begins_last nest = behind_branch true nest
 behind_role closes nest = behind_end nest
 behind_role stands_alone nest = Some nest
 
-abbrev pub behind : Nest → PlainLine → Option Nest
-behind nest line = if line.directive then behind_role (role_of line.tokens) nest else Some nest
+abbrev pub nest_behind : Nest → PlainLine → Option Nest
+nest_behind nest line = if line.directive then behind_role (role_of line.tokens) nest else Some nest
 
 abbrev pub nest_of : List Open → Nest
 nest_of groups = map is_last groups
@@ -40,7 +40,7 @@ by_place (Some next) line others = others next
 
 abbrev pub misplaced_in : Nest → List PlainLine → Option PlainLine
 misplaced_in nest [] = None
-misplaced_in nest (line ∷ lines) = by_place (behind nest line) line (λ next. misplaced_in next lines)
+misplaced_in nest (line ∷ lines) = by_place (nest_behind nest line) line (λ next. misplaced_in next lines)
 
 -- the refusal where a file breaks at a line
 abbrev pub break_at : ℕ → PlainLine → Refusal

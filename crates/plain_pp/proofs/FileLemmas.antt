@@ -8,7 +8,7 @@ use Rattle.c_text.specs.Lines.{PlainLine, AreItsLines}
 use Rattle.c_text.specs.Preprocessing as spec
 use Rattle.c_text.specs.Preprocessing.{Reading, Flow, Setting, Syntax, IsSyntaxOf, on, refused, then_read, setting}
 use Rattle.file_walks.specs.Walk.{Walk, Open, step, finished, walked, start}
-use Rattle.file_walks.specs.Nests.{Nest, nest_of, behind, by_place, misplaced_in, break_at, break_at_end, break_of}
+use Rattle.file_walks.specs.Nests.{Nest, nest_of, nest_behind, by_place, misplaced_in, break_at, break_at_end, break_of}
 use Rattle.unit_files.specs.Refusals.{refusal_view}
 use Rattle.unit_files.specs.declared.inclusions.Source.{Source}
 use Rattle.unit_files.specs.Inclusions.{plain_source, IsAmong}
@@ -28,12 +28,12 @@ pub record Stands (s : Setting) (file length : ℕ) (w : Walk) (lines : List Pla
 -- ---- one line
 
 -- the premise under which a line is walked
-pub walk-breaks : (s : Setting) (file length : ℕ) (w : Walk) (line : PlainLine) (lines : List PlainLine) (flow : Flow) → Stands s file length w (line ∷ lines) flow → behind (nest_of w.groups) line ≡ None → s.broken ≡ break_at file line
+pub walk-breaks : (s : Setting) (file length : ℕ) (w : Walk) (line : PlainLine) (lines : List PlainLine) (flow : Flow) → Stands s file length w (line ∷ lines) flow → nest_behind (nest_of w.groups) line ≡ None → s.broken ≡ break_at file line
 walk-breaks s file length w line lines flow stands h =
     stands.break_is ∙ ap (λ (o : Option Nest). break_of file length (by_place o line (λ n. misplaced_in n lines))) h
 
 -- the line is walked, and then a file is read
-pub walk-goes : (s : Setting) (file length : ℕ) (w v : Walk) (line : PlainLine) (lines : List PlainLine) (flow : Flow) (o : Option spec.Source) (r : Reading) → Stands s file length w (line ∷ lines) flow → behind (nest_of w.groups) line ≡ Some (nest_of v.groups) → ((next : Walk → Flow) → step s w line next ≡ then_read (entered s.deeper o v.reading) (λ a. next (record v { reading = a }))) → entered s.deeper o v.reading ≡ on r → Stands s file length (record v { reading = r }) lines flow
+pub walk-goes : (s : Setting) (file length : ℕ) (w v : Walk) (line : PlainLine) (lines : List PlainLine) (flow : Flow) (o : Option spec.Source) (r : Reading) → Stands s file length w (line ∷ lines) flow → nest_behind (nest_of w.groups) line ≡ Some (nest_of v.groups) → ((next : Walk → Flow) → step s w line next ≡ then_read (entered s.deeper o v.reading) (λ a. next (record v { reading = a }))) → entered s.deeper o v.reading ≡ on r → Stands s file length (record v { reading = r }) lines flow
 walk-goes s file length w v line lines flow o r stands moved goes read =
     let f = λ (a : Reading). walked s (record v { reading = a }) lines in
     record {

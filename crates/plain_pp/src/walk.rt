@@ -12,7 +12,7 @@ ghost use Rattle.unit_files.specs.Settings.{AreValues, IsSettingOf, MayEnter};
 ghost use Rattle.plain_pp.specs.Readings.{plain_reading, Follows};
 ghost use Rattle.file_walks.specs.Walk.{Walk, Open, group_read, branch_read, end_read, by_role, step, text_read, finished};
 ghost use Rattle.plain_pp.specs.Groups.{open_at};
-ghost use Rattle.file_walks.specs.Nests.{nest_of, behind, behind_role, behind_branch, behind_end, break_at, break_at_end};
+ghost use Rattle.file_walks.specs.Nests.{nest_of, nest_behind, behind_role, behind_branch, behind_end, break_at, break_at_end};
 ghost use Rattle.plain_pp.specs.Walking.{level_if, plain_walk, Steps, Enters};
 
 use crate::conditions::condition_at;
@@ -282,9 +282,9 @@ impl<'a> Walker<'a> {
     ) -> Result<Option<Source>, PpError>
         requires { length place.now.headers.now < 2 ^ 32 }
         ensures finds { IfOk result (λ found. IfSome found (λ source. MayEnter place.now source)) }
-        ensures moved { OnOk result (behind (nest_of self.old.groups) (plain_line line.now) ≡ Some (nest_of self.new.groups)) }
+        ensures moved { OnOk result (nest_behind (nest_of self.old.groups) (plain_line line.now) ≡ Some (nest_of self.new.groups)) }
         ensures step { (s : Setting) → IsSettingOf place.now s
-            → (behind (nest_of self.old.groups) (plain_line line.now) ≡ None → s.broken ≡ break_at file (plain_line line.now)) → (next : Walk → Flow)
+            → (nest_behind (nest_of self.old.groups) (plain_line line.now) ≡ None → s.broken ≡ break_at file (plain_line line.now)) → (next : Walk → Flow)
             → Enters result (step s (plain_walk (plain_reading reading.old) self.old) (plain_line line.now) next) s.deeper (plain_walk (plain_reading reading.new) self.new) next }
     {
         if line.directive {

@@ -5,7 +5,7 @@ use Rattle.std.proofs.lemmas.Bool.Decides.{nat_tests}
 use Rattle.c_text.specs.declared.token.TokenKind.{TokenKind}
 use Rattle.c_text.specs.declared.token.TokenKind.TheVariants.{Name, Keyword, Number, Character, Text, Punctuator}
 use Rattle.c_text.specs.Expressions.{Unary, unary_plus, unary_minus, negation, complement, Binary, times, over, remainder, plus, minus, left_shift, right_shift, less, greater, at_most, at_least, equal, unequal, bits_and, bits_xor, bits_or, both, either, Word, mark, Expression, operand, parenthesized, unary, binary, conditional, unary_text, binary_text, binary_level, spelled, level, Fits, IsOperand}
-use Rattle.pp_lines.specs.ExpressionReading.{Pending, opened, prefixed, joined, asked, parted, Place, stands, prefixes, connects, asks, front_of, sign_of, sign_level, pending_level, completed, settled, read, behind, whole, trees}
+use Rattle.pp_lines.specs.ExpressionReading.{Pending, opened, prefixed, joined, asked, parted, Place, stands, prefixes, connects, asks, front_of, sign_of, sign_level, pending_level, completed, settled, read, place_behind, whole, trees}
 
 sign-binary : (op : Binary) → sign_of Punctuator (binary_text op) ≡ connects op
 sign-binary times = refl
@@ -96,7 +96,7 @@ same_read :
     → settled trees (demand ws) e ps ≡ settled trees (demand ws) f qs → had e ps ws ≡ had f qs ws
 same_read e f ps qs [] h = ap (whole) h
 same_read e f ps qs (w ∷ ws) h =
-    ap (λ (s : Place Expression). option_and_then (λ p. read trees p ws) (behind trees (sign_of w.kind w.text) s)) h
+    ap (λ (s : Place Expression). option_and_then (λ p. read trees p ws) (place_behind trees (sign_of w.kind w.text) s)) h
 
 lower : (p : Pending Expression) (n l : ℕ) → HeldBy p n → n ≤ l → n ≤ 11 → 2 ≤ l → pending_level p < l
 lower opened n l h a b c = omega arith
@@ -137,7 +137,7 @@ asked_on :
     (e : Expression) (ps : List (Pending Expression)) (ws : List Word) → Held ps 1
     → had e ps (mark (codes "?") ∷ ws) ≡ wanted (asked e ∷ ps) ws
 asked_on e ps ws h =
-    ap (λ (s : Place Expression). option_and_then (λ p. read trees p ws) (behind trees asks s))
+    ap (λ (s : Place Expression). option_and_then (λ p. read trees p ws) (place_behind trees asks s))
     (stays ps e 1 2 h (omega arith) (omega arith) (omega arith))
 
 pub level_positive : (e : Expression) → 1 ≤ level e

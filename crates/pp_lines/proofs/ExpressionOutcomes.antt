@@ -2,7 +2,7 @@
 use Rattle.std.proofs.Common.{◌≡◌, ℕ, suc, List, [], ◌∷◌, map, Option, Some, None, Bool, true, false, refl, ap, ◌∙◌, arith}
 use Rattle.std.specs.Prelude.{min, max, nat_le, option_map, option_and_then, if◌then◌else◌, ℤ}
 use Rattle.c_text.specs.Expressions.{Word, Expression, height}
-use Rattle.pp_lines.specs.ExpressionReading.{Pending, opened, prefixed, joined, asked, parted, Place, Front, stands, opens, prefixes, misplaced, Sign, connects, asks, parts, closes, ends, front_of, sign_of, sign_level, pending_level, completed, settled, read, next, behind, with_sign, at_front, whole, finished, if_alone, at_colon, at_close, trees, outcomes, Outcome, outcome_of, raised}
+use Rattle.pp_lines.specs.ExpressionReading.{Pending, opened, prefixed, joined, asked, parted, Place, Front, stands, opens, prefixes, misplaced, Sign, connects, asks, parts, closes, ends, front_of, sign_of, sign_level, pending_level, completed, settled, read, next, place_behind, with_sign, at_front, whole, finished, if_alone, at_colon, at_close, trees, outcomes, Outcome, outcome_of, raised}
 
 abbrev pub pending_of : Pending Expression → Pending Outcome
 pending_of opened = opened
@@ -103,7 +103,7 @@ sign_next_of ends x ps = refl
 
 behind_of :
     (s : Sign) (last : Option Expression) (ps : List (Pending Expression))
-    → behind outcomes s (place_of (record { last = last; waits = ps })) ≡ option_map place_of (behind trees s (record { last = last; waits = ps }))
+    → place_behind outcomes s (place_of (record { last = last; waits = ps })) ≡ option_map place_of (place_behind trees s (record { last = last; waits = ps }))
 behind_of s None ps = refl
 behind_of s (Some x) ps = sign_next_of s x ps
 
@@ -114,7 +114,7 @@ next_of None ps w = front_next_of (front_of w.kind w.text) w ps
 next_of (Some x) ps w =
     let s = sign_of w.kind w.text in
     let at = settled trees (sign_level s) x ps in
-    ap (behind outcomes s) (settled_of (sign_level s) x ps) ∙ behind_of s at.last at.waits
+    ap (place_behind outcomes s) (settled_of (sign_level s) x ps) ∙ behind_of s at.last at.waits
 
 whole_of :
     (last : Option Expression) (ps : List (Pending Expression))

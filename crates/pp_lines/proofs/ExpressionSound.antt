@@ -3,7 +3,7 @@ use Rattle.std.proofs.Common.{◌≡◌, ℕ, ◌<◌, ◌≤◌, List, [], ◌�
 use Rattle.std.specs.Prelude.{⊤, codes, nat_le, option_and_then}
 use Rattle.std.proofs.lemmas.Bool.Decides.{nat_tests}
 use Rattle.c_text.specs.Expressions.{Word, mark, Expression, operand, parenthesized, unary_text, binary_text, binary_level, spelled, level, Fits}
-use Rattle.pp_lines.specs.ExpressionReading.{Pending, opened, prefixed, joined, asked, parted, Place, Front, stands, opens, prefixes, misplaced, Sign, connects, asks, parts, closes, ends, front_of, sign_of, sign_level, pending_level, completed, settled, read, next, behind, with_sign, at_front, whole, finished, if_alone, at_colon, at_close, trees}
+use Rattle.pp_lines.specs.ExpressionReading.{Pending, opened, prefixed, joined, asked, parted, Place, Front, stands, opens, prefixes, misplaced, Sign, connects, asks, parts, closes, ends, front_of, sign_of, sign_level, pending_level, completed, settled, read, next, place_behind, with_sign, at_front, whole, finished, if_alone, at_colon, at_close, trees}
 use Rattle.pp_lines.proofs.ExpressionComplete.{binary_bounds, HeldBy, Held, takes, held_more}
 use Rattle.pp_lines.proofs.ExpressionWords.{front_stands, front_opens, front_prefixes, sign_connects, sign_asks, sign_parts, sign_closes}
 
@@ -250,7 +250,7 @@ steps (Some x) ps w p f a h =
     let s = sign_of w.kind w.text in
     let n = sign_bounds s in
     let on = settles (sign_level s) x ps n.0 f.0 (omega (arith, f.1)) (held_more ps 12 (level x) (held_tight ps) (omega (arith, f.1))) a in
-    let g : with_sign trees s on.to on.left ≡ Some p = ap (behind trees s) (sym on.is) ∙ h in
+    let g : with_sign trees s on.to on.left ≡ Some p = ap (place_behind trees s) (sym on.is) ∙ h in
     let m = sign_steps s w on.to on.left p refl on.fits on.tight on.waits on.below g in
     record { fits = m.fits; waits = m.waits; text = λ k. m.text k ∙ on.text (w ∷ k) }
 

@@ -164,13 +164,13 @@ module _ {A : Type 0} (R : Algebra A) where
   with_sign ends x ps = None
 
   -- a word behind an operand
-  abbrev pub behind : Sign → Place A → Option (Place A)
-  behind sign place = option_and_then (λ x. with_sign sign x place.waits) place.last
+  abbrev pub place_behind : Sign → Place A → Option (Place A)
+  place_behind sign place = option_and_then (λ x. with_sign sign x place.waits) place.last
 
   abbrev pub next : Option A → List (Pending A) → Word → Option (Place A)
   next None ps word = at_front (front_of word.kind word.text) word ps
   next (Some x) ps word =
-      behind (sign_of word.kind word.text) (settled (sign_level (sign_of word.kind word.text)) x ps)
+      place_behind (sign_of word.kind word.text) (settled (sign_level (sign_of word.kind word.text)) x ps)
 
   -- the words end here
   abbrev pub finished : Option A → List (Pending A) → Option A

@@ -12,7 +12,7 @@ use Rattle.quick_form.specs.Form.{Sum}
 use Rattle.quick_form.specs.Program as quick_program
 use Rattle.quick_form.specs.Program.{Code}
 use Rattle.quick_form.specs.Run as quick
-use Rattle.quick_form.specs.Run.{with_value, sum_value, behind, byte_of, turns, code_run}
+use Rattle.quick_form.specs.Run.{with_value, sum_value, outcome_behind, byte_of, turns, code_run}
 use Rattle.quick_core.specs.CoreProgram.{number_in, place, core_sum, core_code}
 use Rattle.quick_core.proofs.Values.{condition_is, byte_is}
 use Rattle.quick_core.proofs.Cells.{is_in, Alike, written, write_is, alike_written}
@@ -49,7 +49,7 @@ module _ (names : List (List ℕ)) (input : List ℕ) where
   Agrees (quick.Stops out) o = o ≡ Stops out
   Agrees (quick.Fails out) o = o ≡ Fails out
 
-  agrees_after : (before : List ℕ) (a : quick.Outcome) (b : Outcome Ending) → Agrees a b → Agrees (behind before a) (after before b)
+  agrees_after : (before : List ℕ) (a : quick.Outcome) (b : Outcome Ending) → Agrees a b → Agrees (outcome_behind before a) (after before b)
   agrees_after before (quick.Falls m out) b h = (h.0, h.1, ap (after before) h.2)
   agrees_after before (quick.Returns v out) b h = (h.0, h.1, ap (after before) h.2)
   agrees_after before (quick.Stops out) b h = ap (after before) h
@@ -63,7 +63,7 @@ module _ (names : List (List ℕ)) (input : List ℕ) where
       → ((v : Value) (s : State) → next' (returns v) s ≡ Comes (returns v) s [])
       → Agrees (quick.followed_by a next) (followed_by b next')
   agrees_followed (quick.Falls m out) b next next' h k r =
-      subst (λ o. Agrees (behind out (next m)) (followed_by o next')) (sym h.2)
+      subst (λ o. Agrees (outcome_behind out (next m)) (followed_by o next')) (sym h.2)
       (agrees_after out (next m) (next' falls (at_rest h.0 input)) (k m h.0 h.1))
   agrees_followed (quick.Returns v out) b next next' h k r =
       (h.0, h.1, ap (λ o. followed_by o next') h.2 ∙ (ap (after out) (r (scalar (number v)) h.0) ∙ ap (Comes (returns (scalar (number v))) h.0) (append-nil out)))
@@ -123,9 +123,9 @@ module _ (names : List (List ℕ)) (input : List ℕ) where
     -- a statement that falls through, and the code behind it
     then_code : (later : Job → Piece Ending) (c : Code) (first : Outcome Ending) (memory : Memory) (before : List ℕ) (a : quick.Outcome)
         → first ≡ Comes falls (at_rest memory input) before
-        → Agrees a (items_ending p later frame (core_code names c) (at_rest memory input)) → Agrees (behind before a) (followed_by first (rest_of later c))
+        → Agrees a (items_ending p later frame (core_code names c) (at_rest memory input)) → Agrees (outcome_behind before a) (followed_by first (rest_of later c))
     then_code later c first memory before a e h =
-        subst (λ o. Agrees (behind before a) (followed_by o (rest_of later c))) (sym e)
+        subst (λ o. Agrees (outcome_behind before a) (followed_by o (rest_of later c))) (sym e)
         (agrees_after before a (items_ending p later frame (core_code names c) (at_rest memory input)) h)
 
     -- .. that puts nothing out
@@ -184,7 +184,7 @@ module _ (names : List (List ℕ)) (input : List ℕ) where
         (code_agrees rest known.2 n (with_value m x v) (written memory (number_in names x) v) (alike_written names m memory x v alike known.0 i)))
         (λ k. fails_with (meaning p n) rest _ (assign_fails (meaning p n) m memory alike s known.1 x k))
     code_agrees (quick_program.put s rest) known n m memory alike =
-        agrees_given (sum_value m s) (λ v. behind (byte_of v ∷ []) (code_run rest n m)) _ (sum_is_int p (meaning p n) frame names m (at_rest memory input) alike s known.0)
+        agrees_given (sum_value m s) (λ v. outcome_behind (byte_of v ∷ []) (code_run rest n m)) _ (sum_is_int p (meaning p n) frame names m (at_rest memory input) alike s known.0)
         (λ v k i.
         then_code (meaning p n) rest _ memory (byte_of v ∷ []) (code_run rest n m)
         (put_is (meaning p n) m memory alike s known.0 v k ∙ ap (λ b. Comes falls (at_rest memory input) (b ∷ [])) (byte_is v))

@@ -5,7 +5,7 @@ use Rattle.std.specs.Str.{bytes_eq}
 use Rattle.quick_form.specs.Form.{Operand, Named, Literal, Term, Sum}
 use Rattle.quick_form.specs.Renaming.{changed_operand, changed_term, changed_sum}
 use Rattle.quick_form.specs.Program.{Code, done, assign, put, give, while_, Declaration, object, function, bodies}
-use Rattle.quick_form.specs.Run.{Memory, with_value, int_or_none, operand_value, terms_value, sum_value, Outcome, Falls, Returns, Stops, Fails, behind, followed_by, given, is_zero, byte_of, turns, code_run, first_memory, answer_of, body_run, run}
+use Rattle.quick_form.specs.Run.{Memory, with_value, int_or_none, operand_value, terms_value, sum_value, Outcome, Falls, Returns, Stops, Fails, outcome_behind, followed_by, given, is_zero, byte_of, turns, code_run, first_memory, answer_of, body_run, run}
 use Rattle.quick_form.proofs.Swap.{Undoes, bytes_eq-changed}
 use Rattle.quick_form.proofs.Changed.{changed_code, changed_declaration, bodies_changed}
 
@@ -46,14 +46,14 @@ given_moved : (f : List ℕ → List ℕ) (o : Option ℤ) (g h : ℤ → Outcom
 given_moved f None g h e = refl
 given_moved f (Some v) g h e = e v
 
-behind_moved : (f : List ℕ → List ℕ) (before : List ℕ) (o : Outcome) → behind before (moved_outcome f o) ≡ moved_outcome f (behind before o)
+behind_moved : (f : List ℕ → List ℕ) (before : List ℕ) (o : Outcome) → outcome_behind before (moved_outcome f o) ≡ moved_outcome f (outcome_behind before o)
 behind_moved f before (Falls m out) = refl
 behind_moved f before (Returns v out) = refl
 behind_moved f before (Stops out) = refl
 behind_moved f before (Fails out) = refl
 
 followed_moved : (f : List ℕ → List ℕ) (o : Outcome) (g h : Memory → Outcome) → ((m : Memory) → g (moved f m) ≡ moved_outcome f (h m)) → followed_by (moved_outcome f o) g ≡ moved_outcome f (followed_by o h)
-followed_moved f (Falls m out) g h e = ap (behind out) (e m) ∙ behind_moved f out (h m)
+followed_moved f (Falls m out) g h e = ap (outcome_behind out) (e m) ∙ behind_moved f out (h m)
 followed_moved f (Returns v out) g h e = refl
 followed_moved f (Stops out) g h e = refl
 followed_moved f (Fails out) g h e = refl
@@ -79,9 +79,9 @@ code_moved f u (assign x s c) n m =
     ∙ given_moved f (sum_value m s) _ (λ v. code_run c n (with_value m x v))
     (λ v. ap (code_run (changed_code f c) n) (with_value_moved f u m x v) ∙ code_moved f u c n (with_value m x v))
 code_moved f u (put s c) n m =
-    ap (λ o. given o (λ v. behind (byte_of v ∷ []) (code_run (changed_code f c) n (moved f m)))) (sum_moved f u m s)
-    ∙ given_moved f (sum_value m s) _ (λ v. behind (byte_of v ∷ []) (code_run c n m))
-    (λ v. ap (behind (byte_of v ∷ [])) (code_moved f u c n m) ∙ behind_moved f (byte_of v ∷ []) (code_run c n m))
+    ap (λ o. given o (λ v. outcome_behind (byte_of v ∷ []) (code_run (changed_code f c) n (moved f m)))) (sum_moved f u m s)
+    ∙ given_moved f (sum_value m s) _ (λ v. outcome_behind (byte_of v ∷ []) (code_run c n m))
+    (λ v. ap (outcome_behind (byte_of v ∷ [])) (code_moved f u c n m) ∙ behind_moved f (byte_of v ∷ []) (code_run c n m))
 code_moved f u (give s c) n m =
     ap (λ o. given o (λ v. Returns v [])) (sum_moved f u m s)
     ∙ given_moved f (sum_value m s) (λ v. Returns v []) (λ v. Returns v []) (λ v. refl)

@@ -2,7 +2,7 @@
 use Rattle.std.proofs.Common.{◌≡◌, ℕ, zero, suc, ◌≤◌, ℤ, Bool, true, false, List, [], ◌∷◌, ◌++◌, refl, sym, ◌∙◌, ap, subst, cond, Option, Some, None, arith, append_assoc, append-nil}
 use Rattle.quick_form.specs.Form.{Sum}
 use Rattle.quick_form.specs.Program.{Code, done, assign, put, give, while_, bodies}
-use Rattle.quick_form.specs.Run.{Memory, with_value, sum_value, Outcome, Falls, Returns, Stops, Fails, behind, followed_by, given, is_zero, byte_of, turns, code_run, first_memory, answer_of, body_run}
+use Rattle.quick_form.specs.Run.{Memory, with_value, sum_value, Outcome, Falls, Returns, Stops, Fails, outcome_behind, followed_by, given, is_zero, byte_of, turns, code_run, first_memory, answer_of, body_run}
 use Rattle.quick_form.specs.Growth.{output_of, GoesOn, RunsGrow}
 
 abbrev outcome_output : Outcome → List ℕ
@@ -24,16 +24,16 @@ later_same (Returns v out) = refl
 later_same (Fails out) = refl
 later_same (Stops out) = ([], sym (append-nil out))
 
-behind_output : (before : List ℕ) (o : Outcome) → outcome_output (behind before o) ≡ before ++ outcome_output o
+behind_output : (before : List ℕ) (o : Outcome) → outcome_output (outcome_behind before o) ≡ before ++ outcome_output o
 behind_output before (Falls m out) = refl
 behind_output before (Returns v out) = refl
 behind_output before (Fails out) = refl
 behind_output before (Stops out) = refl
 
-later_behind : (before : List ℕ) (a b : Outcome) → Later a b → Later (behind before a) (behind before b)
-later_behind before (Falls m out) b h = ap (behind before) h
-later_behind before (Returns v out) b h = ap (behind before) h
-later_behind before (Fails out) b h = ap (behind before) h
+later_behind : (before : List ℕ) (a b : Outcome) → Later a b → Later (outcome_behind before a) (outcome_behind before b)
+later_behind before (Falls m out) b h = ap (outcome_behind before) h
+later_behind before (Returns v out) b h = ap (outcome_behind before) h
+later_behind before (Fails out) b h = ap (outcome_behind before) h
 later_behind before (Stops out) b h =
     (h.0, behind_output before b ∙ (ap (λ o. before ++ o) h.1 ∙ sym (append_assoc before out h.0)))
 
@@ -46,7 +46,7 @@ followed_output (Stops out) next = ([], sym (append-nil out))
 
 later_followed : (a b : Outcome) (f g : Memory → Outcome) → Later a b → ((m : Memory) → Later (f m) (g m)) → Later (followed_by a f) (followed_by b g)
 later_followed (Falls m out) b f g h k =
-    subst (λ o. Later (behind out (f m)) (followed_by o g)) (sym h) (later_behind out (f m) (g m) (k m))
+    subst (λ o. Later (outcome_behind out (f m)) (followed_by o g)) (sym h) (later_behind out (f m) (g m) (k m))
 later_followed (Returns v out) b f g h k = subst (λ o. Later (Returns v out) (followed_by o g)) (sym h) refl
 later_followed (Fails out) b f g h k = subst (λ o. Later (Fails out) (followed_by o g)) (sym h) refl
 later_followed (Stops out) b f g h k =

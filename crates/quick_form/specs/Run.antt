@@ -42,15 +42,15 @@ pub data Outcome : Type 0 where
   Fails : List ℕ → Outcome
 
 -- an outcome behind what was put out before
-abbrev pub behind : List ℕ → Outcome → Outcome
-behind before (Falls m out) = Falls m (before ++ out)
-behind before (Returns v out) = Returns v (before ++ out)
-behind before (Stops out) = Stops (before ++ out)
-behind before (Fails out) = Fails (before ++ out)
+abbrev pub outcome_behind : List ℕ → Outcome → Outcome
+outcome_behind before (Falls m out) = Falls m (before ++ out)
+outcome_behind before (Returns v out) = Returns v (before ++ out)
+outcome_behind before (Stops out) = Stops (before ++ out)
+outcome_behind before (Fails out) = Fails (before ++ out)
 
 -- what follows statements that fall through
 abbrev pub followed_by : Outcome → (Memory → Outcome) → Outcome
-followed_by (Falls m out) next = behind out (next m)
+followed_by (Falls m out) next = outcome_behind out (next m)
 followed_by (Returns v out) next = Returns v out
 followed_by (Stops out) next = Stops out
 followed_by (Fails out) next = Fails out
@@ -77,7 +77,7 @@ turns body s (suc n) m =
 abbrev pub code_run : Code → ℕ → Memory → Outcome
 code_run done n m = Falls m []
 code_run (assign x s rest) n m = given (sum_value m s) (λ v. code_run rest n (with_value m x v))
-code_run (put s rest) n m = given (sum_value m s) (λ v. behind (byte_of v ∷ []) (code_run rest n m))
+code_run (put s rest) n m = given (sum_value m s) (λ v. outcome_behind (byte_of v ∷ []) (code_run rest n m))
 code_run (give s rest) n m = given (sum_value m s) (λ v. Returns v [])
 code_run (while_ s body rest) n m = followed_by (turns (code_run body) s n m) (code_run rest n)
 

@@ -27,7 +27,7 @@ module _ (Holds : Walk → Type 0) where
       goes_on after h k (λ next. ap (λ l. first ++ l) (m next) ∙ sym (append_assoc first (what (λ v. [])) (next after)))
   leads-before first reading what (stops why k m) = stops why k (λ next. ap (λ l. first ++ l) (m next))
 
-  leads-flow : (x : Flow) (reading : Reading → (Walk → Flow) → Flow) (what : Reading → (Walk → List Read) → List Read) → ((r : Reading) → Leads Holds (reading r) (what r)) → Leads Holds (λ next. then_read x (λ r. reading r next)) (λ next. active.behind x (λ r. what r next))
+  leads-flow : (x : Flow) (reading : Reading → (Walk → Flow) → Flow) (what : Reading → (Walk → List Read) → List Read) → ((r : Reading) → Leads Holds (reading r) (what r)) → Leads Holds (λ next. then_read x (λ r. reading r next)) (λ next. active.reads_behind x (λ r. what r next))
   leads-flow (on r) reading what h = h r
   leads-flow (refused why) reading what h = leads-stop why []
 
@@ -89,7 +89,7 @@ module _ (s : Setting) (f : Following) (r : Reading) (line : PlainLine) where
       by_cases :
           (b : Bool)
           → Leads (λ v. Some (nest_of groups) ≡ Some (nest_of v.groups)) (λ next. if b then then_read (read_directive s r line.tokens) (λ a. next (record { reading = a; run = []; groups = groups })) else next (at groups))
-          (λ next. if b then reads_of_directive s f r line.tokens ++ active.behind (read_directive s r line.tokens) (λ a. next (record { reading = a; run = []; groups = groups })) else next (at groups))
+          (λ next. if b then reads_of_directive s f r line.tokens ++ active.reads_behind (read_directive s r line.tokens) (λ a. next (record { reading = a; run = []; groups = groups })) else next (at groups))
       by_cases true =
           leads-before _ (reads_of_directive s f r line.tokens) _ _ (leads-flow _ (read_directive s r line.tokens) (λ a next. next (record { reading = a; run = []; groups = groups })) (λ a next. next (record { reading = a; run = []; groups = groups })) (λ a. leads-to _ (record { reading = a; run = []; groups = groups }) refl))
       by_cases false = leads-to _ (at groups) refl
@@ -115,7 +115,7 @@ lines-lead-on s f w line = by_cases line.directive
         (b : Bool)
         → Leads (λ v. (if b then behind_role (role_of line.tokens) (nest_of w.groups) else Some (nest_of w.groups)) ≡ Some (nest_of v.groups))
         (λ next. if b then then_read (read_run w.reading w.run) (λ a. by_role s (role_of line.tokens) (record { reading = a; run = []; groups = w.groups }) line next) else next (text_read w line))
-        (λ next. if b then read_of w.reading w.run ∷ active.behind (read_run w.reading w.run) (λ a. reads_by_role s f (role_of line.tokens) (record { reading = a; run = []; groups = w.groups }) line next) else next (text_read w line))
+        (λ next. if b then read_of w.reading w.run ∷ active.reads_behind (read_run w.reading w.run) (λ a. reads_by_role s f (role_of line.tokens) (record { reading = a; run = []; groups = w.groups }) line next) else next (text_read w line))
     by_cases true =
         leads-before _ (read_of w.reading w.run ∷ []) _ _ (leads-flow _ (read_run w.reading w.run) (λ a. by_role s (role_of line.tokens) (record { reading = a; run = []; groups = w.groups }) line) (λ a. reads_by_role s f (role_of line.tokens) (record { reading = a; run = []; groups = w.groups }) line) (λ a. role-leads s f a line (role_of line.tokens) w.groups))
     by_cases false = leads-to _ (text_read w line) (text-nest w line)

@@ -5,7 +5,7 @@ use Rattle.std.proofs.lemmas.List.{append_assoc}
 use Rattle.c_text.specs.Lines.{PlainLine}
 use Rattle.c_text.specs.Trees.{Part, finish, text_lines, directive_line, group, broken_group, Branches, no_branch, Role, begins, begins_branch, begins_last, closes, stands_alone, role_of}
 use Rattle.c_text.specs.Preprocessing.{Reading, Setting, condition_at, read_run, read_directive, refused_ignored}
-use Rattle.active_tokens.specs.Reads.{Read, read_of, behind, unless_refused, Following, reads_of_directive, by_truth}
+use Rattle.active_tokens.specs.Reads.{Read, read_of, reads_behind, unless_refused, Following, reads_of_directive, by_truth}
 use Rattle.file_walks.specs.Walk.{Walk, Open, reads, waits, passed, skipped, are_read, is_last, text_read}
 use Rattle.file_walks.specs.Nests as nests
 use Rattle.file_walks.specs.Nests.{Nest, nest_of, behind_role}
@@ -190,11 +190,11 @@ module _ (s : Setting) (f : Following) where
   alone-at : (groups : List Open) (r : Reading) (line : PlainLine) (spine : Spine) → Same (reads_at_directive s f (at groups r) line (λ w. up w spine)) (up0 groups (map_front (directive_line line) spine) r)
   alone-at groups r line spine = by_cases (are_read groups) refl
     where
-      by_cases : (b : Bool) → are_read groups ≡ b → Same (if b then reads_of_directive s f r line.tokens ++ behind (read_directive s r line.tokens) (λ a. up (at groups a) spine) else up (at groups r) spine) (up0 groups (map_front (directive_line line) spine) r)
+      by_cases : (b : Bool) → are_read groups ≡ b → Same (if b then reads_of_directive s f r line.tokens ++ reads_behind (read_directive s r line.tokens) (λ a. up (at groups a) spine) else up (at groups r) spine) (up0 groups (map_front (directive_line line) spine) r)
       by_cases true e =
           let k = part_then s f (front_of spine) (beyond groups spine) in
           let x = read_directive s r line.tokens in
-          same-before (reads_of_directive s f r line.tokens) (behind x (λ a. up (at groups a) spine)) (behind x k) (same-behind x (λ a. up (at groups a) spine) k (λ a. up-nil groups spine a ∙ at-reading (up0 groups spine) k a (front-is groups spine e)))
+          same-before (reads_of_directive s f r line.tokens) (reads_behind x (λ a. up (at groups a) spine)) (reads_behind x k) (same-behind x (λ a. up (at groups a) spine) k (λ a. up-nil groups spine a ∙ at-reading (up0 groups spine) k a (front-is groups spine e)))
           ∙ ap by_token (directive-first s f line (front_of spine) (beyond groups spine) r)
           ∙ at-reading (part_then s f (directive_line line (front_of spine)) (beyond groups spine)) (up0 groups (map_front (directive_line line) spine)) r (sym (front-map groups (directive_line line) spine e))
       by_cases false e =
@@ -308,18 +308,18 @@ module _ (s : Setting) (f : Following) where
   no_text-role stands_alone nest next line spine h fits = no_text-front (directive_line line) spine (λ p. refl) (λ p. refl)
 
   -- what a line reads, and what stands behind it
-  pub step-up : (w : Walk) (next : Nest) (line : PlainLine) (spine : Spine) → nests.behind (nest_of w.groups) line ≡ Some next → Fits next spine → Same (reads_of_step s f w line (λ v. up v spine)) (up w (with_line (nest_of w.groups) line spine))
+  pub step-up : (w : Walk) (next : Nest) (line : PlainLine) (spine : Spine) → nests.nest_behind (nest_of w.groups) line ≡ Some next → Fits next spine → Same (reads_of_step s f w line (λ v. up v spine)) (up w (with_line (nest_of w.groups) line spine))
   step-up w next line spine h fits = by_cases line.directive h
     where
       by_cases :
           (b : Bool) → (if b then behind_role (role_of line.tokens) (nest_of w.groups) else Some (nest_of w.groups)) ≡ Some next
-          → Same (if b then read_of w.reading w.run ∷ behind (read_run w.reading w.run) (λ a. reads_by_role s f (role_of line.tokens) (at w.groups a) line (λ v. up v spine)) else up (text_read w line) spine)
+          → Same (if b then read_of w.reading w.run ∷ reads_behind (read_run w.reading w.run) (λ a. reads_by_role s f (role_of line.tokens) (at w.groups a) line (λ v. up v spine)) else up (text_read w line) spine)
           (up w (if b then with_role (role_of line.tokens) (nest_of w.groups) line spine else map_front (with_text line) spine))
       by_cases true e =
           let role = role_of line.tokens in
           let x = read_run w.reading w.run in
           let here = λ (a : Reading). reads_by_role s f role (at w.groups a) line (λ v. up v spine) in
           let there = up0 w.groups (with_role role (nest_of w.groups) line spine) in
-          same-before (read_of w.reading w.run ∷ []) (behind x here) (behind x there) (same-behind x here there (λ a. role-at role w.groups next a line spine e fits))
+          same-before (read_of w.reading w.run ∷ []) (reads_behind x here) (reads_behind x there) (same-behind x here there (λ a. role-at role w.groups next a line spine e fits))
           ∙ ap by_token (sym (up-flushed w (with_role role (nest_of w.groups) line spine) (no_text-role role (nest_of w.groups) next line spine e fits)))
       by_cases false e = ap by_token (up-text w line spine)

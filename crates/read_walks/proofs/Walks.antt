@@ -5,7 +5,7 @@ use Rattle.c_text.specs.Token.{PlainToken}
 use Rattle.c_text.specs.Lines.{PlainLine}
 use Rattle.c_text.specs.Trees.{Part, finish, breaks, Role, begins, begins_branch, begins_last, closes, stands_alone, role_of, lines_in, IsFormed, IsMisplaced, IsRead, whole_file, open_at_end, broken_at}
 use Rattle.c_text.specs.Preprocessing.{Reading, Setting, read_run, read_part}
-use Rattle.active_tokens.specs.Reads.{Read, read_of, behind, Following, reads_of_part}
+use Rattle.active_tokens.specs.Reads.{Read, read_of, reads_behind, Following, reads_of_part}
 use Rattle.active_tokens.specs.Active as active
 use Rattle.file_walks.specs.Walk.{Walk, Open, reads, waits, passed, skipped, are_read, text_read, step, start}
 use Rattle.file_walks.specs.Nests as nests
@@ -28,10 +28,10 @@ tokens_at None = []
 tokens_at (Some line) = line.tokens
 
 -- behind a part that breaks at a misplaced line the line fits no group
-misplaced-behind : (part : Part) (line : PlainLine) → IsFormed false part → IsMisplaced (lines_in part) line → nests.behind (end_nest [] part) line ≡ None
-misplaced-behind part line formed misplaced = by_cases (nests.behind (end_nest [] part) line) refl
+misplaced-behind : (part : Part) (line : PlainLine) → IsFormed false part → IsMisplaced (lines_in part) line → nests.nest_behind (end_nest [] part) line ≡ None
+misplaced-behind part line formed misplaced = by_cases (nests.nest_behind (end_nest [] part) line) refl
   where
-    by_cases : (o : Option Nest) → nests.behind (end_nest [] part) line ≡ o → o ≡ None
+    by_cases : (o : Option Nest) → nests.nest_behind (end_nest [] part) line ≡ o → o ≡ None
     by_cases None h = refl
     by_cases (Some next) h =
         let lines = lines_in part ++ line ∷ [] in
@@ -52,10 +52,10 @@ misplaced-is lines part (whole_file formed are) =
 misplaced-is lines part (open_at_end formed open' are) =
     sym (ap (λ ls. tokens_at (misplaced_in [] ls)) (sym are ∙ sym (append-nil (lines_in part))) ∙ ap tokens_at (broken-places part formed [] []))
 misplaced-is lines part (broken_at line rest formed are misplaced) =
-    let behind' = misplaced-behind part line formed misplaced in
+    let reads_behind' = misplaced-behind part line formed misplaced in
     sym
     (ap (λ ls. tokens_at (misplaced_in [] ls)) are ∙ ap tokens_at (broken-places part formed [] (line ∷ rest))
-    ∙ ap (λ (o : Option Nest). tokens_at (by_place o line (λ n. misplaced_in n rest))) behind')
+    ∙ ap (λ (o : Option Nest). tokens_at (by_place o line (λ n. misplaced_in n rest))) reads_behind')
 
 module _ (s : Setting) (f : Following) where
   -- ---- where a walk doesn't go on
@@ -93,7 +93,7 @@ module _ (s : Setting) (f : Following) where
   role-broken closes (g ∷ groups) r line next h = cc
   role-broken stands_alone groups r line next h = cc
 
-  step-broken : (w : Walk) (line : PlainLine) (next : Walk → List Read) → nests.behind (nest_of w.groups) line ≡ None → f.misplaced ≡ line.tokens → Same (reads_of_step s f w line next) (up s f w (broken_front (nest_of w.groups) breaks))
+  step-broken : (w : Walk) (line : PlainLine) (next : Walk → List Read) → nests.nest_behind (nest_of w.groups) line ≡ None → f.misplaced ≡ line.tokens → Same (reads_of_step s f w line next) (up s f w (broken_front (nest_of w.groups) breaks))
   step-broken w line next h m = by_cases line.directive h ∙ ap by_token (sym (up-broken w))
     where
       by_cases :
@@ -104,7 +104,7 @@ module _ (s : Setting) (f : Following) where
           let x = read_run w.reading w.run in
           let here = λ (a : Reading). reads_by_role s f (role_of line.tokens) (at w.groups a) line next in
           let there = breaking w.groups f.misplaced in
-          same-before (read_of w.reading w.run ∷ []) (behind x here) (behind x there) (same-behind x here there (λ a. ap by_token (role-broken (role_of line.tokens) w.groups a line next e ∙ ap (λ ts. breaking w.groups ts a) (sym m))))
+          same-before (read_of w.reading w.run ∷ []) (reads_behind x here) (reads_behind x there) (same-behind x here there (λ a. ap by_token (role-broken (role_of line.tokens) w.groups a line next e ∙ ap (λ ts. breaking w.groups ts a) (sym m))))
       by_cases false e = cc
 
   -- ---- the walk
@@ -121,15 +121,15 @@ module _ (s : Setting) (f : Following) where
       by_cases (g ∷ groups) =
           let x = read_run w.reading w.run in
           let there = breaking (g ∷ groups) f.misplaced in
-          same-before (read_of w.reading w.run ∷ []) (behind x (λ a. [])) (behind x there) (same-behind x (λ a. []) there (nothing (are_read (g ∷ groups))))
+          same-before (read_of w.reading w.run ∷ []) (reads_behind x (λ a. [])) (reads_behind x there) (same-behind x (λ a. []) there (nothing (are_read (g ∷ groups))))
           ∙ ap by_token (sym (up-broken (record w { groups = g ∷ groups })))
 
   -- what follows a line counts only where these groups are open
-  step-agrees : (w : Walk) (line : PlainLine) (lines : List PlainLine) (next : Nest) → nests.behind (nest_of w.groups) line ≡ Some next → f.misplaced ≡ tokens_at (misplaced_in next lines) → ((v : Walk) → f.misplaced ≡ tokens_at (misplaced_in (nest_of v.groups) lines) → Same (reads_of_walk s f v lines) (up s f v (spine_of (nest_of v.groups) lines))) → Same (reads_of_step s f w line (λ v. reads_of_walk s f v lines)) (reads_of_step s f w line (λ v. up s f v (spine_of next lines)))
+  step-agrees : (w : Walk) (line : PlainLine) (lines : List PlainLine) (next : Nest) → nests.nest_behind (nest_of w.groups) line ≡ Some next → f.misplaced ≡ tokens_at (misplaced_in next lines) → ((v : Walk) → f.misplaced ≡ tokens_at (misplaced_in (nest_of v.groups) lines) → Same (reads_of_walk s f v lines) (up s f v (spine_of (nest_of v.groups) lines))) → Same (reads_of_step s f w line (λ v. reads_of_walk s f v lines)) (reads_of_step s f w line (λ v. up s f v (spine_of next lines)))
   step-agrees w line lines next h m others = by_cases (lines-lead-on s f w line)
     where
       by_cases :
-          Leads (λ v. nests.behind (nest_of w.groups) line ≡ Some (nest_of v.groups)) (step s w line) (reads_of_step s f w line)
+          Leads (λ v. nests.nest_behind (nest_of w.groups) line ≡ Some (nest_of v.groups)) (step s w line) (reads_of_step s f w line)
           → Same (reads_of_step s f w line (λ v. reads_of_walk s f v lines)) (reads_of_step s f w line (λ v. up s f v (spine_of next lines)))
       by_cases (goes_on after nest k what) =
           let e : nest_of after.groups ≡ next = cc in
@@ -145,12 +145,12 @@ module _ (s : Setting) (f : Following) where
 
   walked-up : (lines : List PlainLine) (w : Walk) → f.misplaced ≡ tokens_at (misplaced_in (nest_of w.groups) lines) → Same (reads_of_walk s f w lines) (up s f w (spine_of (nest_of w.groups) lines))
   walked-up [] w m = walk-ends w m
-  walked-up (line ∷ lines) w m = by_place_of (nests.behind (nest_of w.groups) line) refl (λ v. walked-up lines v)
+  walked-up (line ∷ lines) w m = by_place_of (nests.nest_behind (nest_of w.groups) line) refl (λ v. walked-up lines v)
     where
       by_place_of :
-          (o : Option Nest) → nests.behind (nest_of w.groups) line ≡ o
+          (o : Option Nest) → nests.nest_behind (nest_of w.groups) line ≡ o
           → ((v : Walk) → f.misplaced ≡ tokens_at (misplaced_in (nest_of v.groups) lines) → Same (reads_of_walk s f v lines) (up s f v (spine_of (nest_of v.groups) lines)))
-          → Same (reads_of_step s f w line (λ v. reads_of_walk s f v lines)) (up s f w (by_next (nests.behind (nest_of w.groups) line) (nest_of w.groups) line (λ n. spine_of n lines)))
+          → Same (reads_of_step s f w line (λ v. reads_of_walk s f v lines)) (up s f w (by_next (nests.nest_behind (nest_of w.groups) line) (nest_of w.groups) line (λ n. spine_of n lines)))
       by_place_of None h others =
           step-broken w line (λ v. reads_of_walk s f v lines) h (m ∙ ap (λ (o : Option Nest). tokens_at (by_place o line (λ n. misplaced_in n lines))) h)
           ∙ sym (ap (λ (o : Option Nest). by_token (up s f w (by_next o (nest_of w.groups) line (λ n. spine_of n lines)))) h)

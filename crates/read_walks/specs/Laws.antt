@@ -9,7 +9,7 @@ use Rattle.c_text.specs.Preprocessing.{Reading, Refusal, Flow, Setting, Sources,
 use Rattle.active_tokens.specs.Reads.{Read, Following, reads_of_part}
 use Rattle.active_tokens.specs.Active.{AreMisplaced, IsReadAt, misplaced_in, reads_of_source}
 use Rattle.file_walks.specs.Walk.{Walk, start, step}
-use Rattle.file_walks.specs.Nests.{nest_of, behind}
+use Rattle.file_walks.specs.Nests.{nest_of, nest_behind}
 use Rattle.unit_files.specs.declared.inclusions.Source.{Source}
 use Rattle.unit_files.specs.Inclusions.{plain_source, IsAmong}
 use Rattle.unit_files.specs.SourceFiles.{source_number, text_of, its_lines, deeper_of}
@@ -55,7 +55,7 @@ pub data Leads (Holds : Walk → Type 0) (reading : (Walk → Flow) → Flow) (w
 abbrev pub LinesLeadOn : Type 0
 LinesLeadOn =
     (s : Setting) (f : Following) (w : Walk) (line : PlainLine)
-    → Leads (λ after. behind (nest_of w.groups) line ≡ Some (nest_of after.groups)) (step s w line) (reads_of_step s f w line)
+    → Leads (λ after. nest_behind (nest_of w.groups) line ≡ Some (nest_of after.groups)) (step s w line) (reads_of_step s f w line)
 
 -- Walks that no reading tells apart are one: the walk that a line leads to is told by the reading alone.
 abbrev pub WalksAreOne : Type 0

@@ -6,13 +6,13 @@ use Rattle.std.specs.List.{flat_map}
 use Rattle.c_text.specs.Lines.{PlainLine}
 use Rattle.c_text.specs.Trees.{Role, begins, begins_branch, begins_last, closes, stands_alone, role_of}
 use Rattle.c_text.specs.Preprocessing.{Setting, read_run, read_directive, condition_at, refused_ignored}
-use Rattle.active_tokens.specs.Reads.{Read, read_of, behind, unless_refused, Following, reads_of_directive, by_truth}
+use Rattle.active_tokens.specs.Reads.{Read, read_of, reads_behind, unless_refused, Following, reads_of_directive, by_truth}
 use Rattle.file_walks.specs.Walk.{Walk, Open, reads, waits, passed, skipped, are_read, with_groups, text_read}
 
 -- the tokens since the last directive line, before a directive line or the end of the file
 abbrev pub reads_at_flush : Walk → (Walk → List Read) → List Read
 reads_at_flush w next =
-    read_of w.reading w.run ∷ behind (read_run w.reading w.run) (λ after. next (record w { reading = after; run = [] }))
+    read_of w.reading w.run ∷ reads_behind (read_run w.reading w.run) (λ after. next (record w { reading = after; run = [] }))
 
 -- a conditional line of which only the name counts: that of a branch that is passed over, or the end of a group
 abbrev pub reads_at_name : Walk → PlainLine → List Read → List Read
@@ -59,7 +59,7 @@ module _ (s : Setting) (f : Following) where
   abbrev pub reads_at_directive : Walk → PlainLine → (Walk → List Read) → List Read
   reads_at_directive w line next =
       if are_read w.groups
-      then reads_of_directive s f w.reading line.tokens ++ behind (read_directive s w.reading line.tokens) (λ after. next (record w { reading = after }))
+      then reads_of_directive s f w.reading line.tokens ++ reads_behind (read_directive s w.reading line.tokens) (λ after. next (record w { reading = after }))
       else next w
 
   abbrev pub reads_by_role : Role → Walk → PlainLine → (Walk → List Read) → List Read

@@ -10,7 +10,7 @@ use Rattle.run_pairs.specs.Alike
 use Rattle.run_pairs.specs.Alike.{Use, Uses, direct, through, elements, unused, with_use, parameter_uses, AreDistinct, AlikeFunctions, AlikeBodies, AlikeItems, Replacement}
 use Rattle.run_pairs.specs.Extraction.{Entry, variable, slot_of, Extracted, Extracts}
 use Rattle.run_pairs.specs.Starts.{first_objects_of}
-use Rattle.run_pairs.specs.WorkedPairs.{before, behind, WorkedPair}
+use Rattle.run_pairs.specs.WorkedPairs.{before, program_behind, WorkedPair}
 use Rattle.run_pairs.proofs.MemoryPairs.{some_same}
 use Rattle.run_pairs.proofs.Statements.{direct_of}
 
@@ -98,9 +98,9 @@ entry_in_scope zero e f = (0, ap (λ e. direct (slot_of e)) (some_same f))
 entry_in_scope (suc k) e f = absurd (none-some _ f)
 
 abbrev Stands : Replacement
-Stands types types' uses r selection ts = Extracts before behind functions arity first types types' uses r selection ts
+Stands types types' uses r selection ts = Extracts before program_behind functions arity first types types' uses r selection ts
 
-selection : Extracted before behind functions arity first (int ∷ []) (int ∷ []) (with_use (parameter_uses 0) 0 0)
+selection : Extracted before program_behind functions arity first (int ∷ []) (int ∷ []) (with_use (parameter_uses 0) 0 0)
     (evaluate (call 0 (argument (constant (pos 65)) no_argument)) ∷ evaluate (call 0 (argument (read (slot 0)) no_argument)) ∷ [])
     (evaluate (call 1 (argument (address (slot 0)) no_argument)) ∷ [])
 selection = record {
@@ -127,7 +127,7 @@ selection = record {
       (Alike.no_items _ _ _));
 }
 
-main_bodies : AlikeBodies before behind functions arity first Stands 0 (int ∷ []) (int ∷ [])
+main_bodies : AlikeBodies before program_behind functions arity first Stands 0 (int ∷ []) (int ∷ [])
     (local 0 (record { path = []; value = constant (pos 66) } ∷ [])
     (statement_item (evaluate (call 0 (argument (constant (pos 65)) no_argument)))
     (statement_item (evaluate (call 0 (argument (read (slot 0)) no_argument)))
@@ -144,9 +144,9 @@ main_bodies = record {
       (Alike.statement_items _ _ _ _ _ _ _ (Alike.returns_value _ _ _ _ _ refl (Alike.constants (pos 0))) (Alike.no_items _ _ _)));
 }
 
-functions_alike : (f g : ℕ) → functions f ≡ Some g → WhereGiven (AlikeFunctions before behind functions arity first Stands (arity f)) (slice_get before.functions f) (slice_get behind.functions g)
-functions_alike zero g e = subst (λ g. WhereGiven (AlikeFunctions before behind functions arity first Stands 1) (slice_get before.functions 0) (slice_get behind.functions g)) (some_same e) refl
-functions_alike (suc zero) g e = subst (λ g. WhereGiven (AlikeFunctions before behind functions arity first Stands 0) (slice_get before.functions 1) (slice_get behind.functions g)) (some_same e) main_bodies
+functions_alike : (f g : ℕ) → functions f ≡ Some g → WhereGiven (AlikeFunctions before program_behind functions arity first Stands (arity f)) (slice_get before.functions f) (slice_get program_behind.functions g)
+functions_alike zero g e = subst (λ g. WhereGiven (AlikeFunctions before program_behind functions arity first Stands 1) (slice_get before.functions 0) (slice_get program_behind.functions g)) (some_same e) refl
+functions_alike (suc zero) g e = subst (λ g. WhereGiven (AlikeFunctions before program_behind functions arity first Stands 0) (slice_get before.functions 1) (slice_get program_behind.functions g)) (some_same e) main_bodies
 functions_alike (suc (suc f)) g e = absurd (none-some _ e)
 
 pub worked_pair_lem : WorkedPair

@@ -46,8 +46,8 @@ before = program (
     ) [] 1
 
 -- static void f(int *k) { putchar(65); putchar((*k)); } int main(void) { int k = 66; f(&k); return 0; }
-abbrev pub behind : PlainProgram
-behind = program (
+abbrev pub program_behind : PlainProgram
+program_behind = program (
     built_in Putchar
     ∷ defined (pointer_to int ∷ []) (does (call 0 (one (plain_number 65))) (does (call 0 (one (read (target (value_of_slot 0))))) no_item))
     ∷ defined (int ∷ []) (variable_with 0 (plain_number 66) (does (call 1 (one (address (slot 0)))) (gives (plain_number 0))))
@@ -55,7 +55,7 @@ behind = program (
     ) [] 2
 
 abbrev pub WorkedPair : Type 0
-WorkedPair = IsExtraction before behind
+WorkedPair = IsExtraction before program_behind
 
 -- ---- an extraction that numbers texts anew
 

@@ -8,7 +8,7 @@ use Rattle.c_tree.specs.Trees.{PlainTree, leaf, node, absent, trees}
 use Rattle.core_meaning.specs.Program.{PlainProgram}
 use Rattle.core_meaning.specs.Checking.{Binding, fine}
 use Rattle.core_meaning.specs.Linking.{Units, judged_program, program_of}
-use Rattle.run_pairs.specs.WorkedPairs.{before, behind, with_call, without_call}
+use Rattle.run_pairs.specs.WorkedPairs.{before, program_behind, with_call, without_call}
 
 -- ---- short forms
 
@@ -155,6 +155,6 @@ pub record IsGivenBy (tree : PlainTree) (p : PlainProgram) : Type 0 where
 
 pub record WorkedTrees : Type 0 where
   pub before_is : IsGivenBy before_tree before
-  pub behind_is : IsGivenBy behind_tree behind
+  pub behind_is : IsGivenBy behind_tree program_behind
   pub with_call_is : IsGivenBy with_call_tree with_call
   pub without_call_is : IsGivenBy without_call_tree without_call

@@ -181,7 +181,7 @@ fn with_sign(
 
 /// A sign behind what is settled.
 fn behind(sign: Sign, reader: ExpressionReader) -> Result<Option<ExpressionReader>, NoMemory>
-    ensures { IfOk result (λ r. option_map reader_view r ≡ reading.behind outcomes (sign_view sign) (reader_view reader)) }
+    ensures { IfOk result (λ r. option_map reader_view r ≡ reading.place_behind outcomes (sign_view sign) (reader_view reader)) }
 {
     let ExpressionReader { last, waits } = reader;
     match last {

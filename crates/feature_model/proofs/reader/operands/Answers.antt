@@ -1,7 +1,7 @@
 use Rattle.std.proofs.Common.{Bool, not, ◌||◌, [], ◌∷◌, Some, map, ap, ◌∙◌}
 use Rattle.std.proofs.lemmas.List.{map-append}
 use Rattle.std.proofs.lemmas.List.Elements.{All-same, All-push}
-use Rattle.feature_model.specs.Reading.{joined, implied}
+use Rattle.feature_model.specs.Reading.{joined_sides, implied}
 use Rattle.feature_model.specs.ReaderView.{value_in, chain_view}
 use Rattle.feature_model.specs.Bounds.{IsBelow}
 use Rattle.feature_model.proofs.Chains.{same, chain_view-push}
@@ -15,7 +15,7 @@ returns-clause-value c = λ features on.
     ap (λ l. chain_view (map v l)) c.in_ok-all.ensures
     ∙ ap chain_view (map-append v operands (c.in_ok-operand.operand ∷ []))
     ∙ chain_view-push (map v operands) (v c.in_ok-operand.operand)
-    ∙ ap (λ (t : Bool). Some (joined same (chain_view (map v operands)) t))
+    ∙ ap (λ (t : Bool). Some (joined_sides same (chain_view (map v operands)) t))
     (c.in_ok-operand.ensures.value on
     ∙ ap (implied leads_to (map v c.args.sides.premises.items)) (c.in_ok-conclusion.ensures.value on))
 
