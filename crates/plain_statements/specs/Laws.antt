@@ -1,5 +1,5 @@
 -- What parts that may be left out, and a `return`, are judged as.
-use Rattle.std.proofs.Common.{◌≡◌, ℕ, Bool, true, false, List, refl, sym, ◌∙◌}
+use Rattle.std.proofs.Common.{◌≡◌, true, false, refl, sym, ◌∙◌}
 use Rattle.std.specs.Prelude.{Box, Result, Ok, Err, pos, not}
 use Rattle.std.specs.declared.alloc.Global.{Global}
 use Rattle.c_text.specs.Token.{PlainToken}
@@ -17,11 +17,12 @@ use Rattle.core_meaning.specs.Statements.{Around, discarded, condition_or_true, 
 use Rattle.plain_scope.specs.declared.errors.ElabError.{ElabError}
 use Rattle.plain_scope.specs.PlainScope.{uses_of}
 use Rattle.plain_scope.specs.declared.entities.Used.{Used}
-use Rattle.plain_scope.specs.Judgements.{Gives, Refuses, RefusedAs, Answers, Judges}
+use Rattle.plain_scope.specs.Judgements.{Refuses, RefusedAs, Answers, Judges}
 use Rattle.plain_scope.specs.JudgementLaws.{gives_nothing_used, refuses_is}
 use Rattle.plain_declarators.specs.Words.{is_gone}
-use Rattle.plain_declarators.specs.Sequences.{bind_nothing, gives_of, refused_of}
+use Rattle.plain_declarators.specs.Sequences.{bind_nothing, refused_of}
 use Rattle.plain_operands.specs.PlainOperands.{boxed_expression}
+use Rattle.plain_statements.specs.Answers.{judges_as}
 use Rattle.plain_statements.specs.PlainJudged.{boxed_statement}
 use Rattle.plain_statements.specs.Steps.{nothing_returned, returned_as, unused_value, evaluated, returned_value}
 
@@ -91,47 +92,34 @@ returned_law around word (node other parts) = refl
 
 -- ---- the same, by what is answered
 
--- what is judged as another judgement has its answer
-judges_of : {A X : Type 0} (c d : Checked A) (plain : X → A) (before after : Used) (result : Result X ElabError) → c ≡ d → Judges d plain before after result → Judges c plain before after result
-judges_of c d plain before after (Ok x) is g = gives_of c d (plain x) (uses_of before) (uses_of after) is g
-judges_of c d plain before after (Err error) is r = refused_of c d error is r
-
--- .. also where that binds nothing
-answers_of : {A X : Type 0} (c d : Checked A) (plain : X → A) (used : Used) (result : Result X ElabError) → c ≡ d → Answers d plain result → Judges c plain used used result
+-- what is judged as another judgement that binds nothing has its answer
+pub answers_of : {A X : Type 0} (c d : Checked A) (plain : X → A) (used : Used) (result : Result X ElabError) → c ≡ d → Answers d plain result → Judges c plain used used result
 answers_of c d plain used (Ok x) is given = gives_nothing_used c (plain x) (uses_of used) (is ∙ given)
 answers_of c d plain used (Err error) is r = refused_of c d error is r
 
 pub discarded_judges : (scope : Scope) (tree : PlainTree) (otherwise : PlainExpression) (before after : Used) (result : Result (Box Expression Global) ElabError) → is_gone tree ≡ false → Judges (unused_value scope tree) boxed_expression before after result → Judges (discarded scope tree otherwise) boxed_expression before after result
-discarded_judges scope tree otherwise before after result is = judges_of (discarded scope tree otherwise) (unused_value scope tree) boxed_expression before after result (discarded_there scope tree otherwise is)
+discarded_judges scope tree otherwise before after result is = judges_as (discarded scope tree otherwise) (unused_value scope tree) boxed_expression before after result (discarded_there scope tree otherwise is)
 
 pub discarded_answers : (scope : Scope) (tree : PlainTree) (otherwise : PlainExpression) (used : Used) (result : Result (Box Expression Global) ElabError) → is_gone tree ≡ true → Answers (give otherwise) boxed_expression result → Judges (discarded scope tree otherwise) boxed_expression used used result
 discarded_answers scope tree otherwise used result is = answers_of (discarded scope tree otherwise) (give otherwise) boxed_expression used result (discarded_gone scope tree otherwise is)
 
 pub condition_judges : (scope : Scope) (tree : PlainTree) (behind : PlainToken) (before after : Used) (result : Result (Box Expression Global) ElabError) → is_gone tree ≡ false → Judges (judged_condition scope tree behind) boxed_expression before after result → Judges (condition_or_true scope tree behind) boxed_expression before after result
-condition_judges scope tree behind before after result is = judges_of (condition_or_true scope tree behind) (judged_condition scope tree behind) boxed_expression before after result (condition_there scope tree behind is)
+condition_judges scope tree behind before after result is = judges_as (condition_or_true scope tree behind) (judged_condition scope tree behind) boxed_expression before after result (condition_there scope tree behind is)
 
 pub condition_answers : (scope : Scope) (tree : PlainTree) (behind : PlainToken) (used : Used) (result : Result (Box Expression Global) ElabError) → is_gone tree ≡ true → Answers (give (constant (pos 1))) boxed_expression result → Judges (condition_or_true scope tree behind) boxed_expression used used result
 condition_answers scope tree behind used result is = answers_of (condition_or_true scope tree behind) (give (constant (pos 1))) boxed_expression used result (condition_gone scope tree behind is)
 
 pub statement_judges : (scope : Scope) (tree : PlainTree) (before after : Used) (result : Result (Box Statement Global) ElabError) → is_gone tree ≡ false → Judges (evaluated scope tree) boxed_statement before after result → Judges (expression_statement scope tree) boxed_statement before after result
-statement_judges scope tree before after result is = judges_of (expression_statement scope tree) (evaluated scope tree) boxed_statement before after result (statement_there scope tree is)
+statement_judges scope tree before after result is = judges_as (expression_statement scope tree) (evaluated scope tree) boxed_statement before after result (statement_there scope tree is)
 
 pub statement_answers : (scope : Scope) (tree : PlainTree) (used : Used) (result : Result (Box Statement Global) ElabError) → is_gone tree ≡ true → Answers (give (block no_item)) boxed_statement result → Judges (expression_statement scope tree) boxed_statement used used result
 statement_answers scope tree used result is = answers_of (expression_statement scope tree) (give (block no_item)) boxed_statement used result (statement_gone scope tree is)
 
-pub nothing_gives : (scope : Scope) (returns : PlainType) (word : PlainToken) (tree : PlainTree) (x : PlainStatement) (before : List ℕ → Bool) → is_gone tree ≡ true → nothing_returned returns word ≡ give x → Gives (returned_as scope returns word tree) x before before
-nothing_gives scope returns word tree x before is gives = gives_nothing_used (returned_as scope returns word tree) x before (returned_gone scope returns word tree is ∙ gives)
-
-pub nothing_refused : (scope : Scope) (returns : PlainType) (word : PlainToken) (tree : PlainTree) (error : ElabError) → is_gone tree ≡ true → RefusedAs (nothing_returned returns word) error → RefusedAs (returned_as scope returns word tree) error
-nothing_refused scope returns word tree error is r = refused_of (returned_as scope returns word tree) (nothing_returned returns word) error (returned_gone scope returns word tree is) r
+pub nothing_answers : (scope : Scope) (returns : PlainType) (word : PlainToken) (tree : PlainTree) (used : Used) (result : Result (Box Statement Global) ElabError) → is_gone tree ≡ true → Answers (nothing_returned returns word) boxed_statement result → Judges (returned_as scope returns word tree) boxed_statement used used result
+nothing_answers scope returns word tree used result is = answers_of (returned_as scope returns word tree) (nothing_returned returns word) boxed_statement used result (returned_gone scope returns word tree is)
 
 pub void_refused : (scope : Scope) (returns : PlainType) (word : PlainToken) (tree : PlainTree) (error : ElabError) → is_gone tree ≡ false → is_void returns ≡ true → Refuses Misplaced word error → RefusedAs (returned_as scope returns word tree) error
 void_refused scope returns word tree error is void r = refuses_is (returned_as scope returns word tree) Misplaced word error (returned_void scope returns word tree is void) r
 
-pub value_gives : (scope : Scope) (returns : PlainType) (word : PlainToken) (tree : PlainTree) (x : PlainStatement) (before after : List ℕ → Bool) → is_gone tree ≡ false → is_void returns ≡ false → Gives (returned_value scope returns word tree) x before after → Gives (returned_as scope returns word tree) x before after
-value_gives scope returns word tree x before after is void g = gives_of (returned_as scope returns word tree) (returned_value scope returns word tree) x before after (returned_fits scope returns word tree is void) g
-
-pub value_unfit : (scope : Scope) (returns : PlainType) (word : PlainToken) (tree : PlainTree) (error : ElabError) → is_gone tree ≡ false → is_void returns ≡ false → RefusedAs (returned_value scope returns word tree) error → RefusedAs (returned_as scope returns word tree) error
-value_unfit scope returns word tree error is void r = refused_of (returned_as scope returns word tree) (returned_value scope returns word tree) error (returned_fits scope returns word tree is void) r
-
-pub ruleset return_laws = (nothing_gives, nothing_refused, void_refused, value_gives, value_unfit)
+pub value_judges : (scope : Scope) (returns : PlainType) (word : PlainToken) (tree : PlainTree) (before after : Used) (result : Result (Box Statement Global) ElabError) → is_gone tree ≡ false → is_void returns ≡ false → Judges (returned_value scope returns word tree) boxed_statement before after result → Judges (returned_as scope returns word tree) boxed_statement before after result
+value_judges scope returns word tree before after result is void = judges_as (returned_as scope returns word tree) (returned_value scope returns word tree) boxed_statement before after result (returned_fits scope returns word tree is void)

@@ -27,7 +27,6 @@ use std::alloc::Global;
 
 // ---- expressions
 
-#[tactic(auto, using(plain_declarators::specs::Sequences::steps))]
 fn unused_value(
     alloc: Global,
     scope: &Scope,
@@ -118,7 +117,6 @@ fn evaluation(alloc: Global, core: Box<Expression>) -> Result<Box<Statement>, No
     Ok(Box::new(alloc, Statement::Expression(Box::into_inner(e)))?)
 }
 
-#[tactic(auto, using(plain_declarators::specs::Sequences::steps))]
 fn evaluated(
     alloc: Global,
     scope: &Scope,
@@ -162,8 +160,7 @@ fn expression_in(
     ensures { Judges (expression_in (plain_scope scope.now) (plain_trees parts.now)) boxed_statement used.old used.new result }
 {
     let (tree, _) = two_parts(parts)?;
-    let s = expression_statement(alloc, scope, used, tree)?;
-    Ok(s)
+    expression_statement(alloc, scope, used, tree)
 }
 
 #[tactic(auto, using(core_meaning::specs::PlainLaws::statement_kinds))]
@@ -184,7 +181,6 @@ fn jump_of(alloc: Global, word: &[u8]) -> Result<Box<Statement>, NoMemory>
 }
 
 /// A `break` or `continue`, which stands in a loop (6.8.6.2, 6.8.6.3).
-#[tactic(auto, using(plain_declarators::specs::Sequences::passed_is, plain_declarators::specs::Sequences::failed_refused))]
 fn jump(alloc: Global, word: &Token, in_loop: bool) -> Result<Box<Statement>, ElabError>
     ensures { Answers (jump_if in_loop (plain_token word.now)) boxed_statement result }
 {
@@ -197,8 +193,7 @@ fn jump_in(alloc: Global, parts: &[Tree], in_loop: bool) -> Result<Box<Statement
 {
     let (word, _) = two_parts(parts)?;
     let word = leaf(word)?;
-    let s = jump(alloc, word, in_loop)?;
-    Ok(s)
+    jump(alloc, word, in_loop)
 }
 
 // ---- `return`
@@ -210,7 +205,6 @@ fn return_without(alloc: Global) -> Result<Box<Statement>, NoMemory>
     Ok(Box::new(alloc, Statement::Return)?)
 }
 
-#[tactic(auto, using(plain_declarators::specs::Sequences::passed_is, plain_declarators::specs::Sequences::failed_refused))]
 fn nothing_returned(
     alloc: Global,
     word: &Token,
@@ -229,7 +223,6 @@ fn value_returned(alloc: Global, core: Box<Expression>) -> Result<Box<Statement>
     Ok(Box::new(alloc, Statement::ReturnValue(Box::into_inner(core)))?)
 }
 
-#[tactic(auto, using(plain_declarators::specs::Sequences::steps))]
 fn returned_value(
     alloc: Global,
     scope: &Scope,
@@ -246,7 +239,6 @@ fn returned_value(
 }
 
 /// A `return` (6.8.6.4).
-#[tactic(auto, using(crate::specs::Laws::return_laws))]
 fn returned(
     alloc: Global,
     scope: &Scope,
@@ -258,13 +250,11 @@ fn returned(
     ensures { Judges (returned_as (plain_scope scope.now) (plain_type returns.now) (plain_token word.now) (plain_tree tree.now)) boxed_statement used.old used.new result }
 {
     if is_gone(tree) {
-        let s = nothing_returned(alloc, word, returns)?;
-        Ok(s)
+        nothing_returned(alloc, word, returns)
     } else if is_void(returns) {
         Err(refused(TypeKind::Misplaced, word))
     } else {
-        let s = returned_value(alloc, scope, used, tree, word, returns)?;
-        Ok(s)
+        returned_value(alloc, scope, used, tree, word, returns)
     }
 }
 
@@ -279,14 +269,12 @@ fn return_in(
 {
     let (word, tree, _) = three_parts(parts)?;
     let word = leaf(word)?;
-    let s = returned(alloc, scope, used, tree, word, returns)?;
-    Ok(s)
+    returned(alloc, scope, used, tree, word, returns)
 }
 
 // ---- kinds
 
 /// A statement without statements in it.
-#[tactic(auto, using(plain_scope::specs::JudgementLaws::gives_nothing_used))]
 pub fn simple(
     alloc: Global,
     scope: &Scope,
@@ -300,10 +288,7 @@ pub fn simple(
 {
     match kind {
         Kind::ExpressionStatement => expression_in(alloc, scope, used, parts),
-        Kind::Jump => {
-            let s = jump_in(alloc, parts, in_loop)?;
-            Ok(s)
-        }
+        Kind::Jump => jump_in(alloc, parts, in_loop),
         Kind::Return => return_in(alloc, scope, used, parts, returns),
         _ => Err(ElabError::Memory),
     }

@@ -34,7 +34,6 @@ pub fn declaration_in(tree: &Tree) -> Option<&[Tree]>
     }
 }
 
-#[tactic(auto, using(plain_scope::specs::JudgementLaws::refused_first, crate::specs::Items::locals_given))]
 pub fn locals_item(
     alloc: Global,
     scope: &mut Scope,
@@ -68,7 +67,6 @@ fn locals_in_block(
     Ok(items)
 }
 
-#[tactic(auto, using(plain_declarators::specs::Sequences::steps))]
 fn evaluated_item(
     alloc: Global,
     scope: &Scope,

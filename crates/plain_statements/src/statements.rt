@@ -25,7 +25,6 @@ use std::alloc::Global;
 
 /// A loop that asks its condition first (6.8.5.1).
 #[cycle(statements)]
-#[tactic(auto, using(plain_declarators::specs::Sequences::steps))]
 fn while_turns(
     alloc: Global,
     scope: &mut Scope,
@@ -70,7 +69,6 @@ fn while_loop(
 
 /// A loop that asks its condition behind each turn (6.8.5.2).
 #[cycle(statements)]
-#[tactic(auto, using(plain_declarators::specs::Sequences::steps))]
 fn do_turns(
     alloc: Global,
     scope: &mut Scope,
@@ -115,7 +113,6 @@ fn do_loop(
 
 /// The turns of a `for` (6.8.5.3).
 #[cycle(statements)]
-#[tactic(auto, using(plain_declarators::specs::Sequences::steps))]
 fn for_turns(
     alloc: Global,
     scope: &mut Scope,
@@ -139,7 +136,6 @@ fn for_turns(
 
 /// What a `for` begins with, and its turns; what it declares is visible in it alone (6.8.5).
 #[cycle(statements)]
-#[tactic(auto, using(plain_declarators::specs::Sequences::steps))]
 fn begun_turns(
     alloc: Global,
     scope: &mut Scope,
@@ -189,7 +185,6 @@ fn for_loop(
 // ---- selections
 
 #[cycle(statements)]
-#[tactic(auto, using(plain_declarators::specs::Sequences::steps))]
 fn begun_if(
     alloc: Global,
     scope: &mut Scope,
@@ -395,7 +390,6 @@ fn statement(
 // ---- items
 
 #[cycle(statements)]
-#[tactic(auto, using(plain_declarators::specs::Sequences::steps))]
 fn single_item(
     alloc: Global,
     scope: &mut Scope,

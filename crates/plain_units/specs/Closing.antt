@@ -18,6 +18,7 @@ use Rattle.plain_scope.specs.declared.errors.ElabError.{ElabError}
 use Rattle.plain_scope.specs.declared.errors.ElabError.TheVariants.{BadType, Link, Memory}
 use Rattle.plain_link.specs.PlainUnits.{plain_unit}
 use Rattle.plain_link.specs.declared.left.Left.{Left}
+use Rattle.plain_units.specs.UnitShapes.{no_parts, same_parts}
 
 abbrev pub plain_numbers : {S : Type 0} → Numbers → HashMap (Vec ℕ Global) ℕ S → spec.Numbers
 plain_numbers numbers texts = record {
@@ -38,9 +39,9 @@ closed_with state used = record {
 }
 
 pub unit_items : (globals : ℕ) (structs : List spec.Struct) (numbers : spec.Numbers) (tree : PlainTree) (parts : PlainTrees) (start : UnitState) → parts_in tree ≡ Some parts → start ≡ unit_start structs numbers → judged_unit globals structs numbers tree ≡ judged_to_end globals start parts
-unit_items globals structs numbers (leaf token) parts start a b = cc
+unit_items globals structs numbers (leaf token) parts start a b = no_parts parts a
 unit_items globals structs numbers (node kind given) parts start a b =
-    let e : given ≡ parts = cc in
+    let e : given ≡ parts = same_parts given parts a in
     ap (judged_to_end globals (unit_start structs numbers)) e ∙ ap (λ s. judged_to_end globals s parts) (sym b)
 
 pub closed_gives : (c : Checked UnitState) (state : UnitState) (before after : List ℕ → Bool) (x : Units) → ((name : List ℕ) → before name ≡ false) → Gives c state before after → x ≡ closed_with state after → closed c ≡ give x

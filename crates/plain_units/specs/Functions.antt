@@ -22,6 +22,7 @@ use Rattle.plain_scope.specs.declared.errors.ElabError.{ElabError}
 use Rattle.plain_scope.specs.declared.errors.ElabError.TheVariants.{BadType, Link, Memory}
 use Rattle.plain_scope.specs.JudgementLaws.{refused_first, gives_then}
 use Rattle.plain_declarators.specs.Sequences.{gives_of, refused_of, next_of, gives_next, refused_next, gives_as, refused_behind}
+use Rattle.plain_units.specs.UnitShapes.{no_parts, same_parts}
 use Rattle.plain_units.specs.Members.{member_bound, member_refused}
 use Rattle.plain_units.specs.Binding.{bind_assoc, regrouped, then_same}
 use Rattle.plain_units.specs.Structs.{in_scope, in_scope_gives, in_scope_refused}
@@ -80,9 +81,9 @@ body_parts scope result slots kind brace (node k.Absent items) last = refl
 body_parts scope result slots kind brace (node other items) last = refl
 
 by_body : (scope : Scope) (result : PlainType) (slots : List PlainType) (body brace list last : PlainTree) (parts : PlainTrees) → parts_in body ≡ Some parts → parts ≡ more brace (more list (more last none)) → judged_body scope result slots body ≡ items_in scope result slots list
-by_body scope result slots (leaf token) brace list last parts a b = cc
+by_body scope result slots (leaf token) brace list last parts a b = no_parts parts a
 by_body scope result slots (node kind given) brace list last parts a b =
-    let e : given ≡ more brace (more list (more last none)) = cc in
+    let e : given ≡ more brace (more list (more last none)) = same_parts given parts a ∙ b in
     ap (λ l. judged_body scope result slots (node kind l)) e ∙ body_parts scope result slots kind brace list last
 
 pub body_gives : (scope : Scope) (result : PlainType) (slots : List PlainType) (body brace list last : PlainTree) (parts : PlainTrees) (given : JudgedItems) (before after : List ℕ → Bool) → parts_in body ≡ Some parts → parts ≡ more brace (more list (more last none)) → Gives (items_in scope result slots list) given before after → Gives (judged_body scope result slots body) given before after

@@ -18,6 +18,7 @@ use Rattle.plain_scope.specs.JudgementLaws.{gives_nothing_used, refused_first}
 use Rattle.plain_scope.specs.declared.errors.ElabError.{ElabError}
 use Rattle.plain_declarators.specs.Sequences.{bind_nothing, gives_as, gives_of, refused_of}
 use Rattle.plain_declarators.specs.Bound.{base_gives, base_refused}
+use Rattle.plain_units.specs.UnitShapes.{no_parts, same_parts}
 use Rattle.plain_units.specs.Leading.{front, Leads, leads_with, leads_to, leads_refused}
 use Rattle.plain_units.specs.Functions.{in_function_gives, in_function_refused}
 
@@ -63,25 +64,25 @@ named_definition unit words ty parts body name is =
 -- ---- items by their parts
 
 pub struct_item_is : (globals : ℕ) (unit : UnitState) (parts : PlainTrees) (tag brace list : PlainTree) (others words members behind : PlainTrees) → parts ≡ more tag (more brace (more list others)) → parts_in tag ≡ Some words → parts_in list ≡ Some members → judged_item globals unit (node k.StructDefinition parts) behind ≡ defined_struct unit words members
-struct_item_is globals unit parts (leaf token) brace list others words members behind is a b = cc
-struct_item_is globals unit parts (node tag_kind tag) brace (leaf token) others words members behind is a b = cc
+struct_item_is globals unit parts (leaf token) brace list others words members behind is a b = no_parts words a
+struct_item_is globals unit parts (node tag_kind tag) brace (leaf token) others words members behind is a b = no_parts members b
 struct_item_is globals unit parts (node tag_kind tag) brace (node list_kind list) others words members behind is a b =
-    let e : tag ≡ words = cc in
-    let f : list ≡ members = cc in
+    let e : tag ≡ words = same_parts tag words a in
+    let f : list ≡ members = same_parts list members b in
     ap (λ l. judged_item globals unit (node k.StructDefinition l) behind) is ∙ ap (λ w. defined_struct unit w list) e ∙ ap (λ m. defined_struct unit words m) f
 
 pub tag_item_is : (globals : ℕ) (unit : UnitState) (parts : PlainTrees) (tag end : PlainTree) (words behind : PlainTrees) → parts ≡ more tag (more end none) → parts_in tag ≡ Some words → judged_item globals unit (node k.StructDeclaration parts) behind ≡ tag_item unit words
-tag_item_is globals unit parts (leaf token) end words behind is a = cc
+tag_item_is globals unit parts (leaf token) end words behind is a = no_parts words a
 tag_item_is globals unit parts (node tag_kind tag) end words behind is a =
-    let e : tag ≡ words = cc in
+    let e : tag ≡ words = same_parts tag words a in
     ap (λ l. judged_item globals unit (node k.StructDeclaration l) behind) is ∙ ap (tag_item unit) e
 
 pub declaration_item_is : (globals : ℕ) (unit : UnitState) (parts : PlainTrees) (naming list end : PlainTree) (words declarators behind : PlainTrees) → parts ≡ more naming (more list (more end none)) → parts_in naming ≡ Some words → parts_in list ≡ Some declarators → judged_item globals unit (node k.Declaration parts) behind ≡ declaration_item globals unit words declarators behind
-declaration_item_is globals unit parts (leaf token) list end words declarators behind is a b = cc
-declaration_item_is globals unit parts (node words_kind naming) (leaf token) end words declarators behind is a b = cc
+declaration_item_is globals unit parts (leaf token) list end words declarators behind is a b = no_parts words a
+declaration_item_is globals unit parts (node words_kind naming) (leaf token) end words declarators behind is a b = no_parts declarators b
 declaration_item_is globals unit parts (node words_kind naming) (node list_kind list) end words declarators behind is a b =
-    let e : naming ≡ words = cc in
-    let f : list ≡ declarators = cc in
+    let e : naming ≡ words = same_parts naming words a in
+    let f : list ≡ declarators = same_parts list declarators b in
     ap (λ l. judged_item globals unit (node k.Declaration l) behind) is ∙ ap (λ w. declaration_item globals unit w list behind) e ∙ ap (λ l. declaration_item globals unit words l behind) f
 
 -- the parts of the only declarator of a function
@@ -90,22 +91,22 @@ only_declarator (more (node kind parts) none) = Some parts
 only_declarator other = None
 
 pub only_node : (list : PlainTrees) (tree : PlainTree) (parts : PlainTrees) → list ≡ more tree none → parts_in tree ≡ Some parts → only_declarator list ≡ Some parts
-only_node list (leaf token) parts is a = cc
+only_node list (leaf token) parts is a = no_parts parts a
 only_node list (node kind given) parts is a = ap only_declarator is ∙ a
 
 by_declarator : (globals : ℕ) (unit : UnitState) (words_kind list_kind : Kind) (words list : PlainTrees) (body : PlainTree) (parts behind : PlainTrees) → only_declarator list ≡ Some parts → judged_item globals unit (node k.Function (more (node words_kind words) (more (node list_kind list) (more body none)))) behind ≡ function_item unit words parts body
-by_declarator globals unit words_kind list_kind words none body parts behind is = cc
-by_declarator globals unit words_kind list_kind words (more (leaf token) rest) body parts behind is = cc
-by_declarator globals unit words_kind list_kind words (more (node kind given) (more other rest)) body parts behind is = cc
+by_declarator globals unit words_kind list_kind words none body parts behind is = no_parts parts is
+by_declarator globals unit words_kind list_kind words (more (leaf token) rest) body parts behind is = no_parts parts is
+by_declarator globals unit words_kind list_kind words (more (node kind given) (more other rest)) body parts behind is = no_parts parts is
 by_declarator globals unit words_kind list_kind words (more (node kind given) none) body parts behind is =
-    let e : given ≡ parts = cc in ap (λ p. function_item unit words p body) e
+    let e : given ≡ parts = same_parts given parts is in ap (λ p. function_item unit words p body) e
 
 pub function_item_is : (globals : ℕ) (unit : UnitState) (all : PlainTrees) (naming list body : PlainTree) (words declarators parts behind : PlainTrees) → all ≡ more naming (more list (more body none)) → parts_in naming ≡ Some words → parts_in list ≡ Some declarators → only_declarator declarators ≡ Some parts → judged_item globals unit (node k.Function all) behind ≡ function_item unit words parts body
-function_item_is globals unit all (leaf token) list body words declarators parts behind is a b c = cc
-function_item_is globals unit all (node words_kind naming) (leaf token) body words declarators parts behind is a b c = cc
+function_item_is globals unit all (leaf token) list body words declarators parts behind is a b c = no_parts words a
+function_item_is globals unit all (node words_kind naming) (leaf token) body words declarators parts behind is a b c = no_parts declarators b
 function_item_is globals unit all (node words_kind naming) (node list_kind list) body words declarators parts behind is a b c =
-    let e : naming ≡ words = cc in
-    let f : only_declarator list ≡ Some parts = cc in
+    let e : naming ≡ words = same_parts naming words a in
+    let f : only_declarator list ≡ Some parts = ap only_declarator (same_parts list declarators b) ∙ c in
     ap (λ l. judged_item globals unit (node k.Function l) behind) is ∙ by_declarator globals unit words_kind list_kind naming list body parts behind f ∙ ap (λ w. function_item unit w parts body) e
 
 -- ---- one item after the other

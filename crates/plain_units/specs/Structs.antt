@@ -15,6 +15,7 @@ use Rattle.plain_scope.specs.Judgements.{Gives, RefusedAs}
 use Rattle.plain_scope.specs.JudgementLaws.{gives_nothing_used, refused_first}
 use Rattle.plain_scope.specs.declared.errors.ElabError.{ElabError}
 use Rattle.plain_declarators.specs.Sequences.{bind_nothing, gives_of, refused_of, gives_as}
+use Rattle.plain_units.specs.UnitShapes.{no_parts, same_parts}
 use Rattle.plain_units.specs.Binding.{bind_assoc, regrouped, then_same}
 use Rattle.plain_units.specs.Leading.{front, Leads, leads_with, leads_to, leads_refused}
 
@@ -39,13 +40,13 @@ member_declaration scope number known (node kind (more (node words_kind words) (
 member_declaration scope number known tree = broken
 
 by_parts : (scope : Scope) (number : ℕ) (known : Members) (tree words list end : PlainTree) (parts naming declarators : PlainTrees) → parts_in tree ≡ Some parts → parts ≡ more words (more list (more end none)) → parts_in words ≡ Some naming → parts_in list ≡ Some declarators → member_declaration scope number known tree ≡ members_by scope number known naming declarators
-by_parts scope number known (leaf token) words list end parts naming declarators a b c d = cc
-by_parts scope number known (node kind given) (leaf token) list end parts naming declarators a b c d = cc
-by_parts scope number known (node kind given) (node words_kind words) (leaf token) end parts naming declarators a b c d = cc
+by_parts scope number known (leaf token) words list end parts naming declarators a b c d = no_parts parts a
+by_parts scope number known (node kind given) (leaf token) list end parts naming declarators a b c d = no_parts naming c
+by_parts scope number known (node kind given) (node words_kind words) (leaf token) end parts naming declarators a b c d = no_parts declarators d
 by_parts scope number known (node kind given) (node words_kind words) (node list_kind list) end parts naming declarators a b c d =
-    let e : given ≡ more (node words_kind words) (more (node list_kind list) (more end none)) = cc in
-    let f : words ≡ naming = cc in
-    let g : list ≡ declarators = cc in
+    let e : given ≡ more (node words_kind words) (more (node list_kind list) (more end none)) = same_parts given parts a ∙ b in
+    let f : words ≡ naming = same_parts words naming c in
+    let g : list ≡ declarators = same_parts list declarators d in
     ap (λ l. member_declaration scope number known (node kind l)) e ∙ ap (λ w. members_by scope number known w list) f ∙ ap (λ l. members_by scope number known naming l) g
 
 pub declaration_gives : (scope : Scope) (number : ℕ) (known : Members) (tree words list end : PlainTree) (parts naming declarators : PlainTrees) (given : AllMembers) (before after : List ℕ → Bool) → parts_in tree ≡ Some parts → parts ≡ more words (more list (more end none)) → parts_in words ≡ Some naming → parts_in list ≡ Some declarators → Gives (members_by scope number known naming declarators) given before after → Gives (member_declaration scope number known tree) given before after

@@ -133,7 +133,6 @@ pub fn judge_global(
     if !scope.is_complete(ty) && may_be_incomplete(storage, initialised, scope, ty, rest) {
         Ok(())
     } else {
-        judge_object(scope, ty, name)?;
-        Ok(())
+        judge_object(scope, ty, name)
     }
 }

@@ -41,8 +41,7 @@ fn declare_in_scope(
         parts,
         name,
         initialiser,
-    )?;
-    Ok(())
+    )
 }
 
 /// Declares a function or an object, by the kind of its declarator.
@@ -61,25 +60,28 @@ fn declare_by_kind(
     ensures { (globals : ℕ) → Judges (declared_by_kind globals (plain_state globals unit.old) (plain_storage storage) (plain_type base.now) kind (plain_trees parts.now) (plain_token name.now) (option_map (λ t. plain_tree t.now) initialiser.entry) (plain_trees rest.now)) (λ u. plain_state globals unit.new) used.old used.new result }
 {
     match kind {
-        Kind::FunctionDeclarator => {
-            declare_in_scope(alloc, unit, used, storage, base, parts, name, initialiser)?;
-            Ok(())
-        }
-        _ => {
-            declare_object(
-                alloc,
-                unit,
-                used,
-                storage,
-                base,
-                kind,
-                parts,
-                name,
-                initialiser,
-                rest,
-            )?;
-            Ok(())
-        }
+        Kind::FunctionDeclarator => declare_in_scope(
+            alloc,
+            unit,
+            used,
+            storage,
+            base,
+            parts,
+            name,
+            initialiser,
+        ),
+        _ => declare_object(
+            alloc,
+            unit,
+            used,
+            storage,
+            base,
+            kind,
+            parts,
+            name,
+            initialiser,
+            rest,
+        ),
     }
 }
 
@@ -97,21 +99,18 @@ fn declare_named(
     ensures { (globals : ℕ) → Judges (spec.declared_one globals (plain_state globals unit.old) (plain_storage storage) (plain_type base.now) (node kind (plain_trees parts.now)) (option_map (λ t. plain_tree t.now) initialiser.entry) (plain_trees rest.now)) (λ u. plain_state globals unit.new) used.old used.new result }
 {
     match name_in(parts) {
-        Some(name) => {
-            declare_by_kind(
-                alloc,
-                unit,
-                used,
-                storage,
-                base,
-                kind,
-                parts,
-                name,
-                initialiser,
-                rest,
-            )?;
-            Ok(())
-        }
+        Some(name) => declare_by_kind(
+            alloc,
+            unit,
+            used,
+            storage,
+            base,
+            kind,
+            parts,
+            name,
+            initialiser,
+            rest,
+        ),
         None => Err(ElabError::Memory),
     }
 }
@@ -132,20 +131,17 @@ fn declare_one(
 {
     match tree {
         Tree::Leaf(_) => Err(ElabError::Memory),
-        Tree::Node(kind, parts) => {
-            declare_named(
-                alloc,
-                unit,
-                used,
-                storage,
-                base,
-                *kind,
-                parts,
-                initialiser,
-                rest,
-            )?;
-            Ok(())
-        }
+        Tree::Node(kind, parts) => declare_named(
+            alloc,
+            unit,
+            used,
+            storage,
+            base,
+            *kind,
+            parts,
+            initialiser,
+            rest,
+        ),
     }
 }
 

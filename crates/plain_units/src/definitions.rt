@@ -78,8 +78,7 @@ fn object_parts(
     ensures { (globals : ℕ) → Judges (parts_given globals (plain_scope scope.now) (plain_type ty.now) (plain_token name.now) (plain_tree initialiser.now)) (λ parts. map (plain_constant_part globals) parts.items) used.old used.new result }
 {
     let found = initialised(alloc, scope, used, true, initialiser, ty, &[], name)?;
-    let parts = constant_parts(alloc, found)?;
-    Ok(parts)
+    constant_parts(alloc, found)
 }
 
 /// Defines a name of file scope.

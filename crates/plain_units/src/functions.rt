@@ -59,8 +59,7 @@ fn name_function(
     ensures { Answers (spec.with_name (plain_scope scope.old) (plain_token name.now) (function (spec.signature_of (plain_type returns.now) (map plain_parameter parameters.now))) (plain_storage storage)) (λ u. plain_scope scope.new) result }
 {
     let sort = signature(alloc, returns, parameters)?;
-    declare_name(alloc, scope, name, sort, storage)?;
-    Ok(())
+    declare_name(alloc, scope, name, sort, storage)
 }
 
 // ---- declarations
@@ -88,8 +87,7 @@ fn place_function(
     ensures { Answers (placed_function (plain_scope scope.old) (plain_storage storage) (spec.signature_of (plain_type returns.now) (map plain_parameter parameters.now)) (plain_token name.now) (option_map (λ t. plain_tree t.now) initialiser.entry)) (λ u. plain_scope scope.new) result }
 {
     name_function(alloc, scope, storage, returns, name, parameters)?;
-    refuse_initialiser(initialiser, name)?;
-    Ok(())
+    refuse_initialiser(initialiser, name)
 }
 
 /// The parameters of a function whose name no other declaration keeps from it.
@@ -112,8 +110,7 @@ fn new_function<'t>(
         TypeKind::Redeclared,
         name,
     )?;
-    let all = declared_parameters(alloc, scope, used, defining, parts, name)?;
-    Ok(all)
+    declared_parameters(alloc, scope, used, defining, parts, name)
 }
 
 /// The declaration of a function that doesn't define it.
@@ -140,8 +137,7 @@ pub fn declare_function(
         name,
         initialiser,
         parameters.as_slice(),
-    )?;
-    Ok(())
+    )
 }
 
 // ---- parameters of definitions
@@ -179,10 +175,7 @@ fn items_in(
         return Err(ElabError::Memory);
     };
     match kind {
-        Kind::Items => {
-            let items = statement_items(alloc, scope, used, parts, slots, returns, false)?;
-            Ok(items)
-        }
+        Kind::Items => statement_items(alloc, scope, used, parts, slots, returns, false),
         Kind::Absent => Ok(Vec::new(alloc)),
         _ => Err(ElabError::Memory),
     }
@@ -201,8 +194,7 @@ fn judge_body(
 {
     let parts = node_parts(body)?;
     let (_, list, _) = three_parts(parts)?;
-    let items = items_in(alloc, scope, used, returns, slots, list)?;
-    Ok(items)
+    items_in(alloc, scope, used, returns, slots, list)
 }
 
 /// The block of a function, which its parameters belong to (6.2.1).
@@ -260,7 +252,7 @@ fn function_with_result(
     ensures { Judges (function_with_result (plain_scope scope.old) (plain_storage storage) (plain_type returns.now) (plain_trees parts.now) (plain_token name.now) (plain_tree body.now)) (λ d. found_as (plain_scope scope.new) (plain_judged_items d.slots.items d.body.items)) used.old used.new result }
 {
     let parameters = new_function(alloc, scope, used, true, storage, returns, parts, name)?;
-    let d = named_function(
+    named_function(
         alloc,
         scope,
         used,
@@ -269,8 +261,7 @@ fn function_with_result(
         name,
         body,
         parameters.as_slice(),
-    )?;
-    Ok(d)
+    )
 }
 
 // ---- results that no definition may have
@@ -312,10 +303,7 @@ fn kind_of_result(
         return Ok(TypeKind::Redeclared);
     }
     match declared_parameters(alloc, scope, used, true, parts, name) {
-        Ok(parameters) => {
-            let kind = kind_by_name(alloc, scope, storage, returns, name, parameters.as_slice())?;
-            Ok(kind)
-        }
+        Ok(parameters) => kind_by_name(alloc, scope, storage, returns, name, parameters.as_slice()),
         Err(ElabError::BadType(..)) => Ok(TypeKind::Incomplete),
         Err(ElabError::Link(..)) => Err(ElabError::Memory),
         Err(ElabError::Memory) => Err(ElabError::Memory),
@@ -362,8 +350,7 @@ fn complete_function(
     ensures { Judges (complete_function (plain_scope scope.old) (plain_storage storage) (plain_type returns.now) (plain_trees parts.now) (plain_token name.now) (plain_tree body.now)) (λ d. found_as (plain_scope scope.new) (plain_judged_items d.slots.items d.body.items)) used.old used.new result }
 {
     if is_result(scope, returns) {
-        let d = function_with_result(alloc, scope, used, storage, returns, parts, name, body)?;
-        Ok(d)
+        function_with_result(alloc, scope, used, storage, returns, parts, name, body)
     } else {
         Err(refused_result(alloc, scope, used, storage, returns, parts, name))
     }
@@ -384,6 +371,5 @@ pub fn judge_function(
     ensures { Judges (function_found (plain_scope scope.old) (plain_storage storage) (plain_type base.now) (plain_trees parts.now) (plain_token name.now) (plain_tree body.now)) (λ d. found_as (plain_scope scope.new) (plain_judged_items d.slots.items d.body.items)) used.old used.new result }
 {
     let returns = starred(alloc, parts, base)?;
-    let d = complete_function(alloc, scope, used, storage, &returns, parts, name, body)?;
-    Ok(d)
+    complete_function(alloc, scope, used, storage, &returns, parts, name, body)
 }

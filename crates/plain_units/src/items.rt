@@ -48,8 +48,7 @@ fn define_in_scope(
 ) -> Result<(), ElabError>
     ensures { (globals : ℕ) → Judges (spec.defined_struct (plain_state globals unit.old) (plain_trees words.now) (plain_trees list.now)) (λ u. plain_state globals unit.new) used.old used.new result }
 {
-    define_struct(alloc, &mut unit.scope, used, words, list)?;
-    Ok(())
+    define_struct(alloc, &mut unit.scope, used, words, list)
 }
 
 fn struct_definition(
@@ -64,8 +63,7 @@ fn struct_definition(
     let (tag, _, list, _) = three_first(parts)?;
     let words = node_parts(tag)?;
     let list = node_parts(list)?;
-    define_in_scope(alloc, unit, used, words, list)?;
-    Ok(())
+    define_in_scope(alloc, unit, used, words, list)
 }
 
 /// `struct NAME ;` (6.7.2.3).
@@ -87,8 +85,7 @@ fn struct_declaration(
 {
     let (tag, _) = two_parts(parts)?;
     let words = node_parts(tag)?;
-    declare_tag(alloc, unit, used, words)?;
-    Ok(())
+    declare_tag(alloc, unit, used, words)
 }
 
 // ---- declarations
@@ -104,8 +101,7 @@ fn declare_by_words(
     ensures { (globals : ℕ) → Judges (declaration_item globals (plain_state globals unit.old) (plain_trees words.now) (plain_trees list.now) (plain_trees behind.now)) (λ u. plain_state globals unit.new) used.old used.new result }
 {
     let base = declared_base(alloc, &mut unit.scope, words)?;
-    declare_from(alloc, unit, used, storage_of(words), &base, list, behind)?;
-    Ok(())
+    declare_from(alloc, unit, used, storage_of(words), &base, list, behind)
 }
 
 fn declaration(
@@ -120,8 +116,7 @@ fn declaration(
     let (words, list, _) = three_parts(parts)?;
     let words = node_parts(words)?;
     let list = node_parts(list)?;
-    declare_by_words(alloc, unit, used, words, list, behind)?;
-    Ok(())
+    declare_by_words(alloc, unit, used, words, list, behind)
 }
 
 // ---- functions
@@ -175,8 +170,7 @@ fn define_named(
         parts,
         name,
         body,
-    )?;
-    Ok(())
+    )
 }
 
 fn define_by_words(
@@ -190,8 +184,7 @@ fn define_by_words(
     ensures { (globals : ℕ) → Judges (function_item (plain_state globals unit.old) (plain_trees words.now) (plain_trees parts.now) (plain_tree body.now)) (λ u. plain_state globals unit.new) used.old used.new result }
 {
     let base = base_of(&unit.scope, words)?;
-    define_named(alloc, unit, used, words, &base, parts, body)?;
-    Ok(())
+    define_named(alloc, unit, used, words, &base, parts, body)
 }
 
 fn only_part(parts: &[Tree]) -> Result<&Tree, ElabError>
@@ -212,8 +205,7 @@ fn only_declarator(list: &[Tree]) -> Result<&[Tree], ElabError>
     ensures { MatchResult result (λ parts. only_declarator (plain_trees list.now) ≡ Some (plain_trees parts.now)) (λ error. error ≡ ElabError.Memory) }
 {
     let first = only_part(list)?;
-    let parts = node_parts(first)?;
-    Ok(parts)
+    node_parts(first)
 }
 
 fn function_definition(
@@ -229,8 +221,7 @@ fn function_definition(
     let words = node_parts(words)?;
     let list = node_parts(list)?;
     let declarator = only_declarator(list)?;
-    define_by_words(alloc, unit, used, words, declarator, body)?;
-    Ok(())
+    define_by_words(alloc, unit, used, words, declarator, body)
 }
 
 // ---- items
@@ -246,22 +237,10 @@ fn judge_by_kind(
     ensures { (globals : ℕ) → Judges (spec.judged_item globals (plain_state globals unit.old) (node kind (plain_trees parts.now)) (plain_trees behind.now)) (λ u. plain_state globals unit.new) used.old used.new result }
 {
     match kind {
-        Kind::StructDefinition => {
-            struct_definition(alloc, unit, used, parts, behind)?;
-            Ok(())
-        }
-        Kind::StructDeclaration => {
-            struct_declaration(alloc, unit, used, parts, behind)?;
-            Ok(())
-        }
-        Kind::Declaration => {
-            declaration(alloc, unit, used, parts, behind)?;
-            Ok(())
-        }
-        Kind::Function => {
-            function_definition(alloc, unit, used, parts, behind)?;
-            Ok(())
-        }
+        Kind::StructDefinition => struct_definition(alloc, unit, used, parts, behind),
+        Kind::StructDeclaration => struct_declaration(alloc, unit, used, parts, behind),
+        Kind::Declaration => declaration(alloc, unit, used, parts, behind),
+        Kind::Function => function_definition(alloc, unit, used, parts, behind),
         _ => Err(ElabError::Memory),
     }
 }
@@ -279,10 +258,7 @@ fn judge_item(
 {
     match tree {
         Tree::Leaf(_) => Err(ElabError::Memory),
-        Tree::Node(kind, parts) => {
-            judge_by_kind(alloc, unit, used, *kind, parts, behind)?;
-            Ok(())
-        }
+        Tree::Node(kind, parts) => judge_by_kind(alloc, unit, used, *kind, parts, behind),
     }
 }
 

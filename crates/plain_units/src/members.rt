@@ -95,8 +95,7 @@ fn typed_member(
     ensures { Judges (typed_member (plain_scope scope.now) (plain_members known.old) (plain_type base.now) kind (plain_trees parts.now) (plain_token name.now)) (λ u. plain_members known.new) used.old used.new result }
 {
     let ty = object_type(alloc, scope, used, base, kind, parts, name, None)?;
-    complete_member(alloc, scope, known, ty, name)?;
-    Ok(())
+    complete_member(alloc, scope, known, ty, name)
 }
 
 fn is_new_member(known: &Members, name: &[u8]) -> bool
@@ -125,8 +124,7 @@ fn declared_member(
         TypeKind::Redeclared,
         name,
     )?;
-    typed_member(alloc, scope, used, known, base, kind, parts, name)?;
-    Ok(())
+    typed_member(alloc, scope, used, known, base, kind, parts, name)
 }
 
 #[tactic(auto, using(crate::specs::Members::named_gives, crate::specs::Members::named_refused))]
@@ -143,10 +141,7 @@ fn named_member(
     ensures { Judges (spec.one_member (plain_scope scope.now) number (plain_members known.old) (plain_type base.now) (node kind (plain_trees parts.now))) (λ u. plain_members known.new) used.old used.new result }
 {
     match name_in(parts) {
-        Some(name) => {
-            declared_member(alloc, scope, used, number, known, base, kind, parts, name)?;
-            Ok(())
-        }
+        Some(name) => declared_member(alloc, scope, used, number, known, base, kind, parts, name),
         None => Err(ElabError::Memory),
     }
 }
@@ -165,10 +160,9 @@ fn one_member(
 {
     match tree {
         Tree::Leaf(_) => Err(ElabError::Memory),
-        Tree::Node(kind, parts) => {
-            named_member(alloc, scope, used, number, known, base, *kind, parts)?;
-            Ok(())
-        }
+        Tree::Node(kind, parts) => named_member(
+            alloc, scope, used, number, known, base, *kind, parts,
+        ),
     }
 }
 

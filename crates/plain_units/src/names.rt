@@ -180,8 +180,7 @@ fn declare_again(
 ) -> Result<(), ElabError>
     ensures { Answers (spec.declared_again (plain_scope scope.now) (plain_token name.now) (plain_sort sort) internal (plain_file_name visible.now)) (λ u. plain_scope scope.now) result }
 {
-    unless(agrees(visible, sort, internal), TypeKind::Redeclared, name)?;
-    Ok(())
+    unless(agrees(visible, sort, internal), TypeKind::Redeclared, name)
 }
 
 fn declare_first(
@@ -217,8 +216,7 @@ pub fn declare_name(
     match scope.file_names.get(name.text.as_slice()) {
         Some(found) => {
             let internal = linkage(storage, of_function, Some(found));
-            declare_again(scope, found, name, sort, internal)?;
-            Ok(())
+            declare_again(scope, found, name, sort, internal)
         }
         None => {
             let internal = linkage(storage, of_function, None);

@@ -32,10 +32,7 @@ fn define_object(
     ensures { (globals : ℕ) → Judges (spec.defined_object globals (plain_state globals unit.old) (plain_storage storage) (plain_type ty.now) (plain_token name.now) (option_map (λ t. plain_tree t.now) initialiser.entry)) (λ u. plain_state globals unit.new) used.old used.new result }
 {
     match initialiser {
-        Some(tree) => {
-            define_initialised(alloc, unit, used, storage, ty, name, tree)?;
-            Ok(())
-        }
+        Some(tree) => define_initialised(alloc, unit, used, storage, ty, name, tree),
         None => {
             define_tentatively(alloc, unit, storage, ty, name)?;
             Ok(())
@@ -59,8 +56,7 @@ fn place_object(
     let sort = Sort::Variable(copied(alloc, ty)?);
     declare_name(alloc, &mut unit.scope, name, sort, storage)?;
     judge_global(storage, initialiser.is_some(), &unit.scope, ty, name, rest)?;
-    define_object(alloc, unit, used, storage, ty, name, initialiser)?;
-    Ok(())
+    define_object(alloc, unit, used, storage, ty, name, initialiser)
 }
 
 /// Declares an object by its declarator, with what stands behind it in the unit.
@@ -88,6 +84,5 @@ pub fn declare_object(
         name,
         initialiser,
     )?;
-    place_object(alloc, unit, used, storage, &ty, name, initialiser, rest)?;
-    Ok(())
+    place_object(alloc, unit, used, storage, &ty, name, initialiser, rest)
 }

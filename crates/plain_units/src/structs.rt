@@ -35,8 +35,7 @@ fn members_by(
     ensures { Judges (members_by (plain_scope scope.old) number (plain_members known.old) (plain_trees words.now) (plain_trees list.now)) (λ u. all_as (plain_scope scope.new) (plain_members known.new)) used.old used.new result }
 {
     let base = declared_base(alloc, scope, words)?;
-    members_from(alloc, scope, used, number, known, &base, list)?;
-    Ok(())
+    members_from(alloc, scope, used, number, known, &base, list)
 }
 
 fn member_declaration(
@@ -53,8 +52,7 @@ fn member_declaration(
     let (words, list, _) = three_parts(parts)?;
     let words = node_parts(words)?;
     let list = node_parts(list)?;
-    members_by(alloc, scope, used, number, known, words, list)?;
-    Ok(())
+    members_by(alloc, scope, used, number, known, words, list)
 }
 
 fn no_members(alloc: Global) -> Members
@@ -161,8 +159,7 @@ fn struct_by_words(
     ensures { Judges (struct_by_words (plain_scope scope.old) (plain_trees words.now) (plain_trees list.now)) (λ u. plain_scope scope.new) used.old used.new result }
 {
     let base = declared_base(alloc, scope, words)?;
-    struct_members(alloc, scope, used, number_of_struct(&base), list)?;
-    Ok(())
+    struct_members(alloc, scope, used, number_of_struct(&base), list)
 }
 
 fn is_complete_struct(found: Option<&Struct>) -> bool
@@ -197,8 +194,7 @@ fn struct_of_tag(
 {
     let new = !is_defined_tag(scope, tag.text.as_slice());
     unless(new, TypeKind::Redeclared, tag)?;
-    struct_by_words(alloc, scope, used, words, list)?;
-    Ok(())
+    struct_by_words(alloc, scope, used, words, list)
 }
 
 /// The definition of a struct, which is declared by its tag and complete behind its last member.
@@ -213,10 +209,7 @@ pub fn define_struct(
     ensures { Judges (struct_of (plain_scope scope.old) (plain_trees words.now) (plain_trees list.now)) (λ u. plain_scope scope.new) used.old used.new result }
 {
     match name_in(words) {
-        Some(tag) => {
-            struct_of_tag(alloc, scope, used, tag, words, list)?;
-            Ok(())
-        }
+        Some(tag) => struct_of_tag(alloc, scope, used, tag, words, list),
         None => Err(ElabError::Memory),
     }
 }

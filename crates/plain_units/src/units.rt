@@ -52,8 +52,7 @@ fn judge_to_end(
     ensures { (globals : ℕ) → Judges (spec.judged_to_end globals (plain_state globals unit.old) (plain_trees parts.now)) (λ u. plain_state globals unit.new) used.old used.new result }
 {
     judge_items(alloc, unit, used, parts)?;
-    judge_sizes(&unit.scope, parts)?;
-    Ok(())
+    judge_sizes(&unit.scope, parts)
 }
 
 fn judge_all<'a>(

@@ -6,8 +6,10 @@ use Rattle.c_tree.specs.declared.kinds.Kind.TheVariants as k
 use Rattle.c_tree.specs.Trees.{PlainTree, node, plain_tree, plain_trees}
 use Rattle.c_tree.specs.TreeLaws.{plain_tree-Node}
 use Rattle.core_meaning.specs.Plain.{plain_item}
-use Rattle.core_meaning.specs.Program.{PlainExpression, loop}
-use Rattle.core_meaning.specs.Statements.{judged_statement, judged_else, judged_items}
+use Rattle.core_meaning.specs.Program.{PlainExpression, loop, statement_item}
+use Rattle.core_meaning.specs.Checking.{◌>>=◌, give}
+use Rattle.core_meaning.specs.Expressions.{judged_condition}
+use Rattle.core_meaning.specs.Statements.{nothing_to_do, discarded, condition_or_true, loop_of, judged_statement, judged_else, judged_items}
 use Rattle.plain_scope.specs.PlainScope.{plain_scope, uses_of}
 use Rattle.plain_scope.specs.Judgements.{RefusedAs}
 use Rattle.plain_scope.specs.JudgementLaws.{refused_first}
@@ -15,7 +17,7 @@ use Rattle.plain_declarators.specs.Sequences.{gives_of, refused_of}
 use Rattle.plain_operands.specs.PlainOperands.{boxed_expression}
 use Rattle.plain_statements.specs.Blocks.{put}
 use Rattle.plain_statements.specs.PlainJudged.{boxed_statement, plain_begun, plain_item_of, plain_judged, plain_judged_items}
-use Rattle.plain_statements.specs.Steps.{around_of, begun_if, with_else, block_of, branches_of, while_of, do_of, for_of, for_by, simple_of, keeping}
+use Rattle.plain_statements.specs.Steps.{around_of, begun_if, with_else, block_of, branches_of, while_of, do_of, for_of, for_by, begun_for, turns_behind, single_item, simple_of, keeping}
 use Rattle.plain_statements.specs.Kinds.{simple_law, else_slice, block_slice, while_slice, do_slice, selection_slice, for_slice}
 use Rattle.plain_statements.specs.Answers.{judges_as, keeping_judges, absent_block, absent_else}
 use Rattle.plain_statements.specs.Within.{block_refused, block_given, begun_refused, begun_given, branches_refused, branches_given, do_refused, do_given, while_refused, while_given, step_refused, turns_refused, turns_given, for_refused, for_given}
@@ -329,3 +331,53 @@ single_item-returns-clause-judged t c =
     let slots = map plain_type c.args.slots.now.items in
     let before = uses_of c.args.used.now in
     single_given scope (plain_scope c.statement.new.scope) returns c.args.in_loop slots (plain_tree c.args.tree.now) (plain_judged c.statement.new.slots.items c.in_ok-core.core) (put (map plain_item c.in_ok-single.field-0.items)) before (uses_of c.statement.new.used) c.in_ok-core.ensures.same c.in_ok-core.ensures.judged c.in_ok-single.ensures
+
+-- ---- the refusal of the first judgement
+
+pub while_turns-returns-in_err-c-clause-judged : goal.while_turns-returns-in_err-c-clause-judged
+while_turns-returns-in_err-c-clause-judged t c =
+    let scope = plain_scope c.args.scope.now in
+    let returns = plain_type c.args.returns.now in
+    let slots = map plain_type c.args.slots.now.items in
+    let outer : RefusedAs (while_of (around_of scope returns c.args.in_loop) slots (plain_tree c.args.test.now) (plain_token c.args.close.now) (plain_tree c.args.body.now)) c.in_err-c.field-0.0 = refused_first (judged_condition scope (plain_tree c.args.test.now) (plain_token c.args.close.now)) (λ test. judged_statement (around_of scope returns true) slots (plain_tree c.args.body.now) >>= (λ s. give (loop_of true test nothing_to_do s))) c.in_err-c.field-0.0 c.in_err-c.ensures in
+    search (rules, outer)
+
+pub do_turns-returns-in_err-s-clause-judged : goal.do_turns-returns-in_err-s-clause-judged
+do_turns-returns-in_err-s-clause-judged t c =
+    let scope = plain_scope c.args.scope.now in
+    let returns = plain_type c.args.returns.now in
+    let slots = map plain_type c.args.slots.now.items in
+    let outer : RefusedAs (do_of (around_of scope returns c.args.in_loop) slots (plain_tree c.args.test.now) (plain_token c.args.close.now) (plain_tree c.args.body.now)) c.in_err-s.field-0.0 = refused_first (judged_statement (around_of scope returns true) slots (plain_tree c.args.body.now)) (λ s. judged_condition scope (plain_tree c.args.test.now) (plain_token c.args.close.now) >>= (λ test. give (loop_of false test nothing_to_do s))) c.in_err-s.field-0.0 c.in_err-s.ensures.judged in
+    search (rules, outer)
+
+pub for_turns-returns-in_err-c-clause-judged : goal.for_turns-returns-in_err-c-clause-judged
+for_turns-returns-in_err-c-clause-judged t c =
+    let scope = plain_scope c.args.scope.now in
+    let returns = plain_type c.args.returns.now in
+    let slots = map plain_type c.args.slots.now.items in
+    let outer : RefusedAs (for_of (around_of scope returns c.args.in_loop) slots (plain_tree c.args.test.now) (plain_token c.args.end.now) (plain_tree c.args.step.now) (plain_tree c.args.body.now)) c.in_err-c.field-0.0 = refused_first (condition_or_true scope (plain_tree c.args.test.now) (plain_token c.args.end.now)) (λ test. discarded scope (plain_tree c.args.step.now) nothing_to_do >>= (λ step. judged_statement (around_of scope returns true) slots (plain_tree c.args.body.now) >>= (λ s. give (loop_of true test step s)))) c.in_err-c.field-0.0 c.in_err-c.ensures in
+    search (rules, outer)
+
+pub begun_turns-returns-in_err-items-clause-judged : goal.begun_turns-returns-in_err-items-clause-judged
+begun_turns-returns-in_err-items-clause-judged t c =
+    let scope = plain_scope c.args.scope.now in
+    let returns = plain_type c.args.returns.now in
+    let slots = map plain_type c.args.slots.now.items in
+    let outer : RefusedAs (for_by (around_of scope returns c.args.in_loop) slots (plain_tree c.args.start.now) (plain_tree c.args.test.now) (plain_token c.args.end.now) (plain_tree c.args.step.now) (plain_tree c.args.body.now)) c.in_err-items.field-0.0 = refused_first (begun_for scope slots (plain_tree c.args.start.now)) (turns_behind (around_of scope returns c.args.in_loop) (plain_tree c.args.test.now) (plain_token c.args.end.now) (plain_tree c.args.step.now) (plain_tree c.args.body.now)) c.in_err-items.field-0.0 c.in_err-items.ensures.judged in
+    search (rules, outer)
+
+pub begun_if-returns-in_err-condition-clause-judged : goal.begun_if-returns-in_err-condition-clause-judged
+begun_if-returns-in_err-condition-clause-judged t c =
+    let scope = plain_scope c.args.scope.now in
+    let returns = plain_type c.args.returns.now in
+    let slots = map plain_type c.args.slots.now.items in
+    let outer : RefusedAs (begun_if (around_of scope returns c.args.in_loop) slots (plain_tree c.args.test.now) (plain_token c.args.close.now) (plain_tree c.args.first.now)) c.in_err-condition.field-0.0 = refused_first (judged_condition scope (plain_tree c.args.test.now) (plain_token c.args.close.now)) (λ test. judged_statement (around_of scope returns c.args.in_loop) slots (plain_tree c.args.first.now) >>= (λ a. give (record { condition = test; core = a.core; slots = a.slots }))) c.in_err-condition.field-0.0 c.in_err-condition.ensures in
+    search (rules, outer)
+
+pub single_item-returns-in_err-core-clause-judged : goal.single_item-returns-in_err-core-clause-judged
+single_item-returns-in_err-core-clause-judged t c =
+    let scope = plain_scope c.args.scope.now in
+    let returns = plain_type c.args.returns.now in
+    let slots = map plain_type c.args.slots.now.items in
+    let outer : RefusedAs (single_item (around_of scope returns c.args.in_loop) slots (plain_tree c.args.tree.now)) c.in_err-core.field-0.0 = refused_first (judged_statement (around_of scope returns c.args.in_loop) slots (plain_tree c.args.tree.now)) (λ first. give (record { scope = scope; slots = first.slots; puts = statement_item first.core })) c.in_err-core.field-0.0 c.in_err-core.ensures.judged in
+    search (rules, outer)

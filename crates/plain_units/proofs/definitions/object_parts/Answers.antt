@@ -1,3 +1,5 @@
+use Rattle.std.proofs.lemmas.Result.{MatchResult-weaker}
+use Rattle.std.proofs.Common.{sym, subst}
 use Rattle.std.proofs.Common.{map, rules}
 use Rattle.c_text.specs.Token.{plain_token}
 use Rattle.c_types.specs.Types.{plain_type}
@@ -16,4 +18,10 @@ returns-in_err-found c = λ globals.
 
 pub returns : goal.returns
 returns c = λ globals.
-    parts_give globals (plain_scope c.args.scope.now) (plain_type c.args.ty.now) (plain_token c.args.name.now) (plain_tree c.args.initialiser.now) (map plain_initial c.in_ok-found.found.items) (map (plain_constant_part globals) c.in_ok-parts.parts.items) (uses_of c.args.used.now) (uses_of c.initialised.new.used) c.in_ok-found.ensures (c.in_ok-parts.ensures globals)
+    let scope = plain_scope c.args.scope.now in
+    let ty = plain_type c.args.ty.now in
+    let name = plain_token c.args.name.now in
+    let tree = plain_tree c.args.initialiser.now in
+    MatchResult-weaker c.constant_parts.result c.constant_parts.ensures
+    (λ parts is. parts_give globals scope ty name tree (map plain_initial c.in_ok-found.found.items) (map (plain_constant_part globals) parts.items) (uses_of c.args.used.now) (uses_of c.initialised.new.used) c.in_ok-found.ensures (is globals))
+    (λ error is. subst (RefusedAs (parts_given globals scope ty name tree)) (sym is) tt)

@@ -1,15 +1,21 @@
-use Rattle.std.proofs.Common.{rules}
-use Rattle.std.specs.Prelude.{option_map}
-use Rattle.c_text.specs.Token.{plain_token}
-use Rattle.c_types.specs.Types.{plain_type}
-use Rattle.c_tree.specs.Trees.{plain_tree}
-use Rattle.core_meaning.specs.UnitNames.{defined_object}
-use Rattle.plain_scope.specs.Judgements.{RefusedAs}
+use Rattle.std.proofs.Common.{◌≡◌, ap, refl}
+use Rattle.std.specs.Prelude.{Option, Some, option_map}
+use Rattle.c_text.specs.Token.{PlainToken, plain_token}
+use Rattle.c_types.specs.Types.{PlainType, plain_type}
+use Rattle.c_tree.specs.Trees.{PlainTree, plain_tree}
+use Rattle.core_meaning.specs.UnitNames.{UnitState, Storage, defined_object}
+use Rattle.plain_statements.specs.Answers.{judges_as}
 use Rattle.plain_units.specs.PlainStates.{plain_state, plain_storage}
 use Rattle.plain_units.proofs.objects.define_object.Goals as goal
 
-pub returns-in_err-define_initialised-in-Some : goal.returns-in_err-define_initialised-in-Some
-returns-in_err-define_initialised-in-Some c = λ globals.
-    let inner = c.in_err-define_initialised-in-Some.ensures globals in
-    let outer : RefusedAs (defined_object globals (plain_state globals c.args.unit.now) (plain_storage c.args.storage) (plain_type c.args.ty.now) (plain_token c.args.name.now) (option_map (λ t. plain_tree t.now) c.args.initialiser)) c.in_err-define_initialised-in-Some.field-0.0 = search (rules, inner) in
-    search (rules, outer)
+pub returns-in-Some : goal.returns-in-Some
+returns-in-Some c = λ globals.
+    let unit : UnitState = plain_state globals c.args.unit.now in
+    let storage : Storage = plain_storage c.args.storage in
+    let ty : PlainType = plain_type c.args.ty.now in
+    let name : PlainToken = plain_token c.args.name.now in
+    let initialiser : Option PlainTree = option_map (λ t. plain_tree t.now) c.args.initialiser in
+    let given : initialiser ≡ Some (plain_tree c.in-Some.tree.now) = rw c.in-Some.is refl in
+    judges_as (defined_object globals unit storage ty name initialiser) (defined_object globals unit storage ty name (Some (plain_tree c.in-Some.tree.now))) (λ (u : Unit {0}). plain_state globals c.define_initialised.new.unit) c.args.used.now c.define_initialised.new.used c.define_initialised.result
+    (ap (defined_object globals unit storage ty name) given)
+    (c.define_initialised.ensures globals)

@@ -1,8 +1,9 @@
 use Rattle.std.proofs.Common.{◌≡◌, rules}
+use Rattle.std.proofs.lemmas.Result.{MatchResult-weaker}
 use Rattle.std.specs.Prelude.{Option, option_map, is_some}
 use Rattle.c_text.specs.Token.{PlainToken, plain_token}
 use Rattle.c_types.specs.Types.{PlainType, plain_type}
-use Rattle.c_tree.specs.Trees.{PlainTree, plain_tree, plain_trees}
+use Rattle.c_tree.specs.Trees.{PlainTree, PlainTrees, plain_tree, plain_trees}
 use Rattle.core_meaning.specs.Checking.{give}
 use Rattle.core_meaning.specs.Entities.{Scope, variable}
 use Rattle.core_meaning.specs.UnitNames.{UnitState, Storage, with_name, judged_global}
@@ -36,19 +37,6 @@ returns-in_err-judge_global c = λ globals.
     let outer : RefusedAs (placed_object globals unit storage ty name initialiser (plain_trees c.args.rest.now)) c.in_err-judge_global.field-0.0 = judged_refused globals unit storage ty name initialiser (plain_trees c.args.rest.now) scope c.in_err-judge_global.field-0.0 named judged in
     search (rules, outer)
 
-pub returns-in_err-define_object : goal.returns-in_err-define_object
-returns-in_err-define_object c = λ globals.
-    let unit : UnitState = plain_state globals c.args.unit.now in
-    let storage : Storage = plain_storage c.args.storage in
-    let ty : PlainType = plain_type c.args.ty.now in
-    let name : PlainToken = plain_token c.args.name.now in
-    let initialiser : Option PlainTree = option_map (λ t. plain_tree t.now) c.args.initialiser in
-    let scope : Scope = plain_scope c.declare_name.new.scope in
-    let named : with_name (plain_scope c.args.unit.now.scope) name (variable ty) storage ≡ give scope = search rules in
-    let judged : judged_global storage (is_some initialiser) scope ty name (plain_trees c.args.rest.now) ≡ give tt = search rules in
-    let outer : RefusedAs (placed_object globals unit storage ty name initialiser (plain_trees c.args.rest.now)) c.in_err-define_object.field-0.0 = definition_refused globals unit storage ty name initialiser (plain_trees c.args.rest.now) scope c.in_err-define_object.field-0.0 named judged (c.in_err-define_object.ensures globals) in
-    search (rules, outer)
-
 pub returns : goal.returns
 returns c = λ globals.
     let unit : UnitState = plain_state globals c.args.unit.now in
@@ -56,7 +44,10 @@ returns c = λ globals.
     let ty : PlainType = plain_type c.args.ty.now in
     let name : PlainToken = plain_token c.args.name.now in
     let initialiser : Option PlainTree = option_map (λ t. plain_tree t.now) c.args.initialiser in
+    let rest : PlainTrees = plain_trees c.args.rest.now in
     let scope : Scope = plain_scope c.declare_name.new.scope in
     let named : with_name (plain_scope c.args.unit.now.scope) name (variable ty) storage ≡ give scope = search rules in
-    let judged : judged_global storage (is_some initialiser) scope ty name (plain_trees c.args.rest.now) ≡ give tt = search rules in
-    placed_gives globals unit storage ty name initialiser (plain_trees c.args.rest.now) scope (plain_state globals c.define_object.new.unit) (uses_of c.args.used.now) (uses_of c.define_object.new.used) named judged (c.in_ok-define_object.ensures globals)
+    let judged : judged_global storage (is_some initialiser) scope ty name rest ≡ give tt = search rules in
+    MatchResult-weaker c.define_object.result (c.define_object.ensures globals)
+    (λ u g. placed_gives globals unit storage ty name initialiser rest scope (plain_state globals c.define_object.new.unit) (uses_of c.args.used.now) (uses_of c.define_object.new.used) named judged g)
+    (λ error r. definition_refused globals unit storage ty name initialiser rest scope error named judged r)
