@@ -10,7 +10,7 @@ ghost use Rattle.choice_lookahead.specs.Ahead.{next_kind};
 ghost use Rattle.choice_states.specs.Seen.{seen_in};
 ghost use Rattle.choice_states.specs.Parts.{values};
 ghost use Rattle.choice_settling.specs.Steps.{seen_of, stood};
-ghost use Rattle.choice_parser.specs.Units.{Nodes, StandsBehind, StaysBehind, HasRead, behind, IsSoFar, Progress, IsEnded, IsLowPart, IsParsed};
+ghost use Rattle.choice_parser.specs.Units.{Nodes, StandsBehind, StaysBehind, HasRead, nodes_behind, IsSoFar, Progress, IsEnded, IsLowPart, IsParsed};
 
 use crate::refusals::buried;
 use crate::units::{end_of_text, refused_in, still_in_unit};

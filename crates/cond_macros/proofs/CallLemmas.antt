@@ -5,12 +5,12 @@ use Rattle.std.proofs.lemmas.List.{map-append}
 use Rattle.c_text.specs.Token.{PlainToken}
 use Rattle.c_text.specs.Macros as spec
 use Rattle.cond_bodies.specs.Cores.{cores}
-use Rattle.cond_macros.specs.Looked.{looked, unless}
+use Rattle.cond_runs.specs.Looked.{looked, unless}
 use Rattle.cond_macros.specs.Readings.{look}
 use Rattle.cond_macros.specs.Outcomes.{is_bad_call, tokens_of}
 use Rattle.cond_macros.specs.Below.{below, cores_of, all_cores_of, unless_any, behind_lists, one_list}
 use Rattle.cond_macros.proofs.Cores.{Respects, level_alike, AreAlike, open_at, ends-cores, replacement_alike, substituted_alike}
-use Rattle.cond_macros.proofs.PieceLemmas.{looked_cores, looked_exact}
+use Rattle.cond_runs.proofs.Sites.{looked_cores, looked_exact}
 
 -- ---- levels
 
@@ -64,36 +64,37 @@ left_open_is table first last false items (Some xs) e =
 -- ---- a call
 
 module _ (table : spec.Table) (deeper : spec.Deeper) (respects : Respects deeper) (active : List (List ℕ)) where
-  body_given : (call : spec.Call) (first last another : PlainToken) (unfit refused : Bool) (lists : List (List spec.Item)) (body : List spec.Item) (found : Option (List (List spec.Item))) (given : Option (List spec.Item)) →
+  pub body_given : (call : spec.Call) (first last another : PlainToken) (refused : Bool) (lists : List (List spec.Item)) (body : List spec.Item) (found : Option (List (List spec.Item))) (given : Option (List spec.Item)) →
       first.text ≡ call.name.text → unless_any refused (map cores lists) ≡ all_cores_of found → AreAlike body (spec.substituted call.params lists call.body) →
       given ≡ cores_of (spec.replacement table deeper active first last body) →
       unless refused given ≡ cores_of (spec.body_replacement table deeper active call another found)
-  body_given call first last another unfit true lists body None given name e alike g = refl
-  body_given call first last another unfit true lists body (Some xs) given name e alike g = cc
-  body_given call first last another unfit false lists body None given name e alike g = cc
-  body_given call first last another unfit false lists body (Some xs) given name e alike g =
+  body_given call first last another true lists body None given name e alike g = refl
+  body_given call first last another true lists body (Some xs) given name e alike g = cc
+  body_given call first last another false lists body None given name e alike g = cc
+  body_given call first last another false lists body (Some xs) given name e alike g =
       g ∙ replacement_alike table deeper respects active first last call.name another body (spec.substituted call.params xs call.body) name
       (alike ∙ substituted_alike call.params lists xs call.body (some_parts (map cores lists) (map cores xs) e))
 
-  -- a call whose arguments are replaced so
-  pub call_given : (call : spec.Call) (first last another : PlainToken) (unfit refused : Bool) (lists : List (List spec.Item)) (body : List spec.Item) (given : Option (List spec.Item)) →
-      first.text ≡ call.name.text → unfit ≡ not (spec.fits call.params (spec.all_arguments call)) →
-      unless_any refused (map cores lists) ≡ all_cores_of (spec.all_replaced deeper active (spec.all_arguments call)) →
-      (spec.fits call.params (spec.all_arguments call) ≡ true → AreAlike body (spec.substituted call.params lists call.body)) →
-      given ≡ cores_of (spec.replacement table deeper active first last body) →
-      unless unfit (unless refused given) ≡ cores_of (spec.call_replacement table deeper active call another)
-  call_given call first last another unfit refused lists body given name is_unfit e alike g =
-      ap (λ (b : Bool). unless b (unless refused given)) is_unfit ∙ by_test (spec.fits call.params (spec.all_arguments call)) alike
+  -- a call whose function brings this where it fits
+  pub call_given : (call : spec.Call) (another : PlainToken) (unfit : Bool) (given : Option (List spec.Item)) → unfit ≡ not (spec.fits call.params (spec.all_arguments call)) →
+      (spec.fits call.params (spec.all_arguments call) ≡ true → given ≡ cores_of (spec.body_replacement table deeper active call another (spec.all_replaced deeper active (spec.all_arguments call)))) →
+      unless unfit given ≡ cores_of (spec.call_replacement table deeper active call another)
+  call_given call another unfit given is_unfit is_given =
+      ap (λ (b : Bool). unless b given) is_unfit ∙ by_test (spec.fits call.params (spec.all_arguments call)) is_given
     where
-      by_test : (b : Bool) → (b ≡ true → AreAlike body (spec.substituted call.params lists call.body)) →
-          unless (not b) (unless refused given) ≡ cores_of (if b then spec.body_replacement table deeper active call another (spec.all_replaced deeper active (spec.all_arguments call)) else None)
-      by_test true h = body_given call first last another unfit refused lists body (spec.all_replaced deeper active (spec.all_arguments call)) given name e (h refl) g
+      by_test : (b : Bool) → (b ≡ true → given ≡ cores_of (spec.body_replacement table deeper active call another (spec.all_replaced deeper active (spec.all_arguments call)))) →
+          unless (not b) given ≡ cores_of (if b then spec.body_replacement table deeper active call another (spec.all_replaced deeper active (spec.all_arguments call)) else None)
+      by_test true h = h refl
       by_test false h = refl
 
   -- a call that no function of its name can be
   pub call_unfit : (call : spec.Call) (another : PlainToken) (unfit : Bool) (items : Option (List spec.Item)) → unfit ≡ not (spec.fits call.params (spec.all_arguments call)) → spec.fits call.params (spec.all_arguments call) ≡ false →
       unless unfit items ≡ cores_of (spec.call_replacement table deeper active call another)
   call_unfit call another unfit items e f = rw (e, f) refl
+
+-- a list that isn't exact
+pub inexact : {A : Type 0} → false ≡ true → A
+inexact e = cc
 
 pub both_true : (a b w : Bool) → w ≡ (a && b) → IsTrue a → b ≡ true → IsTrue w
 both_true true b w e h f = e ∙ f

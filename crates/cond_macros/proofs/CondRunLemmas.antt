@@ -1,7 +1,7 @@
--- Open calls under conditions, step by step.
+-- Lists under conditions, step by step.
 use Rattle.std.proofs.Common.{◌≡◌, ℕ, zero, suc, ◌+◌, ◌<◌, ◌≤◌, Bool, true, false, ◌||◌, List, [], ◌∷◌, ◌++◌, map, drop, length, get_or, Option, Some, None, refl, sym, ap, subst, ◌∙◌, add-one, drop-cons, arith}
 use Rattle.std.specs.Prelude.{if◌then◌else◌}
-use Rattle.std.proofs.lemmas.List.{drop_all, map-append}
+use Rattle.std.proofs.lemmas.List.{drop_all}
 use Rattle.cond_formula.specs.Conditions.{condition_of, value}
 use Rattle.std.specs.Option.{option_map}
 use Rattle.c_text.specs.Token.{PlainToken}
@@ -12,44 +12,17 @@ use Rattle.macro_table.specs.declared.macros.Macros.{Macros}
 use Rattle.macro_table.specs.MacroTables.{macro_meaning, definitions_of}
 use Rattle.macro_table.specs.Features.{is_on_feature, macros_at}
 use Rattle.conditional.specs.declared.entries.Guarded.{Guarded}
-use Rattle.conditional.specs.Entries.{first, seen, under}
+use Rattle.conditional.specs.Entries.{first, seen}
 use Rattle.cond_bodies.specs.declared.item.Item.{Item}
 use Rattle.cond_bodies.specs.CondItems.{item_at, items_at}
 use Rattle.cond_bodies.specs.CondMeanings.{PlainFunction}
 use Rattle.cond_bodies.proofs.ItemLemmas.{seen_next}
 use Rattle.cond_bodies.proofs.LevelLemmas.{is_some_list}
-use Rattle.cond_macros.specs.Functions.{some_seen, without_params}
-use Rattle.cond_macros.proofs.NameLemmas.{some_body}
-use Rattle.cond_macros.specs.declared.calls.Call.{Call}
+use Rattle.cond_runs.specs.Functions.{some_seen}
 use Rattle.cond_macros.specs.Owned.{IsOwn, AreOwn}
-use Rattle.cond_macros.specs.Pieces.{Piece, some_open, ended}
+use Rattle.cond_runs.specs.Pieces.{Piece, ended}
 use Rattle.cond_macros.specs.Readings.{ListBecomes}
-use Rattle.cond_macros.specs.CondCalls.{held_at, call_entry, calls_at}
-use Rattle.cond_macros.proofs.ArgumentLemmas.{or_false}
-use Rattle.cond_macros.proofs.RunLemmas.{held_pushed, open_cases}
 use Rattle.cond_macros.proofs.PieceLemmas.{end_reads}
-
-next_call : (xs : List Call) (x : Call) (i : ℕ) → i < length xs → x ≡ get_or xs i x → drop i xs ≡ x ∷ drop (i + 1) xs
-next_call xs x i within is = rw (add-one, drop-cons xs i x within) (ap (λ (y : Call). y ∷ drop (suc i) xs) (sym is))
-
-pub open_step : (on : ℕ → Bool) (xs : List Call) (x : Call) (i : ℕ) (some new all : Bool) → i < length xs → x ≡ get_or xs i x → new ≡ (some || value on (condition_of x.when)) →
-    (some || some_open (calls_at on (drop i xs))) ≡ all → (new || some_open (calls_at on (drop (i + 1) xs))) ≡ all
-open_step on xs x i some new all within is is_new before =
-    let before' = rw (next_call xs x i within is) at before in
-    ap (λ (b : Bool). b || some_open (calls_at on (drop (i + 1) xs))) is_new ∙ open_cases some (value on (condition_of x.when)) all (held_at on x) (calls_at on (drop (i + 1) xs)) before'
-
-pub open_end : (on : ℕ → Bool) (xs : List Call) (i : ℕ) (some all : Bool) → length xs ≤ i → (some || some_open (calls_at on (drop i xs))) ≡ all → some ≡ all
-open_end on xs i some all past before =
-    let e = drop_all i xs past in
-    let before' = rw e at before in
-    or_false some ∙ before'
-
--- one call more
-pub calls_pushed : (on : ℕ → Bool) (xs longer : List Call) (x : Call) → longer ≡ xs ++ x ∷ [] → calls_at on longer ≡ calls_at on xs ++ under (value on (condition_of x.when)) (held_at on x ∷ [])
-calls_pushed on xs longer x is =
-    ap (λ (l : List Call). calls_at on l) is
-    ∙ ap (seen on) (map-append (call_entry on) xs (x ∷ []))
-    ∙ held_pushed on (map (call_entry on) xs) (call_entry on x)
 
 -- ---- lists that are read
 
@@ -78,10 +51,6 @@ own_pushed [] x all own = (own, tt)
 own_pushed (y ∷ xs) x all own = (all.0, own_pushed xs x all.1 own)
 
 -- ---- meanings
-
-pub bodies_hold : (bodies : List (List PlainToken)) → is_some_list (map without_params bodies) ≡ some_body bodies
-bodies_hold [] = refl
-bodies_hold (body ∷ bodies) = refl
 
 pub lists_some : (fs : List PlainFunction) → is_some_list fs ≡ some_seen fs
 lists_some [] = refl

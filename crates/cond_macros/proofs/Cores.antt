@@ -3,32 +3,11 @@ use Rattle.std.proofs.Common.{◌≡◌, ℕ, zero, suc, Bool, true, false, ◌&
 use Rattle.std.specs.Prelude.{if◌then◌else◌, codes, ◌==◌, ⊤}
 use Rattle.std.specs.Option.{option_map}
 use Rattle.std.proofs.lemmas.List.{map-append, length-map}
-use Rattle.c_text.specs.declared.origin.Place.{Place}
-use Rattle.c_text.specs.declared.origin.Place.TheVariants as place
 use Rattle.c_text.specs.Token.{PlainToken}
 use Rattle.c_text.specs.Directives.{is_spelled, is_word}
-use Rattle.c_text.specs.Macros.{Table, Item, Deeper, Replaced, fine, bad_call, in_call, brought, meaning_of, ends_in_function, opens, before, call_then, unless_bad, Call, replacement, unless_left_open, and_then, all_replaced, substituted, substituted_for, fits, body_replacement, all_arguments, call_replacement, Progress, goes_on, ends, with_item, next_argument, opening, closing, progress, Meaning, feature, object, function, fresh, begun, treatment, treated, progressed, is_named_in, outside, inside, level}
+use Rattle.c_text.specs.Macros.{Table, Item, Deeper, Replaced, fine, bad_call, brought, meaning_of, ends_in_function, opens, before, call_then, unless_bad, Call, replacement, unless_left_open, and_then, all_replaced, substituted, substituted_for, fits, body_replacement, all_arguments, call_replacement, Progress, goes_on, ends, with_item, next_argument, opening, closing, progress, Meaning, feature, object, function, fresh, begun, treatment, treated, progressed, is_named_in, outside, inside, level}
 use Rattle.cond_bodies.specs.Cores.{core, cores}
-
-pub in_call_twice : (p : Place) → in_call (in_call p) ≡ in_call p
-in_call_twice place.Text = refl
-in_call_twice place.MacroArgument = refl
-in_call_twice place.MacroBody = refl
-
--- a call's site and place are all that it gives to an item
-pub core-brought : (first last : PlainToken) (item : Item) → core (brought first last item) ≡ core item
-core-brought first last item = rw (in_call_twice item.token.origin.place) refl
-
-pub brought-core : (first last : PlainToken) (item : Item) → brought first last (core item) ≡ brought first last item
-brought-core first last item = rw (in_call_twice item.token.origin.place) refl
-
-pub cores-brought : (first last : PlainToken) (items : List Item) → cores (map (brought first last) items) ≡ cores items
-cores-brought first last [] = refl
-cores-brought first last (item ∷ items) = ap (λ (x : Item). x ∷ cores (map (brought first last) items)) (core-brought first last item) ∙ ap (λ (xs : List Item). core item ∷ xs) (cores-brought first last items)
-
-pub brought-cores : (first last : PlainToken) (items : List Item) → map (brought first last) (cores items) ≡ map (brought first last) items
-brought-cores first last [] = refl
-brought-cores first last (item ∷ items) = ap (λ (x : Item). x ∷ map (brought first last) (cores items)) (brought-core first last item) ∙ ap (λ (xs : List Item). brought first last item ∷ xs) (brought-cores first last items)
+use Rattle.cond_runs.proofs.Sites.{core-brought, cores-brought}
 
 -- what is looked at in a list stays
 pub ends-cores : (table : Table) (items : List Item) → ends_in_function table (cores items) ≡ ends_in_function table items

@@ -4,5 +4,4 @@ pub mod NameLemmas
 pub mod CallLemmas
 pub mod TurnLemmas
 pub mod ArgumentLemmas
-pub mod RunLemmas
 pub mod CondRunLemmas

@@ -4,8 +4,8 @@ use Rattle.std.specs.Prelude.{is_some}
 use Rattle.c_text.specs.Token.{PlainToken}
 use Rattle.c_text.specs.Macros as spec
 use Rattle.cond_bodies.specs.CondMeanings.{PlainFunction, is_feature, object_of, function_of}
-use Rattle.cond_macros.specs.Functions.{is_single, or_function, some_seen, without_params, kept_item}
-use Rattle.cond_macros.specs.Pieces.{Piece, also, under_piece, items_piece, given_piece, open_piece, brought_again, outside_piece}
+use Rattle.cond_runs.specs.Functions.{is_single, or_function, some_seen, without_params, kept_item}
+use Rattle.cond_runs.specs.Pieces.{Piece, also, under_piece, items_piece, given_piece, open_piece, brought_again, outside_piece}
 use Rattle.cond_macros.proofs.PieceLemmas.{also-nothing}
 
 four_features : (s : Option Piece) (w : Bool) (p q r t : Option Piece) → also (also (also (also s (under_piece (w && true) p)) (under_piece (w && false) q)) (under_piece (w && false) r)) (under_piece (((w && not true) && not false) && not false) t) ≡ also s (under_piece w p)

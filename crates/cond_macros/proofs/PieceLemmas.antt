@@ -6,10 +6,10 @@ use Rattle.std.proofs.lemmas.List.{map-append}
 use Rattle.c_text.specs.Token.{PlainToken}
 use Rattle.c_text.specs.Macros as spec
 use Rattle.cond_bodies.specs.Cores.{core, cores}
-use Rattle.cond_macros.specs.Looked.{looked}
-use Rattle.cond_macros.specs.Pieces.{Held, Piece, nothing_done, unless_refused, also, under_piece, items_piece, given_piece, open_piece, some_open, ended, without_calls, brought_again, progress_piece, turn_piece, turn_pieces, outside_piece}
+use Rattle.cond_runs.specs.Looked.{looked}
+use Rattle.cond_runs.specs.Pieces.{Held, Piece, nothing_done, unless_refused, also, under_piece, items_piece, given_piece, open_piece, some_open, ended, without_calls, brought_again, progress_piece, turn_piece, turn_pieces, outside_piece}
 use Rattle.cond_macros.specs.Readings.{look, prepended, IsSound, items_behind, goes_on, IsSoundPiece, ListBecomes}
-use Rattle.cond_macros.proofs.Cores.{in_call_twice, core-brought, cores-brought}
+use Rattle.cond_runs.proofs.Sites.{in_call_twice, core-brought, cores-brought, looked_cores}
 
 -- ---- pieces are a monoid
 
@@ -45,14 +45,6 @@ brought_twice first last item = rw (in_call_twice item.token.origin.place) refl
 all_brought_twice : (first last : PlainToken) (items : List spec.Item) → map (spec.brought first last) (map (spec.brought first last) items) ≡ map (spec.brought first last) items
 all_brought_twice first last [] = refl
 all_brought_twice first last (item ∷ items) = ap (λ (x : spec.Item). x ∷ map (spec.brought first last) (map (spec.brought first last) items)) (brought_twice first last item) ∙ ap (λ (xs : List spec.Item). spec.brought first last item ∷ xs) (all_brought_twice first last items)
-
-pub looked_cores : (items : List spec.Item) → map (looked false) items ≡ cores items
-looked_cores [] = refl
-looked_cores (item ∷ items) = ap (λ (xs : List spec.Item). core item ∷ xs) (looked_cores items)
-
-pub looked_exact : (items : List spec.Item) → map (looked true) items ≡ items
-looked_exact [] = refl
-looked_exact (item ∷ items) = ap (λ (xs : List spec.Item). item ∷ xs) (looked_exact items)
 
 -- what a call brings is the same under sites of its own
 brought_looked : (exact : Bool) (first last other another : PlainToken) (items : List spec.Item) → (exact ≡ true → first ≡ other) → (exact ≡ true → last ≡ another) →

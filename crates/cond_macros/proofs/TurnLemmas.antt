@@ -1,14 +1,14 @@
 -- An item in open calls, where a configuration may have it or not.
-use Rattle.std.proofs.Common.{◌≡◌, ℕ, zero, suc, ◌<◌, Bool, true, false, not, ◌&&◌, List, [], ◌∷◌, ◌++◌, Option, Some, None, refl, sym, ap, ◌∙◌, arith}
-use Rattle.std.specs.Prelude.{if◌then◌else◌, codes, nat_lt, ◌==◌}
+use Rattle.std.proofs.Common.{◌≡◌, ℕ, zero, suc, Bool, true, false, not, ◌&&◌, List, [], ◌∷◌, ◌++◌, Option, Some, None, refl, sym, ap, ◌∙◌, arith}
+use Rattle.std.specs.Prelude.{if◌then◌else◌, codes, nat_lt}
 use Rattle.std.proofs.lemmas.Grind.{common_steps}
 use Rattle.c_text.specs.Token.{PlainToken}
 use Rattle.c_text.specs.Directives.{is_spelled}
 use Rattle.c_text.specs.Macros as spec
 use Rattle.conditional.specs.Entries.{under}
 use Rattle.cond_macros.specs.Below.{cores_of}
-use Rattle.cond_macros.specs.Pieces.{Held, Piece, also, under_piece, given_piece, open_piece, some_open, brought_again, progress_piece, turn_piece, turn_pieces}
-use Rattle.cond_macros.proofs.Cores.{brought-cores}
+use Rattle.cond_runs.specs.Pieces.{Held, Piece, also, under_piece, given_piece, open_piece, some_open, brought_again, progress_piece, turn_piece, turn_pieces}
+use Rattle.cond_runs.proofs.Sites.{brought-cores}
 use Rattle.cond_macros.proofs.PieceLemmas.{also-nothing, also-assoc, turn_pieces-append}
 
 -- what can't be changes nothing
@@ -49,18 +49,6 @@ progress_ends call item h =
     and_parts : (a b : Bool) → (a && b) ≡ true → (a ≡ true) × (b ≡ true)
     and_parts true b h = (refl, h)
     and_parts false b h = cc
-
-pub plain_progress : (call : spec.Call) (item : spec.Item) → is_spelled (codes ")") item.token ≡ false → is_spelled (codes "(") item.token ≡ false → (is_spelled (codes ",") item.token && call.nested == 1) ≡ false →
-    spec.progress call item ≡ spec.goes_on (spec.with_item call item)
-plain_progress call item e f g = rw (e, f, g) refl
-
-pub false_last : (b : Bool) → (b && false) ≡ false
-false_last true = refl
-false_last false = refl
-
-pub deep : (a : Bool) (n : ℕ) → (a && nat_lt n 2) ≡ false → a ≡ true → 1 < n
-deep true n e f = grind (arith, common_steps)
-deep false n e f = cc
 
 module _ (exact : Bool) (table : spec.Table) (deeper : spec.Deeper) (active : List (List ℕ)) where
   pub ends_piece : (s after : Option Piece) (w : Bool) (held : Held) (item : spec.Item) (own : PlainToken) (given : Option (List spec.Item)) → spec.progress held.call item ≡ spec.ends →

@@ -7,7 +7,7 @@ use Rattle.macro_table.specs.Features.{macros_at}
 use Rattle.cond_bodies.specs.Cores.{cores}
 use Rattle.cond_bodies.specs.declared.levels.Level.{Level}
 use Rattle.cond_macros.specs.Below.{below, unless_any}
-use Rattle.cond_macros.specs.CondArguments.{lists_at}
+use Rattle.cond_runs.specs.CondArguments.{lists_at}
 use Rattle.cond_macros.specs.declared.replacing.Replaced.{Replaced}
 
 abbrev pub macros_in : List Bool → Level → spec.Table

@@ -1,12 +1,5 @@
-pub mod Looked
 pub mod Outcomes
 pub mod Below
-pub mod Functions
-pub mod CondArguments
-pub mod Pieces
-pub mod CondCalls
-pub mod CondFinished
-pub mod CondRuns
 pub mod Owned
 pub mod Readings
 pub mod CondLevels

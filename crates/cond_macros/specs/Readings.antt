@@ -1,8 +1,8 @@
 -- A list that is read in part, seen in a configuration.
 use Rattle.std.specs.Prelude.{◌≡◌, ℕ, Bool, true, ⊤, List, [], ◌∷◌, ◌++◌, map, Option, Some, None}
 use Rattle.c_text.specs.Macros as spec
-use Rattle.cond_macros.specs.Looked.{looked}
-use Rattle.cond_macros.specs.Pieces.{Piece, Held}
+use Rattle.cond_runs.specs.Looked.{looked}
+use Rattle.cond_runs.specs.Pieces.{Piece, Held}
 
 -- what a list becomes, as it is or but for sites and places
 abbrev pub look : Bool → spec.Replaced → Option (List spec.Item)

@@ -7,27 +7,24 @@ ghost use Rattle.cond_formula.specs.Conditions.{condition_of, value};
 ghost use Rattle.conditional.specs.Entries.{entries_of, seen};
 ghost use Rattle.cond_bodies.specs.CondItems.{item_at, items_at};
 ghost use Rattle.cond_bodies.specs.CondMeanings.{Means, plain_function};
-ghost use Rattle.cond_macros.specs.Functions.{is_single, or_function, some_seen, without_params, kept_item};
-ghost use Rattle.cond_macros.specs.CondArguments.{lists_at};
-ghost use Rattle.cond_macros.specs.CondCalls.{call_at, calls_at, held_at};
-ghost use Rattle.cond_macros.specs.CondFinished.{given_at};
-ghost use Rattle.cond_macros.specs.CondRuns.{run_at};
+ghost use Rattle.cond_runs.specs.Functions.{is_single, or_function, some_seen, without_params, kept_item};
+ghost use Rattle.cond_runs.specs.CondArguments.{lists_at};
+ghost use Rattle.cond_runs.specs.CondCalls.{call_at, calls_at, held_at};
+ghost use Rattle.cond_runs.specs.CondFinished.{given_at};
+ghost use Rattle.cond_runs.specs.CondRuns.{run_at};
 ghost use Rattle.cond_macros.specs.CondLevels.{macros_in, active_in, deeper_in, is_within, replaced_at};
 ghost use Rattle.cond_macros.specs.Below.{cores_of, all_cores_of, behind_lists, one_list};
 ghost use Rattle.cond_macros.specs.Owned.{IsOwn, AreOwn};
 ghost use Rattle.cond_macros.specs.Readings.{look, ListBecomes};
-ghost use Rattle.cond_macros.specs.Pieces.{also, under_piece, items_piece, given_piece, open_piece, brought_again, some_open, without_calls, turn_piece, turn_pieces, outside_piece};
+ghost use Rattle.cond_runs.specs.Pieces.{also, under_piece, items_piece, given_piece, open_piece, brought_again, some_open, without_calls, turn_piece, turn_pieces, outside_piece};
 
-use crate::arguments::all_fitting;
-use crate::calls::{Call, all_arguments};
-use crate::finished::Finished;
-use crate::runs::Run;
 use c_text::Token;
 use cond_bodies::{
     Function, Item, Level, Meanings, inner, is_active, joined_body, may, meanings_of, when_opens,
     when_some,
 };
 use cond_formula::{Formula, NoMemory, Oracle};
+use cond_runs::{Call, Finished, Run, all_arguments, all_fitting};
 use conditional::Guarded;
 use reduced_conditions::{both, either, is_never, without};
 use std::alloc::Global;
@@ -42,7 +39,7 @@ pub struct Replaced<'t> {
 
 impl<'t> Replaced<'t> {
     // One more argument.
-    #[tactic(auto, unfolding(crate::specs::CondFinished::given_at))]
+    #[tactic(auto, unfolding(cond_runs::specs::CondFinished::given_at))]
     fn add(&mut self, alloc: Global, argument: Finished<'t>) -> Result<(), NoMemory>
         ensures { OnOk result ((on : ℕ → Bool) → replaced_at on self.new ≡ behind_lists (replaced_at on self.old) (one_list (given_at false on argument.entry))) }
     {
@@ -89,8 +86,7 @@ fn deeper<'t, O: Oracle>(
         left: level.left - 1,
         within: level.within,
     };
-    let f = replaced_list(&inner, oracle, items)?;
-    Ok(f)
+    replaced_list(&inner, oracle, items)
 }
 
 // What replaces a name whose bodies, with their arguments, are this list.
@@ -115,8 +111,7 @@ fn replacement<'t, O: Oracle>(
         within,
     };
     let f = deeper(&inner, oracle, body)?;
-    let f = f.unless_left_open(level.alloc, &level.macros)?;
-    Ok(f)
+    f.unless_left_open(level.alloc, &level.macros)
 }
 
 // The arguments of a call, each replaced by itself.
@@ -149,6 +144,53 @@ fn arguments_replaced<'t, O: Oracle>(
     Ok(replaced)
 }
 
+// What functions that fit bring with these arguments.
+#[cycle(lists)]
+fn fitting_brought<'t, O: Oracle>(
+    level: &Level<'t, '_>,
+    oracle: &mut O,
+    name: &'t Token,
+    within: &Formula,
+    functions: &[Guarded<Function<'t>>],
+    arguments: &[Vec<Guarded<Item<'t>>>],
+) -> Result<Finished<'t>, NoMemory>
+    ensures kept { O.admits oracle.new ≡ O.admits oracle.old }
+    ensures given { IfOk result (λ f. (c : List Bool) (call : spec.Call) (last : PlainToken) → IsTrue (value (has c) (O.admits oracle.old)) → IsTrue (value (has c) (condition_of within.now)) → name.now.text.items ≡ call.name.text → seen (has c) (entries_of plain_function functions.now) ≡ record { params = call.params; body = call.body } ∷ [] → lists_at (has c) arguments.now ≡ spec.all_arguments call → given_at false (has c) f ≡ cores_of (spec.body_replacement (macros_in c level.now) (deeper_in c level.now) (active_in level.now) call last (spec.all_replaced (deeper_in c level.now) (active_in level.now) (spec.all_arguments call)))) }
+{
+    let replaced = arguments_replaced(level, oracle, within, arguments)?;
+    let body = joined_body(level.alloc, functions, replaced.lists.as_slice())?;
+    let f = replacement(level, oracle, name, within, body.as_slice())?;
+    f.refused_too(level.alloc, replaced.refused)
+}
+
+// What a call of one of these functions brings with these arguments.
+#[cycle(lists)]
+fn brought<'t, O: Oracle>(
+    level: &Level<'t, '_>,
+    oracle: &mut O,
+    name: &'t Token,
+    within: &Formula,
+    functions: &[Guarded<Function<'t>>],
+    arguments: &[Vec<Guarded<Item<'t>>>],
+) -> Result<Finished<'t>, NoMemory>
+    ensures kept { O.admits oracle.new ≡ O.admits oracle.old }
+    ensures given { IfOk result (λ f. (c : List Bool) (call : spec.Call) (last : PlainToken) → IsTrue (value (has c) (O.admits oracle.old)) → IsTrue (value (has c) (condition_of within.now)) → name.now.text.items ≡ call.name.text → seen (has c) (entries_of plain_function functions.now) ≡ record { params = call.params; body = call.body } ∷ [] → lists_at (has c) arguments.now ≡ spec.all_arguments call → given_at false (has c) f ≡ cores_of (spec.call_replacement (macros_in c level.now) (deeper_in c level.now) (active_in level.now) call last)) }
+{
+    let fit = all_fitting(level.alloc, functions, arguments)?;
+    if fit.is_none() {
+        return Ok(Finished::nothing(level.alloc, fit.unfit));
+    }
+    let f = fitting_brought(
+        level,
+        oracle,
+        name,
+        within,
+        fit.functions.as_slice(),
+        arguments,
+    )?;
+    f.refused_too(level.alloc, fit.unfit)
+}
+
 // What a call brings, where it is open and ends.
 #[cycle(lists)]
 fn called<'t, O: Oracle>(
@@ -159,21 +201,18 @@ fn called<'t, O: Oracle>(
     ensures kept { O.admits oracle.new ≡ O.admits oracle.old }
     ensures given { IfOk result (λ f. (c : List Bool) (last : PlainToken) → IsTrue (value (has c) (O.admits oracle.old)) → IsTrue (is_within c level.now) → value (has c) (condition_of call.entry.when) ≡ true → given_at false (has c) f ≡ cores_of (spec.call_replacement (macros_in c level.now) (deeper_in c level.now) (active_in level.now) (call_at (has c) call.entry) last)) }
 {
-    let alloc = level.alloc;
+    let within = inner(level.alloc, level.within, &call.when)?;
     let name = call.name.token;
-    let within = inner(alloc, level.within, &call.when)?;
     let functions = call.functions;
     let arguments = all_arguments(call.arguments, call.last)?;
-    let fit = all_fitting(alloc, functions.as_slice(), arguments.as_slice())?;
-    if fit.is_none() {
-        return Ok(Finished::nothing(alloc, fit.unfit));
-    }
-    let replaced = arguments_replaced(level, oracle, &within, arguments.as_slice())?;
-    let body = joined_body(alloc, fit.functions.as_slice(), replaced.lists.as_slice())?;
-    let f = replacement(level, oracle, name, &within, body.as_slice())?;
-    let f = f.refused_too(alloc, replaced.refused)?;
-    let f = f.refused_too(alloc, fit.unfit)?;
-    Ok(f)
+    brought(
+        level,
+        oracle,
+        name,
+        &within,
+        functions.as_slice(),
+        arguments.as_slice(),
+    )
 }
 
 // Reads an item that ends a call or goes on with it, where the call is open and the item is present.
@@ -391,6 +430,39 @@ fn when_none(
     Ok(left)
 }
 
+// Where a name is treated in each of the ways.
+#[derive(Drop)]
+struct Ways {
+    feature: Formula,
+    object: Formula,
+    call: Formula,
+    stays: Formula,
+}
+
+fn ways_of<'t>(
+    alloc: Global,
+    when: &Formula,
+    feature: &Formula,
+    objects: &[Guarded<Function<'t>>],
+    functions: &[Guarded<Function<'t>>],
+    rest: &[Guarded<Item<'t>>],
+) -> Result<Ways, NoMemory>
+    ensures feature { IfOk result (λ ways. (on : ℕ → Bool) → value on (condition_of ways.feature) ≡ (value on (condition_of when.now) && value on (condition_of feature.now))) }
+    ensures object { IfOk result (λ ways. (on : ℕ → Bool) → value on (condition_of ways.object) ≡ (value on (condition_of when.now) && some_seen (seen on (entries_of plain_function objects.now)))) }
+    ensures call { IfOk result (λ ways. (on : ℕ → Bool) → value on (condition_of ways.call) ≡ (value on (condition_of when.now) && (some_seen (seen on (entries_of plain_function functions.now)) && spec.opens (items_at on rest.now)))) }
+    ensures stays { IfOk result (λ ways. (on : ℕ → Bool) → value on (condition_of ways.stays) ≡ (((value on (condition_of when.now) && not (value on (condition_of feature.now))) && not (some_seen (seen on (entries_of plain_function objects.now)))) && not (some_seen (seen on (entries_of plain_function functions.now)) && spec.opens (items_at on rest.now)))) }
+{
+    let some = when_some(alloc, objects)?;
+    let calls = when_called(alloc, functions, rest)?;
+    let stays = when_none(alloc, when, feature, &some, &calls)?;
+    Ok(Ways {
+        feature: inner(alloc, when, feature)?,
+        object: inner(alloc, when, &some)?,
+        call: inner(alloc, when, &calls)?,
+        stays,
+    })
+}
+
 // Object-like macros as functions without parameters.
 fn as_functions<'t>(
     alloc: Global,
@@ -427,34 +499,19 @@ fn name_turn<'t, O: Oracle>(
     ensures kept { O.admits oracle.new ≡ O.admits oracle.old }
     ensures read { OnOk result ((exact : Bool) (c : List Bool) → IsTrue (value (has c) (O.admits oracle.old)) → IsTrue (is_within c level.now) → run_at exact (has c) run.new ≡ also (run_at exact (has c) run.old) (under_piece (value (has c) (condition_of when.now)) (outside_piece exact (macros_in c level.now) (deeper_in c level.now) (active_in level.now) (item_at (has c) item.now) (plain_token item.now.token.now) (spec.treatment (item_at (has c) item.now) false (spec.opens (items_at (has c) rest.now)) (macros_in c level.now item.now.token.now.text.items))))) }
 {
-    let alloc = level.alloc;
-    let Meanings {
-        feature,
-        objects,
-        functions,
-    } = meanings;
-    let objects = as_functions(alloc, objects.as_slice())?;
-    let some = when_some(alloc, objects.as_slice())?;
-    let calls = when_called(alloc, functions.as_slice(), rest)?;
-    let stays = when_none(alloc, when, &feature, &some, &calls)?;
-    feature_turn(level, run, inner(alloc, when, &feature)?, item)?;
-    object_turn(
-        level,
-        oracle,
-        run,
-        &inner(alloc, when, &some)?,
-        item,
+    let objects = as_functions(level.alloc, meanings.objects.as_slice())?;
+    let ways = ways_of(
+        level.alloc,
+        when,
+        &meanings.feature,
         objects.as_slice(),
+        meanings.functions.as_slice(),
+        rest,
     )?;
-    begin_call(
-        level,
-        oracle,
-        run,
-        inner(alloc, when, &calls)?,
-        item,
-        functions,
-    )?;
-    stay_turn(level, oracle, run, stays, item)?;
+    feature_turn(level, run, ways.feature, item)?;
+    object_turn(level, oracle, run, &ways.object, item, objects.as_slice())?;
+    begin_call(level, oracle, run, ways.call, item, meanings.functions)?;
+    stay_turn(level, oracle, run, ways.stays, item)?;
     Ok(())
 }
 

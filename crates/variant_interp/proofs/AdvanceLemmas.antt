@@ -15,9 +15,9 @@ use Rattle.interp_actions.specs.Finish.{finish, on_ending}
 use Rattle.interp_actions.specs.Pieces.{operands_in}
 use Rattle.interp_actions.specs.Stacks.{actions_of, operands_of, NoEnding}
 use Rattle.interp_actions.specs.StackLaws.{fails_behind}
-use Rattle.variant_interp.specs.declared.machine.Machine.{Machine}
-use Rattle.variant_interp.specs.Library.{status_flow}
-use Rattle.variant_interp.specs.Machines.{outcome_of, outcome_on, DoesAction, Advances, program_of, state_of}
+use Rattle.run_machine.specs.declared.machine.Machine.{Machine}
+use Rattle.run_calls.specs.Library.{status_flow}
+use Rattle.run_machine.specs.Machines.{outcome_of, outcome_on, DoesAction, Advances, program_of, state_of}
 
 pub does_advances : (flow : Flow) (action : Action) (old middle new : Machine) → DoesAction flow action middle new → outcome_on action middle ≡ outcome_of old → Advances flow old new
 does_advances Goes action old middle new does same = does ∙ same

@@ -1,14 +1,2 @@
-pub mod MachineLemmas
-pub mod ContinuedLaws
-pub mod FrameLemmas
-pub mod TextLemmas
-pub mod LibraryLemmas
-pub mod PositionLemmas
-pub mod ObjectLemmas
-pub mod ListLemmas
 pub mod AdvanceLemmas
-pub mod OutputLemmas
-pub mod CallLemmas
-pub mod ScopeLemmas
-pub mod PartLemmas
 pub mod RunLemmas

@@ -11,11 +11,11 @@ use Rattle.interp_actions.specs.Continued.{enter_function_then, job_then}
 use Rattle.interp_actions.specs.Forms.{plain_actions, plain_operand, plain_frame}
 use Rattle.interp_actions.specs.Finish.{finish}
 use Rattle.interp_actions.specs.Stacks.{actions_of, operands_of}
-use Rattle.variant_interp.specs.declared.machine.Machine.{Machine}
-use Rattle.variant_interp.specs.Machines.{outcome_of, program_of, state_of}
+use Rattle.run_machine.specs.declared.machine.Machine.{Machine}
+use Rattle.run_machine.specs.Machines.{outcome_of, program_of, state_of}
 use Rattle.variant_interp.specs.Starts.{Begins}
-use Rattle.variant_interp.proofs.ContinuedLaws.{after_nothing, first_call_is}
-use Rattle.variant_interp.proofs.FrameLemmas.{nothing_declared}
+use Rattle.run_machine.proofs.ContinuedLaws.{after_nothing, first_call_is}
+use Rattle.run_machine.proofs.FrameLemmas.{nothing_declared}
 
 abbrev bare : List PlainType → Frame
 bare types = record { types = types; objects = λ k. None }

@@ -10,9 +10,9 @@ use Rattle.core_meaning.specs.Run.{Answer, answer_of}
 use Rattle.interp_actions.specs.Actions.{items_action}
 use Rattle.interp_actions.specs.Forms.{plain_actions}
 use Rattle.interp_actions.specs.Stacks.{actions_of, operands_of}
-use Rattle.variant_interp.specs.declared.machine.Machine.{Machine}
-use Rattle.variant_interp.specs.Frames.{no_slots}
-use Rattle.variant_interp.specs.Machines.{program_of, state_of}
+use Rattle.run_machine.specs.declared.machine.Machine.{Machine}
+use Rattle.run_machine.specs.Frames.{no_slots}
+use Rattle.run_machine.specs.Machines.{program_of, state_of}
 
 -- the state in which a run begins
 abbrev pub first_state : List ℕ → Memory → State

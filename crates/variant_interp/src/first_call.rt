@@ -12,12 +12,12 @@ ghost use Rattle.variant_interp.specs.Answers.{plain_answer};
 ghost use Rattle.variant_interp.specs.Starts.{answer_from, first_state, Begins};
 
 use crate::answer::RunAnswer;
-use crate::frames::frame_of;
-use crate::machine::Machine;
+use crate::machine::until_answer;
 use cond_formula::NoMemory;
 use core_meaning::{CoreProgram, Definition, Function};
 use core_memory::Memory;
 use interp_actions::{Action, Control, push};
+use run_machine::{Machine, frame_of};
 use std::alloc::Global;
 
 /// A run from what stands in memory before `main` begins.
@@ -54,7 +54,7 @@ fn run_main<'a>(
     ensures { IfOk result (λ answer. plain_answer answer ≡ answer_from (plain_program program.now) input.now bound (plain_memory memory.entry)) }
 {
     let machine = first_machine(alloc, program, input, bound, memory, definition)?;
-    let answer = machine.run()?;
+    let answer = until_answer(machine)?;
     Ok(answer)
 }
 

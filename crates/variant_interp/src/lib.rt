@@ -6,16 +6,9 @@ ghost use Rattle.core_meaning.specs.Plain.{plain_program};
 ghost use Rattle.core_meaning.specs.Run as meaning;
 ghost use Rattle.variant_interp.specs.Answers.{plain_answer};
 
-mod actions;
 mod answer;
-mod calls;
-mod declarations;
 mod first_call;
-mod frames;
-mod library;
 mod machine;
-mod objects;
-mod statements;
 mod steps;
 
 pub use answer::RunAnswer;

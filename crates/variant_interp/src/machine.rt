@@ -2,74 +2,57 @@
 ghost use Rattle.std.specs.Prelude.{◌≡◌, [], ◌∷◌, IfOk, IfSome, IfNone};
 ghost use Rattle.core_cells.specs.Forms.{plain_value};
 ghost use Rattle.core_meaning.specs.Run.{answer_of};
-ghost use Rattle.variant_interp.specs.Machines.{outcome_of, Advances};
+ghost use Rattle.run_machine.specs.Machines.{outcome_of, Advances};
 ghost use Rattle.variant_interp.specs.Answers.{plain_answer};
-ghost use Rattle.variant_interp.specs.Library.{status_flow};
+ghost use Rattle.run_calls.specs.Library.{status_flow};
 ghost use Rattle.interp_actions.specs.Stacks.{actions_of, operands_of};
 
 use crate::answer::RunAnswer;
-use crate::library::int_of;
+use crate::steps::step;
 use cond_formula::NoMemory;
 use core_cells::{Scalar, Value};
-use core_meaning::CoreProgram;
-use core_memory::Memory;
-use interp_actions::{Action, Control, Ending, Flow, Frame};
-use std::alloc::{AllocError, Global};
+use interp_actions::{Action, Control, Ending, Flow};
+use run_calls::int_of;
+use run_machine::Machine;
+use std::alloc::AllocError;
 
-/// A run under way.
-#[derive(Drop)]
-pub struct Machine<'a> {
-    pub alloc: Global,
-    pub program: &'a CoreProgram,
-    /// The input that is left.
-    pub input: &'a [u8],
-    pub output: Vec<u8>,
-    pub memory: Memory<'a>,
-    /// The temporary objects of the full expression under way.
-    pub temporaries: Vec<usize>,
-    pub frame: Frame<'a>,
-    pub control: Control<'a>,
+/// Does actions until the run comes to an answer.
+pub fn until_answer<'a>(mut machine: Machine<'a>) -> Result<RunAnswer, NoMemory>
+    ensures { IfOk result (λ answer. plain_answer answer ≡ answer_of (outcome_of machine.entry)) }
+{
+    // No machine does more actions than these.
+    for number in 0..u64::MAX {
+        match next(&mut machine)? {
+            Flow::Goes => {}
+            Flow::Exits(status) => return Ok(RunAnswer::Ended(machine.output, status)),
+            Flow::Stops => return Ok(RunAnswer::Running(machine.output)),
+            Flow::Fails => return Ok(RunAnswer::Undefined(machine.output)),
+        }
+    }
+    Err(AllocError)
 }
 
-impl<'a> Machine<'a> {
-    /// Does actions until the run comes to an answer.
-    pub fn run(mut self) -> Result<RunAnswer, NoMemory>
-        ensures { IfOk result (λ answer. plain_answer answer ≡ answer_of (outcome_of self.entry)) }
-    {
-        // No machine does more actions than these.
-        for number in 0..u64::MAX {
-            match self.next()? {
-                Flow::Goes => {}
-                Flow::Exits(status) => return Ok(RunAnswer::Ended(self.output, status)),
-                Flow::Stops => return Ok(RunAnswer::Running(self.output)),
-                Flow::Fails => return Ok(RunAnswer::Undefined(self.output)),
-            }
-        }
-        Err(AllocError)
+/// Does the next action; without one the run has ended.
+fn next<'a>(machine: &mut Machine<'a>) -> Result<Flow, NoMemory>
+    ensures { IfOk result (λ flow. Advances flow machine.old machine.new) }
+{
+    match take_action(&mut machine.control) {
+        None => Ok(end(machine)),
+        Some(action) => step(machine, action),
     }
+}
 
-    /// Does the next action; without one the run has ended.
-    fn next(&mut self) -> Result<Flow, NoMemory>
-        ensures { IfOk result (λ flow. Advances flow self.old self.new) }
-    {
-        match take_action(&mut self.control) {
-            None => Ok(self.end()),
-            Some(action) => self.step(action),
-        }
-    }
-
-    /// How the program ends where `main` has ended, and no action is left.
-    fn end(&mut self) -> Flow
-        requires { actions_of self.old.control ≡ [] }
-        ensures { Advances result self.old self.new }
-    {
-        match self.control.take_ending() {
-            None => Flow::Fails,
-            Some(Ending::Falls) => Flow::Exits(0),
-            Some(Ending::Breaks) => Flow::Fails,
-            Some(Ending::Continues) => Flow::Fails,
-            Some(Ending::Returns(value)) => status_of(value),
-        }
+/// How the program ends where `main` has ended, and no action is left.
+fn end<'a>(machine: &mut Machine<'a>) -> Flow
+    requires { actions_of machine.old.control ≡ [] }
+    ensures { Advances result machine.old machine.new }
+{
+    match machine.control.take_ending() {
+        None => Flow::Fails,
+        Some(Ending::Falls) => Flow::Exits(0),
+        Some(Ending::Breaks) => Flow::Fails,
+        Some(Ending::Continues) => Flow::Fails,
+        Some(Ending::Returns(value)) => status_of(value),
     }
 }
 

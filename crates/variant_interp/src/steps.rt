@@ -4,116 +4,126 @@ ghost use Rattle.c_types.specs.Types.{plain_type};
 ghost use Rattle.core_meaning.specs.Plain.{plain_expression, plain_place};
 ghost use Rattle.core_meaning.specs.Program as program_form;
 ghost use Rattle.interp_actions.specs.Actions as plain;
-ghost use Rattle.variant_interp.specs.Machines.{Does, DoesAction};
+ghost use Rattle.run_machine.specs.Machines.{Does, DoesAction};
 
-use crate::frames::held_at;
-use crate::machine::Machine;
 use c_types::CType;
 use cond_formula::NoMemory;
 use core_meaning::{Expression, Place};
 use interp_actions::{Action, Flow, put_object};
 use interp_expressions::{begin_member, begin_target, begin_temporary};
+use run_calls::{argument, call_without, end_full, enter, return_to, temporary};
+use run_machine::{Machine, held_at};
+use run_statements::{
+    after_turn, asks_again, begin_statement, end_scope, items, rest_of_items, turn, write_part,
+};
+use run_values::{
+    address, and, begin_value, branch, choose, convert, falls, first_element, member, not, nothing,
+    operate, or, read, return_value, target, test, truth_value, update, update_after, use_scalar,
+    use_value, write,
+};
 
-impl<'a> Machine<'a> {
-    /// Does an action. The only error is want of memory.
-    pub fn step(&mut self, action: Action<'a>) -> Result<Flow, NoMemory>
-        ensures { IfOk result (λ flow. DoesAction flow action.entry self.old self.new) }
-    {
-        match action {
-            Action::Expression(expression) => self.begin_value(expression),
-            Action::Place(place) => self.begin_place(place),
-            Action::Used => self.use_value(),
-            Action::Scalar => self.use_scalar(),
-            Action::Test => self.test(),
-            Action::Target => self.target(),
-            Action::Convert(ty) => self.convert(ty),
-            Action::Operate(op) => self.operate(op),
-            Action::Not => self.not(),
-            Action::TruthValue => self.truth_value(),
-            Action::Nothing => self.nothing(),
-            Action::And(right) => self.and(right),
-            Action::Or(right) => self.or(right),
-            Action::Choose(first, second) => self.choose(first, second),
-            Action::Read => self.read(),
-            Action::Address => self.address(),
-            Action::FirstElement => self.first_element(),
-            Action::Member(number) => self.member(number),
-            Action::Temporary(ty) => self.temporary(ty),
-            Action::Write => self.write(),
-            Action::Update(change) => self.update(change),
-            Action::UpdateAfter(change) => self.update_after(change),
-            Action::Call(function) => self.call_without(function),
-            Action::Argument(function, arguments, values) => self.argument(
-                function, arguments, values,
-            ),
-            Action::Enter(slot, values, body) => self.enter(slot, values, body),
-            Action::Return(frame) => self.return_to(frame),
-            Action::EndFull(outer) => self.end_full(outer),
-            Action::Statement(statement) => self.begin_statement(statement),
-            Action::Items(items) => self.items(items),
-            Action::RestOfItems(items) => self.rest_of_items(items),
-            Action::Falls => self.falls(),
-            Action::If(first, second) => self.branch(first, second),
-            Action::ReturnValue => self.return_value(),
-            Action::Turn(turns) => self.turn(turns),
-            Action::AfterTurn(turns) => self.after_turn(turns),
-            Action::Asks(turns) => self.asks_again(turns),
-            Action::WritePart(target, part, rest) => self.write_part(target, part, rest),
-            Action::EndScope(slot, object, before) => self.end_scope(slot, object, before),
-        }
+/// Does an action. The only error is want of memory.
+pub fn step<'a>(machine: &mut Machine<'a>, action: Action<'a>) -> Result<Flow, NoMemory>
+    ensures { IfOk result (λ flow. DoesAction flow action.entry machine.old machine.new) }
+{
+    match action {
+        Action::Expression(expression) => begin_value(machine, expression),
+        Action::Place(place) => begin_place(machine, place),
+        Action::Used => use_value(machine),
+        Action::Scalar => use_scalar(machine),
+        Action::Test => test(machine),
+        Action::Target => target(machine),
+        Action::Convert(ty) => convert(machine, ty),
+        Action::Operate(op) => operate(machine, op),
+        Action::Not => not(machine),
+        Action::TruthValue => truth_value(machine),
+        Action::Nothing => nothing(machine),
+        Action::And(right) => and(machine, right),
+        Action::Or(right) => or(machine, right),
+        Action::Choose(first, second) => choose(machine, first, second),
+        Action::Read => read(machine),
+        Action::Address => address(machine),
+        Action::FirstElement => first_element(machine),
+        Action::Member(number) => member(machine, number),
+        Action::Temporary(ty) => temporary(machine, ty),
+        Action::Write => write(machine),
+        Action::Update(change) => update(machine, change),
+        Action::UpdateAfter(change) => update_after(machine, change),
+        Action::Call(function) => call_without(machine, function),
+        Action::Argument(function, arguments, values) => argument(
+            machine, function, arguments, values,
+        ),
+        Action::Enter(slot, values, body) => enter(machine, slot, values, body),
+        Action::Return(frame) => return_to(machine, frame),
+        Action::EndFull(outer) => end_full(machine, outer),
+        Action::Statement(statement) => begin_statement(machine, statement),
+        Action::Items(left) => items(machine, left),
+        Action::RestOfItems(left) => rest_of_items(machine, left),
+        Action::Falls => falls(machine),
+        Action::If(first, second) => branch(machine, first, second),
+        Action::ReturnValue => return_value(machine),
+        Action::Turn(turns) => turn(machine, turns),
+        Action::AfterTurn(turns) => after_turn(machine, turns),
+        Action::Asks(turns) => asks_again(machine, turns),
+        Action::WritePart(target, part, rest) => write_part(machine, target, part, rest),
+        Action::EndScope(slot, object, before) => end_scope(machine, slot, object, before),
     }
+}
 
-    #[tactic(auto, using(core_meaning::specs::PlainLaws::expression_kinds))]
-    fn begin_place(&mut self, place: &'a Place) -> Result<Flow, NoMemory>
-        ensures { IfOk result (λ flow. Does flow (plain.place_action (plain_place place.now)) self.old self.new) }
-    {
-        match place {
-            Place::Slot(number) => self.slot(*number),
-            Place::Global(number) => self.global(*number),
-            Place::Literal(number) => self.literal(*number),
-            Place::Target(pointer) => self.to_target(pointer),
-            Place::Member(inner, number) => self.to_member(inner, *number),
-            Place::Temporary(ty, value) => self.to_temporary(ty, value),
-        }
+#[tactic(auto, using(core_meaning::specs::PlainLaws::expression_kinds))]
+fn begin_place<'a>(machine: &mut Machine<'a>, place: &'a Place) -> Result<Flow, NoMemory>
+    ensures { IfOk result (λ flow. Does flow (plain.place_action (plain_place place.now)) machine.old machine.new) }
+{
+    match place {
+        Place::Slot(number) => slot(machine, *number),
+        Place::Global(number) => global(machine, *number),
+        Place::Literal(number) => literal(machine, *number),
+        Place::Target(pointer) => to_target(machine, pointer),
+        Place::Member(inner, number) => to_member(machine, inner, *number),
+        Place::Temporary(ty, value) => to_temporary(machine, ty, value),
     }
+}
 
-    fn slot(&mut self, number: u32) -> Result<Flow, NoMemory>
-        ensures { IfOk result (λ flow. Does flow (plain.place_action (program_form.slot number)) self.old self.new) }
-    {
-        match held_at(&self.frame, number as usize) {
-            None => Ok(Flow::Fails),
-            Some(object) => put_object(&mut self.control, self.alloc, object),
-        }
+fn slot<'a>(machine: &mut Machine<'a>, number: u32) -> Result<Flow, NoMemory>
+    ensures { IfOk result (λ flow. Does flow (plain.place_action (program_form.slot number)) machine.old machine.new) }
+{
+    match held_at(&machine.frame, number as usize) {
+        None => Ok(Flow::Fails),
+        Some(object) => put_object(&mut machine.control, machine.alloc, object),
     }
+}
 
-    fn global(&mut self, number: u32) -> Result<Flow, NoMemory>
-        ensures { IfOk result (λ flow. Does flow (plain.place_action (program_form.global number)) self.old self.new) }
-    {
-        put_object(&mut self.control, self.alloc, number as usize)
-    }
+fn global<'a>(machine: &mut Machine<'a>, number: u32) -> Result<Flow, NoMemory>
+    ensures { IfOk result (λ flow. Does flow (plain.place_action (program_form.global number)) machine.old machine.new) }
+{
+    put_object(&mut machine.control, machine.alloc, number as usize)
+}
 
-    fn literal(&mut self, number: u32) -> Result<Flow, NoMemory>
-        ensures { IfOk result (λ flow. Does flow (plain.place_action (program_form.literal number)) self.old self.new) }
-    {
-        let object = self.program.globals.len() + number as usize;
-        put_object(&mut self.control, self.alloc, object)
-    }
+fn literal<'a>(machine: &mut Machine<'a>, number: u32) -> Result<Flow, NoMemory>
+    ensures { IfOk result (λ flow. Does flow (plain.place_action (program_form.literal number)) machine.old machine.new) }
+{
+    let object = machine.program.globals.len() + number as usize;
+    put_object(&mut machine.control, machine.alloc, object)
+}
 
-    fn to_target(&mut self, pointer: &'a Expression) -> Result<Flow, NoMemory>
-        ensures { IfOk result (λ flow. Does flow (plain.place_action (program_form.target (plain_expression pointer.now))) self.old self.new) }
-    {
-        begin_target(&mut self.control, pointer)
-    }
+fn to_target<'a>(machine: &mut Machine<'a>, pointer: &'a Expression) -> Result<Flow, NoMemory>
+    ensures { IfOk result (λ flow. Does flow (plain.place_action (program_form.target (plain_expression pointer.now))) machine.old machine.new) }
+{
+    begin_target(&mut machine.control, pointer)
+}
 
-    fn to_member(&mut self, inner: &'a Place, number: u32) -> Result<Flow, NoMemory>
-        ensures { IfOk result (λ flow. Does flow (plain.place_action (program_form.member (plain_place inner.now) number)) self.old self.new) }
-    {
-        begin_member(&mut self.control, inner, number)
-    }
+fn to_member<'a>(machine: &mut Machine<'a>, inner: &'a Place, number: u32) -> Result<Flow, NoMemory>
+    ensures { IfOk result (λ flow. Does flow (plain.place_action (program_form.member (plain_place inner.now) number)) machine.old machine.new) }
+{
+    begin_member(&mut machine.control, inner, number)
+}
 
-    fn to_temporary(&mut self, ty: &'a CType, value: &'a Expression) -> Result<Flow, NoMemory>
-        ensures { IfOk result (λ flow. Does flow (plain.place_action (program_form.temporary (plain_type ty.now) (plain_expression value.now))) self.old self.new) }
-    {
-        begin_temporary(&mut self.control, ty, value)
-    }
+fn to_temporary<'a>(
+    machine: &mut Machine<'a>,
+    ty: &'a CType,
+    value: &'a Expression,
+) -> Result<Flow, NoMemory>
+    ensures { IfOk result (λ flow. Does flow (plain.place_action (program_form.temporary (plain_type ty.now) (plain_expression value.now))) machine.old machine.new) }
+{
+    begin_temporary(&mut machine.control, ty, value)
 }

@@ -8,7 +8,7 @@ use Rattle.cond_bodies.specs.declared.item.Item.{Item}
 use Rattle.cond_bodies.specs.CondItems.{item_at, items_at}
 use Rattle.cond_bodies.proofs.ItemLemmas.{seen_pushed}
 use Rattle.cond_macros.specs.Owned.{IsOwn, AreOwn}
-use Rattle.cond_macros.proofs.ArgumentLemmas.{form_step, form_end}
+use Rattle.cond_runs.proofs.ArgumentLemmas.{form_step, form_end}
 use Rattle.cond_macros.proofs.CondRunLemmas.{own_pushed}
 use Rattle.cond_macros.proofs.replacement.outermost_items.Goals as goal
 

@@ -10,7 +10,7 @@ use Rattle.macro_table.specs.Features.{macros_at}
 use Rattle.cond_bodies.specs.declared.item.Item.{Item}
 use Rattle.cond_bodies.specs.CondItems.{items_at}
 use Rattle.cond_macros.specs.Below.{below}
-use Rattle.cond_macros.specs.CondFinished.{given_at}
+use Rattle.cond_runs.specs.CondFinished.{given_at}
 use Rattle.cond_macros.specs.Owned.{AreOwn}
 use Rattle.cond_macros.specs.Readings.{look}
 use Rattle.cond_macros.proofs.CallLemmas.{outcome_is}

@@ -1,5 +1,6 @@
 use Rattle.std.proofs.Common.{◌≡◌, ℕ, ◌+◌, ◌-◌, Bool, true, false, not, ◌&&◌, List, [], ◌∷◌, ◌++◌, map, drop, Option, Some, None, IsTrue, Bor, Vec, Global, refl, sym, ap, subst, ◌∙◌, arith}
 use Rattle.std.specs.Prelude.{if◌then◌else◌, is_some}
+use Rattle.std.proofs.lemmas.Result.{IfOk-weaker}
 use Rattle.c_text.specs.declared.token.Token.{Token}
 use Rattle.c_text.specs.Token.{plain_token}
 use Rattle.c_text.specs.Macros as spec
@@ -7,31 +8,32 @@ use Rattle.cond_formula.specs.Features.{has}
 use Rattle.cond_formula.specs.Conditions.{Condition, condition_of, value}
 use Rattle.cond_formula.specs.ConditionLaws.{condition_of-False, condition_of-True}
 use Rattle.conditional.specs.declared.entries.Guarded.{Guarded}
-use Rattle.conditional.specs.Entries.{entries_of, seen, some_holds}
+use Rattle.conditional.specs.Entries.{entries_of, seen}
 use Rattle.cond_bodies.specs.declared.item.Item.{Item}
 use Rattle.cond_bodies.specs.declared.meanings.Function.{Function}
 use Rattle.cond_bodies.specs.Cores.{cores}
 use Rattle.cond_bodies.specs.CondItems.{item_at, items_at}
 use Rattle.cond_bodies.specs.CondMeanings.{PlainFunction, plain_function, object_of, function_of}
 use Rattle.cond_bodies.proofs.SpellingLemmas.{item_text}
-use Rattle.cond_bodies.proofs.LevelLemmas.{is_some_list, holds_is_seen}
 use Rattle.cond_macros.specs.Below.{cores_of, all_cores_of, unless_any, behind_lists}
-use Rattle.cond_macros.specs.Looked.{looked, unless}
-use Rattle.cond_macros.specs.Functions.{is_single, or_function, some_seen, without_params, kept_item}
-use Rattle.cond_macros.specs.CondArguments.{lists_at}
-use Rattle.cond_macros.specs.CondCalls.{call_at, closes, held_at, calls_at}
-use Rattle.cond_macros.specs.CondFinished.{given_at}
-use Rattle.cond_macros.specs.CondRuns.{run_at}
+use Rattle.cond_runs.specs.Looked.{looked, unless}
+use Rattle.cond_runs.specs.Functions.{is_single, or_function, some_seen, without_params, kept_item}
+use Rattle.cond_runs.specs.CondArguments.{lists_at}
+use Rattle.cond_runs.specs.CondCalls.{call_at, closes, held_at, calls_at}
+use Rattle.cond_runs.specs.CondFinished.{given_at}
+use Rattle.cond_runs.specs.CondRuns.{run_at}
 use Rattle.cond_macros.specs.CondLevels.{macros_in, active_in, deeper_in, is_within, replaced_at}
-use Rattle.cond_macros.specs.Pieces.{Held, Piece, also, under_piece, items_piece, given_piece, open_piece, some_open, without_calls, brought_again, turn_pieces, outside_piece}
+use Rattle.cond_runs.specs.Pieces.{Held, Piece, also, under_piece, items_piece, given_piece, open_piece, some_open, without_calls, brought_again, turn_pieces, outside_piece}
 use Rattle.cond_macros.specs.Readings.{look, ListBecomes}
 use Rattle.cond_macros.proofs.Cores.{replacement_alike}
-use Rattle.cond_macros.proofs.CallLemmas.{below_none, below_is, below_alike, left_open_is, call_given, call_unfit, both_true}
-use Rattle.cond_macros.proofs.ArgumentLemmas.{replaced_step, replaced_end, replaced_init, fit_alone, unfit_alone, unfit_if_none, single_is}
+use Rattle.cond_macros.proofs.CallLemmas.{below_none, below_is, below_alike, left_open_is, body_given, call_given, call_unfit, inexact, both_true}
+use Rattle.cond_runs.proofs.ArgumentLemmas.{fit_alone, unfit_alone, unfit_if_none, single_is}
+use Rattle.cond_runs.proofs.OpenLemmas.{calls_pushed}
+use Rattle.cond_macros.proofs.ArgumentLemmas.{replaced_step, replaced_end, replaced_init}
 use Rattle.cond_macros.proofs.TurnLemmas.{and_true, both_first, unseen, given_turn, ends_piece, goes_piece, progress_ends, lengthened, parted, turned_more, open_more}
 use Rattle.cond_macros.proofs.PieceLemmas.{step_reads, begin_reads, also-nothing}
-use Rattle.cond_macros.proofs.NameLemmas.{some_body, named, treated_active, treated_nothing, single_if, one_object, no_meaning, named_meaning, unnamed_meaning, fresh_substituted}
-use Rattle.cond_macros.proofs.CondRunLemmas.{calls_pushed, reads_next, reads_moved, reads_done, own_at, bodies_hold, feature_is_built_in}
+use Rattle.cond_macros.proofs.NameLemmas.{some_body, bodies_seen, named, treated_active, treated_nothing, single_if, one_object, no_meaning, named_meaning, unnamed_meaning, fresh_substituted}
+use Rattle.cond_macros.proofs.CondRunLemmas.{reads_next, reads_moved, reads_done, own_at, feature_is_built_in}
 use Rattle.cond_macros.proofs.replacing.+lists.Goals as goal
 
 -- ---- a list one level below
@@ -44,22 +46,25 @@ deeper-returns-then-level-eq0-clause-given g t c = λ n admitted within.
     ∙ below_none (macros_in n level) level.left (active_in level) (items_at (has n) c.args.items.now) c.if-level-eq0.true
 
 pub deeper-returns-clause-given : goal.deeper-returns-clause-given
-deeper-returns-clause-given g t c = λ n admitted within.
+deeper-returns-clause-given g t c =
     let level = c.args.level.now in
-    below_is (macros_in n level) level.left (level.left - 1) (active_in level) (items_at (has n) c.args.items.now) (given_at false (has n) c.in_ok-f.f) (omega arith)
-    (c.in_ok-f.ensures.given false n admitted within (λ e. cc))
+    IfOk-weaker c.replaced_list.result _ _ (λ f h. λ n admitted within.
+    below_is (macros_in n level) level.left (level.left - 1) (active_in level) (items_at (has n) c.args.items.now) (given_at false (has n) f) (omega arith) (h false n admitted within inexact))
+    c.replaced_list.ensures.given
 
 pub replacement-returns-clause-given : goal.replacement-returns-clause-given
 unfolding given_at
-replacement-returns-clause-given g t c = λ n first last admitted within name.
+replacement-returns-clause-given g t c =
+    IfOk-weaker c.unless_left_open.result _ _ (λ finished h. λ n first last admitted within name.
     let level = c.args.level.now in
     let f = c.in_ok-f.f in
     let names : map (λ (t : Bor Token). t.now.text.items) c.as_slice.result.now ≡ first.text ∷ active_in level =
     ap (map (λ (t : Bor Token). t.now.text.items)) c.as_slice.ensures.value ∙ c.in_ok-names.ensures ∙ ap (λ (t : List ℕ). t ∷ active_in level) (sym name) in
     let found = deeper_in n level (first.text ∷ active_in level) (items_at (has n) c.args.body.now) in
     let given : given_at false (has n) f ≡ cores_of found = c.in_ok-f.ensures.given n admitted within ∙ ap (λ (a : List (List ℕ)). cores_of (deeper_in n level a (items_at (has n) c.args.body.now))) names in
-    c.in_ok-f-2.ensures false n
-    ∙ left_open_is (macros_in n level) first last (value (has n) (condition_of f.refused)) (items_at (has n) f.items.items) found given
+    h false n
+    ∙ left_open_is (macros_in n level) first last (value (has n) (condition_of f.refused)) (items_at (has n) f.items.items) found given)
+    c.unless_left_open.ensures
 
 -- ---- arguments
 
@@ -138,57 +143,68 @@ replaced_list-returns-clause-given g t c = λ exact n admitted within own.
 
 -- ---- calls
 
-pub called-returns-then-is_none-clause-given : goal.called-returns-then-is_none-clause-given
-unfolding call_at
-called-returns-then-is_none-clause-given g t c = λ n last admitted within opened.
+pub fitting_brought-returns-clause-given : goal.fitting_brought-returns-clause-given
+fitting_brought-returns-clause-given g t c =
     let level = c.args.level.now in
-    let call = call_at (has n) c.args.call in
-    let fs = seen (has n) (entries_of plain_function c.args.call.functions.items) in
-    let single = single_is fs (c.args.call.single n opened) in
-    let f = or_function fs in
-    let arguments : lists_at (has n) c.as_slice-2.result.now ≡ spec.all_arguments call = ap (λ (l : List (Vec (Guarded Item) Global)). lists_at (has n) l) c.as_slice-2.ensures.value ∙ c.in_ok-arguments.ensures (has n) in
-    let given : seen (has n) (entries_of plain_function c.as_slice.result.now) ≡ f ∷ [] = ap (λ (l : List (Guarded Function)). seen (has n) (entries_of plain_function l)) c.as_slice.ensures.value ∙ single in
-    let unfit : value (has n) (condition_of c.in_ok-fit.fit.unfit) ≡ not (spec.fits f.params (spec.all_arguments call)) =
-    c.in_ok-fit.ensures.unfit (has n) ∙ unfit_alone f (lists_at (has n) c.as_slice-2.result.now) (seen (has n) (entries_of plain_function c.as_slice.result.now)) given
-    ∙ ap (λ (l : List (List spec.Item)). not (spec.fits f.params l)) arguments in
-    let none : spec.fits f.params (spec.all_arguments call) ≡ false =
-    ap (spec.fits f.params) (sym arguments)
-    ∙ unfit_if_none f (lists_at (has n) c.as_slice-2.result.now) (seen (has n) (entries_of plain_function c.as_slice.result.now)) given
-    (sym (c.in_ok-fit.ensures.functions (has n)) ∙ ap (λ (l : List (Guarded Function)). seen (has n) (entries_of plain_function l)) (c.is_none.ensures c.if-is_none.true)) in
+    let replaced = c.in_ok-replaced.replaced in
+    let own = plain_token c.args.name.now in
+    IfOk-weaker c.refused_too.result _ _ (λ f h. λ n call last admitted inside name one arguments.
+    let lists = lists_at (has n) replaced.lists.items in
+    let all : replaced_at (has n) replaced ≡ all_cores_of (spec.all_replaced (deeper_in n level) (active_in level) (spec.all_arguments call)) =
+    c.in_ok-replaced.ensures.replaced n admitted inside ∙ ap (λ (l : List (List spec.Item)). all_cores_of (spec.all_replaced (deeper_in n level) (active_in level) l)) arguments in
+    let body : cores (items_at (has n) c.as_slice-2.result.now) ≡ cores (spec.substituted call.params lists call.body) =
+    ap (λ (l : List (Guarded Item)). cores (items_at (has n) l)) c.as_slice-2.ensures.value
+    ∙ c.in_ok-body.ensures (has n) (record { params = call.params; body = call.body }) one
+    ∙ ap (λ (l : List (Vec (Guarded Item) Global)). cores (spec.substituted call.params (lists_at (has n) l) call.body)) c.as_slice.ensures.value in
+    h false (has n)
+    ∙ body_given (macros_in n level) (deeper_in n level) (below_alike (macros_in n level) level.left) (active_in level) call own own last (value (has n) (condition_of replaced.refused)) lists
+    (items_at (has n) c.as_slice-2.result.now) (spec.all_replaced (deeper_in n level) (active_in level) (spec.all_arguments call)) (given_at false (has n) c.in_ok-f.f) name all body
+    (c.in_ok-f.ensures.given n own own (rw c.in_ok-replaced.ensures.kept admitted) inside refl))
+    c.refused_too.ensures
+
+pub brought-returns-then-is_none-clause-given : goal.brought-returns-then-is_none-clause-given
+brought-returns-then-is_none-clause-given g t c = λ n call last admitted inside name one arguments.
+    let level = c.args.level.now in
+    let f : PlainFunction = record { params = call.params; body = call.body } in
+    let lists = lists_at (has n) c.args.arguments.now in
+    let functions = seen (has n) (entries_of plain_function c.args.functions.now) in
+    let unfit : value (has n) (condition_of c.in_ok-fit.fit.unfit) ≡ not (spec.fits call.params (spec.all_arguments call)) =
+    c.in_ok-fit.ensures.unfit (has n) ∙ unfit_alone f lists functions one ∙ ap (λ (l : List (List spec.Item)). not (spec.fits call.params l)) arguments in
+    let none : spec.fits call.params (spec.all_arguments call) ≡ false =
+    ap (spec.fits call.params) (sym arguments)
+    ∙ unfit_if_none f lists functions one (sym (c.in_ok-fit.ensures.functions (has n)) ∙ ap (λ (l : List (Guarded Function)). seen (has n) (entries_of plain_function l)) (c.is_none.ensures c.if-is_none.true)) in
     c.nothing.ensures false (has n)
     ∙ call_unfit (macros_in n level) (deeper_in n level) (below_alike (macros_in n level) level.left) (active_in level) call last (value (has n) (condition_of c.in_ok-fit.fit.unfit)) (Some []) unfit none
 
+pub brought-returns-clause-given : goal.brought-returns-clause-given
+brought-returns-clause-given g t c =
+    let level = c.args.level.now in
+    let lists : (n : List Bool) → List (List spec.Item) = λ n. lists_at (has n) c.args.arguments.now in
+    let functions : (n : List Bool) → List PlainFunction = λ n. seen (has n) (entries_of plain_function c.args.functions.now) in
+    IfOk-weaker c.refused_too.result _ _ (λ r h. λ n call last admitted inside name one arguments.
+    let f : PlainFunction = record { params = call.params; body = call.body } in
+    let unfit : value (has n) (condition_of c.in_ok-fit.fit.unfit) ≡ not (spec.fits call.params (spec.all_arguments call)) =
+    c.in_ok-fit.ensures.unfit (has n) ∙ unfit_alone f (lists n) (functions n) one ∙ ap (λ (l : List (List spec.Item)). not (spec.fits call.params l)) arguments in
+    h false (has n)
+    ∙ call_given (macros_in n level) (deeper_in n level) (below_alike (macros_in n level) level.left) (active_in level) call last (value (has n) (condition_of c.in_ok-fit.fit.unfit)) (given_at false (has n) c.in_ok-f.f) unfit
+    (λ fit. c.in_ok-f.ensures.given n call last admitted inside name
+    (ap (λ (l : List (Guarded Function)). seen (has n) (entries_of plain_function l)) c.as_slice.ensures.value ∙ c.in_ok-fit.ensures.functions (has n)
+    ∙ fit_alone f (lists n) (functions n) one (ap (spec.fits call.params) arguments ∙ fit)) arguments))
+    c.refused_too.ensures
+
 pub called-returns-clause-given : goal.called-returns-clause-given
 unfolding call_at
-called-returns-clause-given g t c = λ n last admitted within opened.
+called-returns-clause-given g t c =
     let level = c.args.level.now in
-    let call = call_at (has n) c.args.call in
-    let fs = seen (has n) (entries_of plain_function c.args.call.functions.items) in
-    let single = single_is fs (c.args.call.single n opened) in
-    let f = or_function fs in
-    let name = plain_token c.args.call.name.token.now in
-    let replaced = c.in_ok-replaced.replaced in
-    let arguments : lists_at (has n) c.in_ok-arguments.arguments.items ≡ spec.all_arguments call = c.in_ok-arguments.ensures (has n) in
-    let slice : lists_at (has n) c.as_slice-2.result.now ≡ spec.all_arguments call = ap (λ (l : List (Vec (Guarded Item) Global)). lists_at (has n) l) c.as_slice-2.ensures.value ∙ arguments in
-    let given : seen (has n) (entries_of plain_function c.as_slice.result.now) ≡ f ∷ [] = ap (λ (l : List (Guarded Function)). seen (has n) (entries_of plain_function l)) c.as_slice.ensures.value ∙ single in
-    let unfit : value (has n) (condition_of c.in_ok-fit.fit.unfit) ≡ not (spec.fits f.params (spec.all_arguments call)) =
-    c.in_ok-fit.ensures.unfit (has n) ∙ unfit_alone f (lists_at (has n) c.as_slice-2.result.now) (seen (has n) (entries_of plain_function c.as_slice.result.now)) given
-    ∙ ap (λ (l : List (List spec.Item)). not (spec.fits f.params l)) slice in
-    let inside : IsTrue (value (has n) (condition_of c.in_ok-within.within)) = both_true (is_within n level) (value (has n) (condition_of c.args.call.when)) (value (has n) (condition_of c.in_ok-within.within)) (c.in_ok-within.ensures (has n)) within opened in
-    let all : replaced_at (has n) replaced ≡ all_cores_of (spec.all_replaced (deeper_in n level) (active_in level) (spec.all_arguments call)) =
-    c.in_ok-replaced.ensures.replaced n admitted inside
-    ∙ ap (λ (l : List (List spec.Item)). all_cores_of (spec.all_replaced (deeper_in n level) (active_in level) l)) (ap (λ (l : List (Vec (Guarded Item) Global)). lists_at (has n) l) c.as_slice-3.ensures.value ∙ arguments) in
-    let body : spec.fits f.params (spec.all_arguments call) ≡ true → cores (items_at (has n) c.as_slice-6.result.now) ≡ cores (spec.substituted f.params (lists_at (has n) replaced.lists.items) f.body) = λ fit.
-    ap (λ (l : List (Guarded Item)). cores (items_at (has n) l)) c.as_slice-6.ensures.value
-    ∙ c.in_ok-body.ensures (has n) f
-    (ap (λ (l : List (Guarded Function)). seen (has n) (entries_of plain_function l)) c.as_slice-4.ensures.value ∙ c.in_ok-fit.ensures.functions (has n)
-    ∙ fit_alone f (lists_at (has n) c.as_slice-2.result.now) (seen (has n) (entries_of plain_function c.as_slice.result.now)) given (ap (spec.fits f.params) slice ∙ fit))
-    ∙ ap (λ (l : List (Vec (Guarded Item) Global)). cores (spec.substituted f.params (lists_at (has n) l) f.body)) c.as_slice-5.ensures.value in
-    c.in_ok-f-3.ensures false (has n)
-    ∙ ap (unless (value (has n) (condition_of c.in_ok-fit.fit.unfit))) (c.in_ok-f-2.ensures false (has n))
-    ∙ call_given (macros_in n level) (deeper_in n level) (below_alike (macros_in n level) level.left) (active_in level) call name name last (value (has n) (condition_of c.in_ok-fit.fit.unfit)) (value (has n) (condition_of replaced.refused)) (lists_at (has n) replaced.lists.items)
-    (items_at (has n) c.as_slice-6.result.now) (given_at false (has n) c.in_ok-f.f) (sym (item_text (has n) c.args.call.name)) unfit all body
-    (c.in_ok-f.ensures.given n name name (rw c.in_ok-replaced.ensures.kept admitted) inside refl)
+    let call = c.args.call in
+    IfOk-weaker c.brought.result _ _ (λ f h. λ n last admitted within opened.
+    let fs = seen (has n) (entries_of plain_function call.functions.items) in
+    h n (call_at (has n) call) last admitted
+    (both_true (is_within n level) (value (has n) (condition_of call.when)) (value (has n) (condition_of c.in_ok-within.within)) (c.in_ok-within.ensures (has n)) within opened)
+    (sym (item_text (has n) call.name))
+    (ap (λ (l : List (Guarded Function)). seen (has n) (entries_of plain_function l)) c.as_slice.ensures.value ∙ single_is fs (call.single n opened))
+    (ap (λ (l : List (Vec (Guarded Item) Global)). lists_at (has n) l) c.as_slice-2.ensures.value ∙ c.in_ok-arguments.ensures (has n)))
+    c.brought.ensures.given
 
 -- ---- items in opened calls
 
@@ -312,14 +328,14 @@ object_turn-returns-clause-read g t c = λ exact n body admitted within is.
 pub name_turn-begin_call-requires : goal.name_turn-begin_call-requires
 name_turn-begin_call-requires g t c = λ n opened.
     let level = c.args.level.now in
+    let opens = spec.opens (items_at (has n) c.args.rest.now) in
     let meaning = macros_in n level c.args.item.now.token.now.text.items in
     let means = c.requires n in
     ap is_single means.functions
-    ∙ single_if (value (has n) (condition_of c.args.when.now)) (spec.opens (items_at (has n) c.args.rest.now)) meaning
-    (ap (λ (b : Bool). value (has n) (condition_of c.args.when.now) && b)
-    (sym (c.in_ok-calls.ensures (has n) ∙ ap (λ (l : List (Guarded Function)). some_seen (seen (has n) (entries_of plain_function l)) && spec.opens (items_at (has n) c.args.rest.now)) c.as_slice-3.ensures.value
-    ∙ ap (λ (l : List PlainFunction). some_seen l && spec.opens (items_at (has n) c.args.rest.now)) means.functions))
-    ∙ sym (c.in_ok-inner-3.ensures (has n)) ∙ opened)
+    ∙ single_if (value (has n) (condition_of c.args.when.now)) opens meaning
+    (ap (λ (l : List PlainFunction). value (has n) (condition_of c.args.when.now) && (some_seen l && opens)) (sym means.functions)
+    ∙ ap (λ (l : List (Guarded Function)). value (has n) (condition_of c.args.when.now) && (some_seen (seen (has n) (entries_of plain_function l)) && opens)) (sym c.as_slice-3.ensures.value)
+    ∙ sym (c.in_ok-ways.ensures.call (has n)) ∙ opened)
 
 pub name_turn-returns-clause-read : goal.name_turn-returns-clause-read
 name_turn-returns-clause-read g t c = λ exact n admitted within.
@@ -331,16 +347,14 @@ name_turn-returns-clause-read g t c = λ exact n admitted within.
     let opens = spec.opens (items_at on c.args.rest.now) in
     let meaning = macros_in n level c.args.item.now.token.now.text.items in
     let means = c.requires n in
-    let bodies = seen on (entries_of (λ b. map plain_token b.now) c.args.meanings.objects.items) in
     let fs : seen on (entries_of plain_function c.in_ok-objects.objects.items) ≡ map without_params (object_of meaning) =
     c.in_ok-objects.ensures on ∙ ap (λ (l : List (Guarded (Bor (List Token)))). map without_params (seen on (entries_of (λ b. map plain_token b.now) l))) c.as_slice.ensures.value ∙ ap (map without_params) means.objects in
-    let o = value on (condition_of c.in_ok-some.some) in
+    let o = some_seen (seen on (entries_of plain_function c.as_slice-2.result.now)) in
     let is_o : o ≡ some_body (object_of meaning) =
-    c.in_ok-some.ensures on ∙ ap (λ (l : List (Guarded Function)). some_holds on (entries_of (λ x. x) l)) c.as_slice-2.ensures.value ∙ holds_is_seen plain_function on c.in_ok-objects.objects.items
-    ∙ ap (λ (l : List PlainFunction). is_some_list l) fs ∙ bodies_hold (object_of meaning) in
-    let k = value on (condition_of c.in_ok-calls.calls) in
+    ap (λ (l : List (Guarded Function)). some_seen (seen on (entries_of plain_function l))) c.as_slice-2.ensures.value ∙ ap (λ (l : List PlainFunction). some_seen l) fs ∙ bodies_seen (object_of meaning) in
+    let k = some_seen (seen on (entries_of plain_function c.as_slice-3.result.now)) && opens in
     let is_k : k ≡ (some_seen (function_of meaning) && opens) =
-    c.in_ok-calls.ensures on ∙ ap (λ (l : List (Guarded Function)). some_seen (seen on (entries_of plain_function l)) && opens) c.as_slice-3.ensures.value ∙ ap (λ (l : List PlainFunction). some_seen l && opens) means.functions in
+    ap (λ (l : List (Guarded Function)). some_seen (seen on (entries_of plain_function l)) && opens) c.as_slice-3.ensures.value ∙ ap (λ (l : List PlainFunction). some_seen l && opens) means.functions in
     let s = run_at exact on c.args.run.now in
     let after_feature = run_at exact on c.feature_turn.new.run in
     let after_object = run_at exact on c.object_turn.new.run in
@@ -348,16 +362,16 @@ name_turn-returns-clause-read g t c = λ exact n admitted within.
     named exact (macros_in n level) (deeper_in n level) (active_in level) s after_feature after_object after_call (run_at exact on c.stay_turn.new.run) w (value on (condition_of c.args.meanings.feature)) o k opens (plain_token level.feature.now) item own meaning
     (λ other e. level.built_in ∙ feature_is_built_in on level.macros c.args.item.now.token.now.text.items other e)
     means.feature is_o is_k
-    (c.in_ok-feature_turn.ensures exact on ∙ ap (λ (b : Bool). also s (under_piece b (items_piece exact (spec.brought own own (spec.fresh (plain_token level.feature.now)) ∷ [])))) (c.in_ok-inner.ensures on))
+    (c.in_ok-feature_turn.ensures exact on ∙ ap (λ (b : Bool). also s (under_piece b (items_piece exact (spec.brought own own (spec.fresh (plain_token level.feature.now)) ∷ [])))) (c.in_ok-ways.ensures.feature on))
     (λ body is.
     c.in_ok-object_turn.ensures.read exact n body admitted within
-    (λ opened. one_object (seen on (entries_of plain_function c.as_slice-4.result.now)) (object_of meaning) body (ap (λ (l : List (Guarded Function)). seen on (entries_of plain_function l)) c.as_slice-4.ensures.value ∙ fs) (is (sym (c.in_ok-inner-2.ensures on) ∙ opened)))
-    ∙ ap (λ (b : Bool). also after_feature (under_piece b (given_piece exact (brought_again own own (spec.replacement (macros_in n level) (deeper_in n level) (active_in level) item.token item.token (map spec.fresh body)))))) (c.in_ok-inner-2.ensures on))
+    (λ opened. one_object (seen on (entries_of plain_function c.as_slice-4.result.now)) (object_of meaning) body (ap (λ (l : List (Guarded Function)). seen on (entries_of plain_function l)) c.as_slice-4.ensures.value ∙ fs) (is (sym (c.in_ok-ways.ensures.object on) ∙ opened)))
+    ∙ ap (λ (b : Bool). also after_feature (under_piece b (given_piece exact (brought_again own own (spec.replacement (macros_in n level) (deeper_in n level) (active_in level) item.token item.token (map spec.fresh body)))))) (c.in_ok-ways.ensures.object on))
     (c.in_ok-begin_call.ensures.read exact n (rw c.in_ok-object_turn.ensures.kept admitted) within
-    ∙ ap (λ (b : Bool). also after_object (under_piece b (open_piece (record { call = spec.begun item.token (or_function (seen on (entries_of plain_function c.args.meanings.functions.items))).params (or_function (seen on (entries_of plain_function c.args.meanings.functions.items))).body; first = own } ∷ [])))) (c.in_ok-inner-3.ensures on)
+    ∙ ap (λ (b : Bool). also after_object (under_piece b (open_piece (record { call = spec.begun item.token (or_function (seen on (entries_of plain_function c.args.meanings.functions.items))).params (or_function (seen on (entries_of plain_function c.args.meanings.functions.items))).body; first = own } ∷ [])))) (c.in_ok-ways.ensures.call on)
     ∙ ap (λ (l : List PlainFunction). also after_object (under_piece (w && k) (open_piece (record { call = spec.begun item.token (or_function l).params (or_function l).body; first = own } ∷ [])))) means.functions)
     (c.in_ok-stay_turn.ensures.read exact n (rw c.in_ok-begin_call.ensures.kept (rw c.in_ok-object_turn.ensures.kept admitted)) within
-    ∙ ap (λ (b : Bool). also after_call (under_piece b (items_piece exact (item ∷ [])))) (c.in_ok-stays.ensures on))
+    ∙ ap (λ (b : Bool). also after_call (under_piece b (items_piece exact (item ∷ [])))) (c.in_ok-ways.ensures.stays on))
 
 pub outside_turn-returns-then-is_never-clause-read : goal.outside_turn-returns-then-is_never-clause-read
 outside_turn-returns-then-is_never-clause-read g t c = λ exact n admitted within.

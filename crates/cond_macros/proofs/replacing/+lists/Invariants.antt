@@ -4,14 +4,14 @@ use Rattle.c_text.specs.Macros as spec
 use Rattle.cond_formula.specs.Features.{has}
 use Rattle.cond_formula.specs.Conditions.{condition_of, value}
 use Rattle.cond_bodies.specs.CondItems.{item_at, items_at}
-use Rattle.cond_macros.specs.CondArguments.{lists_at}
-use Rattle.cond_macros.specs.CondCalls.{calls_at}
-use Rattle.cond_macros.specs.CondRuns.{run_at}
+use Rattle.cond_runs.specs.CondArguments.{lists_at}
+use Rattle.cond_runs.specs.CondCalls.{calls_at}
+use Rattle.cond_runs.specs.CondRuns.{run_at}
 use Rattle.cond_macros.specs.CondLevels.{macros_in, active_in, deeper_in, is_within, replaced_at}
 use Rattle.cond_macros.specs.Below.{all_cores_of, behind_lists}
 use Rattle.cond_macros.specs.Owned.{AreOwn}
 use Rattle.cond_macros.specs.Readings.{look, ListBecomes}
-use Rattle.cond_macros.specs.Pieces.{also, some_open, without_calls, turn_pieces}
+use Rattle.cond_runs.specs.Pieces.{also, some_open, without_calls, turn_pieces}
 use Rattle.cond_macros.proofs.replacing.+lists.Given as goal
 
 abbrev pub decreases-deeper : goal.decreases-deeper
@@ -23,20 +23,26 @@ decreases-replacement g l = 16 * l.level.now.left + 1
 abbrev pub decreases-arguments_replaced : goal.decreases-arguments_replaced
 decreases-arguments_replaced g l = 16 * l.level.now.left + 1
 
+abbrev pub decreases-fitting_brought : goal.decreases-fitting_brought
+decreases-fitting_brought g l = 16 * l.level.now.left + 2
+
+abbrev pub decreases-brought : goal.decreases-brought
+decreases-brought g l = 16 * l.level.now.left + 3
+
 abbrev pub decreases-called : goal.decreases-called
-decreases-called g l = 16 * l.level.now.left + 2
+decreases-called g l = 16 * l.level.now.left + 4
 
 abbrev pub decreases-object_turn : goal.decreases-object_turn
 decreases-object_turn g l = 16 * l.level.now.left + 2
 
 abbrev pub decreases-present_turn : goal.decreases-present_turn
-decreases-present_turn g l = 16 * l.level.now.left + 3
+decreases-present_turn g l = 16 * l.level.now.left + 5
 
 abbrev pub decreases-call_turn : goal.decreases-call_turn
-decreases-call_turn g l = 16 * l.level.now.left + 4
+decreases-call_turn g l = 16 * l.level.now.left + 6
 
 abbrev pub decreases-inside_turn : goal.decreases-inside_turn
-decreases-inside_turn g l = 16 * l.level.now.left + 5
+decreases-inside_turn g l = 16 * l.level.now.left + 7
 
 abbrev pub decreases-name_turn : goal.decreases-name_turn
 decreases-name_turn g l = 16 * l.level.now.left + 3
@@ -45,10 +51,10 @@ abbrev pub decreases-outside_turn : goal.decreases-outside_turn
 decreases-outside_turn g l = 16 * l.level.now.left + 4
 
 abbrev pub decreases-turn : goal.decreases-turn
-decreases-turn g l = 16 * l.level.now.left + 6
+decreases-turn g l = 16 * l.level.now.left + 8
 
 abbrev pub decreases-replaced_list : goal.decreases-replaced_list
-decreases-replaced_list g l = 16 * l.level.now.left + 7
+decreases-replaced_list g l = 16 * l.level.now.left + 9
 
 abbrev pub invariant-arguments_replaced-loop-argument : goal.invariant-arguments_replaced-loop-argument
 invariant-arguments_replaced-loop-argument g l = record {

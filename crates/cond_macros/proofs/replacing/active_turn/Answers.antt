@@ -2,8 +2,8 @@ use Rattle.std.proofs.Common.{[], ◌∷◌, ap, ◌∙◌}
 use Rattle.c_text.specs.Macros as spec
 use Rattle.cond_formula.specs.Conditions.{condition_of, value}
 use Rattle.cond_bodies.specs.CondItems.{item_at}
-use Rattle.cond_macros.specs.CondRuns.{run_at}
-use Rattle.cond_macros.specs.Pieces.{also, under_piece, items_piece}
+use Rattle.cond_runs.specs.CondRuns.{run_at}
+use Rattle.cond_runs.specs.Pieces.{also, under_piece, items_piece}
 use Rattle.cond_macros.proofs.NameLemmas.{active_named}
 use Rattle.cond_macros.proofs.replacing.active_turn.Goals as goal
 

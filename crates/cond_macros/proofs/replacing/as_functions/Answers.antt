@@ -4,8 +4,8 @@ use Rattle.cond_formula.specs.Conditions.{Condition, value}
 use Rattle.conditional.specs.Entries.{entries_of, seen, under}
 use Rattle.cond_bodies.specs.CondMeanings.{plain_function}
 use Rattle.cond_bodies.proofs.ItemLemmas.{seen_pushed}
-use Rattle.cond_macros.specs.Functions.{without_params}
-use Rattle.cond_macros.proofs.ArgumentLemmas.{form_step, form_end}
+use Rattle.cond_runs.specs.Functions.{without_params}
+use Rattle.cond_runs.proofs.ArgumentLemmas.{form_step, form_end}
 use Rattle.cond_macros.proofs.replacing.as_functions.Goals as goal
 
 pub loop-object-preserved : goal.loop-object-preserved

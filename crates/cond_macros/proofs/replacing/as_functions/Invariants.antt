@@ -2,7 +2,7 @@ use Rattle.std.proofs.Common.{◌≡◌, ℕ, Bool, ◌++◌, map, drop}
 use Rattle.c_text.specs.Token.{plain_token}
 use Rattle.conditional.specs.Entries.{entries_of, seen}
 use Rattle.cond_bodies.specs.CondMeanings.{plain_function}
-use Rattle.cond_macros.specs.Functions.{without_params}
+use Rattle.cond_runs.specs.Functions.{without_params}
 use Rattle.cond_macros.proofs.replacing.as_functions.Given as goal
 
 abbrev pub invariant-loop-object : goal.invariant-loop-object

@@ -8,10 +8,10 @@ use Rattle.conditional.specs.Entries.{entries_of, seen}
 use Rattle.cond_bodies.specs.declared.item.Item.{Item}
 use Rattle.cond_bodies.specs.CondItems.{item_at}
 use Rattle.cond_bodies.specs.CondMeanings.{plain_function}
-use Rattle.cond_macros.specs.Functions.{or_function}
-use Rattle.cond_macros.specs.CondCalls.{call_at, held_at}
-use Rattle.cond_macros.specs.CondRuns.{run_at}
-use Rattle.cond_macros.specs.Pieces.{also, under_piece, open_piece}
+use Rattle.cond_runs.specs.Functions.{or_function}
+use Rattle.cond_runs.specs.CondCalls.{call_at, held_at}
+use Rattle.cond_runs.specs.CondRuns.{run_at}
+use Rattle.cond_runs.specs.Pieces.{also, under_piece, open_piece}
 use Rattle.cond_macros.proofs.TurnLemmas.{unseen}
 use Rattle.cond_macros.proofs.replacing.begin_call.Goals as goal
 

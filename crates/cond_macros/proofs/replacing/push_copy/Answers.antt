@@ -4,9 +4,9 @@ use Rattle.c_text.specs.Token.{plain_token}
 use Rattle.c_text.specs.Macros as spec
 use Rattle.cond_formula.specs.Features.{has}
 use Rattle.cond_formula.specs.Conditions.{Condition, condition_of, value}
-use Rattle.cond_macros.specs.CondCalls.{call_at, held_at}
-use Rattle.cond_macros.specs.CondRuns.{run_at}
-use Rattle.cond_macros.specs.Pieces.{also, under_piece, open_piece}
+use Rattle.cond_runs.specs.CondCalls.{call_at, held_at}
+use Rattle.cond_runs.specs.CondRuns.{run_at}
+use Rattle.cond_runs.specs.Pieces.{also, under_piece, open_piece}
 use Rattle.cond_macros.proofs.TurnLemmas.{unseen}
 use Rattle.cond_macros.proofs.replacing.push_copy.Goals as goal
 

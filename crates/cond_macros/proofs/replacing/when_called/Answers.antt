@@ -8,8 +8,8 @@ use Rattle.cond_bodies.specs.declared.meanings.Function.{Function}
 use Rattle.cond_bodies.specs.CondItems.{items_at}
 use Rattle.cond_bodies.specs.CondMeanings.{plain_function}
 use Rattle.cond_bodies.proofs.LevelLemmas.{holds_is_seen}
-use Rattle.cond_macros.specs.Functions.{some_seen}
-use Rattle.cond_macros.proofs.ArgumentLemmas.{empty_is}
+use Rattle.cond_runs.specs.Functions.{some_seen}
+use Rattle.cond_runs.proofs.ArgumentLemmas.{empty_is}
 use Rattle.cond_macros.proofs.CondRunLemmas.{lists_some}
 use Rattle.cond_macros.proofs.replacing.when_called.Goals as goal
 

@@ -5,8 +5,8 @@ use Rattle.cond_formula.specs.Conditions.{condition_of, value}
 use Rattle.conditional.specs.declared.entries.Guarded.{Guarded}
 use Rattle.cond_bodies.specs.declared.item.Item.{Item}
 use Rattle.cond_bodies.specs.CondItems.{items_at}
-use Rattle.cond_macros.specs.CondArguments.{lists_at}
-use Rattle.cond_macros.specs.CondFinished.{given_at}
+use Rattle.cond_runs.specs.CondArguments.{lists_at}
+use Rattle.cond_runs.specs.CondFinished.{given_at}
 use Rattle.cond_macros.proofs.CallLemmas.{lists_added}
 use Rattle.cond_macros.proofs.replacing.Replaced.add.Goals as goal
 

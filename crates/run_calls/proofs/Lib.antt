@@ -1,0 +1,4 @@
+pub mod TextLemmas
+pub mod LibraryLemmas
+pub mod OutputLemmas
+pub mod CallLemmas

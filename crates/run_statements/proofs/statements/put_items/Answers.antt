@@ -1,0 +1,6 @@
+use Rattle.std.proofs.Common.{refl}
+use Rattle.run_machine.proofs.MachineLemmas.{stacks_come}
+use Rattle.run_statements.proofs.statements.put_items.Goals as goal
+
+pub returns : goal.returns
+returns c = stacks_come c.args.machine.now (record c.args.machine.now.control { actions = c.push.new.stack }) _ _ _ c.in_ok-push.ensures refl refl

@@ -1,0 +1,5 @@
+use Rattle.interp_actions.specs.StackLaws.{fails_behind}
+use Rattle.run_statements.proofs.statements.turn.Goals as goal
+
+pub returns-in-None : goal.returns-in-None
+returns-in-None c = fails_behind _ _ (c.in-None.ensures.none _ _)

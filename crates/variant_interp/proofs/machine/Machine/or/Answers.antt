@@ -1,7 +1,0 @@
-use Rattle.core_meaning.specs.Plain.{plain_expression}
-use Rattle.interp_actions.specs.Actions as plain
-use Rattle.variant_interp.proofs.MachineLemmas.{do_alone}
-use Rattle.variant_interp.proofs.machine.Machine.or.Goals as goal
-
-pub returns : goal.returns
-returns c = do_alone c.or.result (plain.or_action (plain_expression c.args.right.now)) c.args.self.now c.or.new.control c.or.ensures

@@ -1,7 +1,0 @@
-use Rattle.std.proofs.Common.{◌≡◌}
-use Rattle.core_meaning.specs.Run.{answer_of}
-use Rattle.variant_interp.specs.Machines.{outcome_of}
-use Rattle.variant_interp.proofs.machine.Machine.run.Given as goal
-
-abbrev pub invariant-loop-number : goal.invariant-loop-number
-invariant-loop-number l = answer_of (outcome_of l.self) ≡ answer_of (outcome_of l.initial.self)

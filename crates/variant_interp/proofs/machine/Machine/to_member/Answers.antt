@@ -1,8 +1,0 @@
-use Rattle.core_meaning.specs.Plain.{plain_place}
-use Rattle.core_meaning.specs.Program as program_form
-use Rattle.interp_actions.specs.Actions as plain
-use Rattle.variant_interp.proofs.MachineLemmas.{do_alone}
-use Rattle.variant_interp.proofs.machine.Machine.to_member.Goals as goal
-
-pub returns : goal.returns
-returns c = do_alone c.begin_member.result (plain.place_action (program_form.member (plain_place c.args.inner.now) c.args.number)) c.args.self.now c.begin_member.new.control c.begin_member.ensures
