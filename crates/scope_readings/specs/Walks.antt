@@ -1,0 +1,103 @@
+-- How a unit is read by the kinds of its nodes, whatever the places of their parts, so that a reader of all configurations at once, in which a
+-- part may be there or not, reads it in the same way.
+use Rattle.std.specs.Prelude.{ℕ, Bool, true, false, ◌||◌, List, [], if◌then◌else◌}
+use Rattle.c_text.specs.Token.{PlainToken}
+use Rattle.c_tree.specs.declared.kinds.Kind.{Kind}
+use Rattle.c_tree.specs.declared.kinds.Kind.TheVariants as k
+use Rattle.c_tree.specs.declared.terminals.Terminal.TheVariants as t
+use Rattle.c_tree.specs.Terminals.{terminal, same}
+use Rattle.c_tree.specs.Trees.{PlainTree, PlainTrees, leaf, node, none, more}
+use Rattle.bindings.specs.Bindings.{is_name}
+use Rattle.scope_readings.specs.Scopes.{Scopes, Scope, file_scope, block_scope, members, starting, this, passed, used, tagged, named, shown, leave}
+
+-- ---- what a name is, by the node in which it stands
+
+pub data Role : Type 0 where
+  ordinary_use : Role
+  member_use : Role
+  tag : Role
+  declared_name : Role
+
+-- Behind a `.` or `->`, and in the brackets of a declarator, a name is another thing than before.
+abbrev pub turns : Kind → PlainToken → Bool
+turns k.Selection token = same t.Select (terminal token)
+turns k.ArrayDeclarator token = same t.OpenBracket (terminal token)
+turns other token = false
+
+abbrev pub role : Kind → Bool → Role
+role k.Specifiers turned = tag
+role k.Declarator turned = declared_name
+role k.FunctionDeclarator turned = declared_name
+role k.ArrayDeclarator false = declared_name
+role k.Selection true = member_use
+role other turned = ordinary_use
+
+-- ---- declarations: a declarator and a tag stand in the innermost of them
+
+abbrev pub declaration_in : Kind → Kind → Kind
+declaration_in around k.Declaration = k.Declaration
+declaration_in around k.Function = k.Function
+declaration_in around k.StructDefinition = k.StructDefinition
+declaration_in around k.StructDeclaration = k.StructDeclaration
+declaration_in around k.Member = k.Member
+declaration_in around k.LocalDeclaration = k.LocalDeclaration
+declaration_in around k.Parameter = k.Parameter
+declaration_in around other = around
+
+abbrev pub scope_of : Kind → Scope
+scope_of k.Declaration = file_scope
+scope_of k.Function = file_scope
+scope_of k.Member = members
+scope_of other = block_scope
+
+-- An undeclared tag declares a struct in a declaration at file scope and in a member, and nowhere else.
+abbrev pub may_declare : Kind → Bool
+may_declare k.Declaration = true
+may_declare k.StructDefinition = true
+may_declare k.StructDeclaration = true
+may_declare k.Member = true
+may_declare other = false
+
+-- ---- scopes
+
+-- A scope ends with a block, a `for`, a function's definition, and a function's declarator elsewhere (6.2.1 p4).
+abbrev pub ends_scope : Kind → Kind → Bool
+ends_scope declaration k.Block = true
+ends_scope declaration k.For = true
+ends_scope declaration k.Function = true
+ends_scope k.Function k.FunctionDeclarator = false
+ends_scope declaration k.FunctionDeclarator = true
+ends_scope declaration other = false
+
+abbrev pub leave_if : Bool → Scopes → Scopes → Scopes
+leave_if true before s = leave before s
+leave_if false before s = s
+
+-- ---- the reading, within a declaration
+
+abbrev mutual
+  pub walk_node : Kind → Kind → PlainTrees → Scopes → Scopes
+  walk_node declaration kind parts s =
+      leave_if (ends_scope declaration kind) s (walk_parts (declaration_in declaration kind) kind false parts s)
+
+  -- the parts of a node; whether one before them turned what a name is
+  pub walk_parts : Kind → Kind → Bool → PlainTrees → Scopes → Scopes
+  walk_parts declaration kind turned none s = s
+  walk_parts declaration kind turned (more (node inner parts) rest) s =
+      walk_parts declaration kind turned rest (walk_node declaration inner parts s)
+  walk_parts declaration kind turned (more (leaf token) rest) s =
+      if is_name token then walk_name declaration kind turned (role kind turned) token rest s
+      else walk_parts declaration kind (turned || turns kind token) rest (passed s)
+
+  -- a name, and the parts behind it
+  pub walk_name : Kind → Kind → Bool → Role → PlainToken → PlainTrees → Scopes → Scopes
+  walk_name declaration kind turned ordinary_use token rest s = walk_parts declaration kind turned rest (used token.text s)
+  walk_name declaration kind turned member_use token rest s = walk_parts declaration kind turned rest (passed s)
+  walk_name declaration kind turned tag token rest s = walk_parts declaration kind turned rest (tagged (may_declare declaration) token.text s)
+  walk_name declaration kind turned declared_name token rest s =
+      shown (scope_of declaration) token.text (this s) (walk_parts declaration kind turned rest (named (scope_of declaration) token.text s))
+
+-- a unit whose tokens have these numbers
+abbrev pub walk_unit : List ℕ → PlainTree → Scopes
+walk_unit numbers (leaf token) = starting numbers
+walk_unit numbers (node kind parts) = walk_node k.Unit kind parts (starting numbers)
