@@ -75,27 +75,29 @@ leave_if false before s = s
 
 -- ---- the reading, within a declaration
 
-abbrev mutual
-  pub walk_node : Kind → Kind → PlainTrees → Scopes → Scopes
-  walk_node declaration kind parts s =
-      leave_if (ends_scope declaration kind) s (walk_parts (declaration_in declaration kind) kind false parts s)
+-- a name, where the parts behind it are walked so
+abbrev pub walk_name : Kind → Role → PlainToken → (Scopes → Scopes) → Scopes → Scopes
+walk_name declaration ordinary_use token behind s = behind (used token.text s)
+walk_name declaration member_use token behind s = behind (passed s)
+walk_name declaration tag token behind s = behind (tagged (may_declare declaration) token.text s)
+walk_name declaration declared_name token behind s =
+    shown (scope_of declaration) token.text (this s) (behind (named (scope_of declaration) token.text s))
 
-  -- the parts of a node; whether one before them turned what a name is
-  pub walk_parts : Kind → Kind → Bool → PlainTrees → Scopes → Scopes
-  walk_parts declaration kind turned none s = s
-  walk_parts declaration kind turned (more (node inner parts) rest) s =
-      walk_parts declaration kind turned rest (walk_node declaration inner parts s)
-  walk_parts declaration kind turned (more (leaf token) rest) s =
-      if is_name token then walk_name declaration kind turned (role kind turned) token rest s
-      else walk_parts declaration kind (turned || turns kind token) rest (passed s)
+-- the parts of a node; whether one before them turned what a name is
+abbrev pub walk_parts : Kind → Kind → Bool → PlainTrees → Scopes → Scopes
+walk_parts declaration kind turned none s = s
+walk_parts declaration kind turned (more (node inner parts) rest) s =
+    walk_parts declaration kind turned rest
+    (leave_if (ends_scope declaration inner) s (walk_parts (declaration_in declaration inner) inner false parts s))
+walk_parts declaration kind turned (more (leaf token) rest) s =
+    if is_name token
+    then walk_name declaration (role kind turned) token (λ after. walk_parts declaration kind turned rest after) s
+    else walk_parts declaration kind (turned || turns kind token) rest (passed s)
 
-  -- a name, and the parts behind it
-  pub walk_name : Kind → Kind → Bool → Role → PlainToken → PlainTrees → Scopes → Scopes
-  walk_name declaration kind turned ordinary_use token rest s = walk_parts declaration kind turned rest (used token.text s)
-  walk_name declaration kind turned member_use token rest s = walk_parts declaration kind turned rest (passed s)
-  walk_name declaration kind turned tag token rest s = walk_parts declaration kind turned rest (tagged (may_declare declaration) token.text s)
-  walk_name declaration kind turned declared_name token rest s =
-      shown (scope_of declaration) token.text (this s) (walk_parts declaration kind turned rest (named (scope_of declaration) token.text s))
+-- a node among the parts of another
+abbrev pub walk_node : Kind → Kind → PlainTrees → Scopes → Scopes
+walk_node declaration kind parts s =
+    leave_if (ends_scope declaration kind) s (walk_parts (declaration_in declaration kind) kind false parts s)
 
 -- a unit whose tokens have these numbers
 abbrev pub walk_unit : List ℕ → PlainTree → Scopes
