@@ -1,5 +1,5 @@
 -- Declarations are walked as they are read.
-use Rattle.std.proofs.Common.{◌≡◌, ℕ, Bool, true, false, ◌||◌, List, [], ◌∷◌, refl, ap, ◌∙◌, IsTrue}
+use Rattle.std.proofs.Common.{◌≡◌, ℕ, Bool, false, List, [], ◌∷◌, refl, ap, ◌∙◌}
 use Rattle.c_text.specs.Token.{PlainToken}
 use Rattle.c_tree.specs.declared.kinds.Kind.{Kind}
 use Rattle.c_tree.specs.declared.kinds.Kind.TheVariants as k

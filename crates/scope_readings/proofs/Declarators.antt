@@ -1,5 +1,5 @@
 -- Declarators and parameters are walked as they are read.
-use Rattle.std.proofs.Common.{◌≡◌, ℕ, Bool, true, false, ◌||◌, List, [], ◌∷◌, refl, sym, ap, ◌∙◌, IsTrue}
+use Rattle.std.proofs.Common.{◌≡◌, ℕ, Bool, true, false, ◌||◌, List, [], ◌∷◌, refl, sym, ap, ◌∙◌}
 use Rattle.std.specs.Prelude.{if◌then◌else◌}
 use Rattle.c_text.specs.Token.{PlainToken}
 use Rattle.c_tree.specs.declared.kinds.Kind.{Kind}
@@ -7,7 +7,7 @@ use Rattle.c_tree.specs.declared.kinds.Kind.TheVariants as k
 use Rattle.c_tree.specs.declared.terminals.Terminal.TheVariants as t
 use Rattle.c_tree.specs.Terminals.{terminal, same}
 use Rattle.c_tree.specs.Trees.{PlainTree, PlainTrees, leaf, node, none, more, absent}
-use Rattle.c_tree.specs.Grammar.{expression, declarator, abstract_declarator, parameters, parameter, Role, Slot, word, perhaps, stars, needed, optional, bracketed_size, row, at_file_scope}
+use Rattle.c_tree.specs.Grammar.{expression, declarator, abstract_declarator, parameters, parameter, Role, Slot, word, perhaps, stars, optional, bracketed_size, row, at_file_scope}
 use Rattle.c_tree.proofs.TerminalCases.{one_of}
 use Rattle.tree_derivations.specs.Derivations.{Derivation, single, made_of, a_row, with_commas, Row, at_end, a_word, perhaps_there, not_there, a_star, no_star, a_part, left_out, given, Separated, last_one, next_one, IsWord}
 use Rattle.bindings.specs.Visible as reading
@@ -171,9 +171,9 @@ parameters_are (made_of _ b a s) = none_such b
 
 module _ (numbers : List ℕ) (d : Kind) where
   parameter_walks :
-      {words tree : PlainTree} → Specifying words → PartWalks numbers k.Parameter k.Parameter false tree (read_declared read_expressions in_block tree)
+      {words : PlainTree} → Specifying words → (tree : PlainTree) → PartWalks numbers k.Parameter k.Parameter false tree (read_declared read_expressions in_block tree)
       → PartWalks numbers d k.Parameters false (node k.Parameter (more words (more tree none))) (read_parameter (node k.Parameter (more words (more tree none))))
-  parameter_walks {tree = tree} (by_words words are) h =
+  parameter_walks (by_words words are) tree h =
       node_part numbers d k.Parameters false k.Parameter (more (node k.Specifiers words) (more tree none))
       (λ r. read_declared read_expressions in_block tree (read_words false words r))
       (λ r. node_part numbers k.Parameter k.Parameter false k.Specifiers words (read_words false words) (words_walk numbers words are k.Parameter) (more tree none) r
@@ -181,9 +181,9 @@ module _ (numbers : List ℕ) (d : Kind) where
 
   parameter_part : {tree : PlainTree} → Derivation parameter tree → PartWalks numbers d k.Parameters false tree (read_parameter tree)
   parameter_part (single is) = none_such is
-  parameter_part (made_of k.Parameter b a (a_row (a_part h (left_out at_end)))) = parameter_walks (specifiers_are h) (λ rest r. refl)
-  parameter_part (made_of k.Parameter b a (a_row (a_part h (given i at_end)))) =
-      parameter_walks (specifiers_are h) (abstract_part numbers k.Parameter in_block refl read_expressions parameter_behind i k.Parameter)
+  parameter_part (made_of k.Parameter b a (a_row (a_part h (left_out at_end)))) = parameter_walks (specifiers_are h) absent (λ rest r. refl)
+  parameter_part (made_of k.Parameter b a (a_row (a_part h (given {tree = tree} i at_end)))) =
+      parameter_walks (specifiers_are h) tree (abstract_part numbers k.Parameter in_block refl read_expressions parameter_behind i k.Parameter)
   parameter_part (made_of _ b a s) = none_such b
 
   parameters_walk : {parts : PlainTrees} → Separated parameter parts → PartsWalk numbers d k.Parameters false parts (read_parameters parts)

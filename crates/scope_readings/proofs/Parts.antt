@@ -8,13 +8,13 @@ use Rattle.c_tree.specs.declared.terminals.Terminal.{Terminal}
 use Rattle.c_tree.specs.declared.terminals.Terminal.TheVariants as t
 use Rattle.c_tree.specs.Terminals.{terminal, same, is_one_of}
 use Rattle.c_tree.specs.Trees.{PlainTree, PlainTrees, leaf, node, none, more, absent}
-use Rattle.c_tree.specs.Grammar.{Category, Slot, word, perhaps, stars, needed, optional}
+use Rattle.c_tree.specs.Grammar.{Category, Slot, word, needed, optional}
 use Rattle.c_tree.proofs.TerminalCases.{same-true}
 use Rattle.tree_derivations.specs.Derivations.{Derivation, Row, at_end, a_word, perhaps_there, not_there, a_star, no_star, a_part, left_out, given, Each, no_more, one_more, Separated, last_one, next_one, Ended, ends, ends_in_comma, goes_on, IsWord}
 use Rattle.bindings.specs.Visible as reading
 use Rattle.bindings.specs.Visible.{Reading}
 use Rattle.bindings.specs.Bindings.{is_name, read_expression}
-use Rattle.scope_readings.specs.Scopes.{passed, used}
+use Rattle.scope_readings.specs.Scopes.{passed}
 use Rattle.scope_readings.specs.Walks.{turns, role, ordinary_use, walk_name, walk_parts, walk_node}
 use Rattle.scope_readings.proofs.Images.{image, passed_image, used_image}
 
@@ -161,11 +161,10 @@ module _ (numbers : List ℕ) where
             {each : Category} {parts : PlainTrees} → Separated each parts → IsTrue (known each) → AllGood parts → (d kind : Kind) (turned : Bool) → Uses kind turned
             → AllParts d kind turned parts
         separated_parts (last_one {each = each} h) q good d kind turned uses = (good.0 each q h d kind turned uses, tt)
-        separated_parts (next_one {each = each} {comma = comma} h w others) q good d kind turned uses =
-            (
-              good.0 each q h d kind turned uses,
-              (word_part (t.Comma ∷ []) comma refl w d kind turned uses, separated_parts others q good.1.1 d kind turned uses),
-            )
+        separated_parts (next_one {each = each} {comma = comma} h w others) q good d kind turned uses = (
+          good.0 each q h d kind turned uses,
+          (word_part (t.Comma ∷ []) comma refl w d kind turned uses, separated_parts others q good.1.1 d kind turned uses),
+        )
 
         pub ended_parts :
             {each : Category} {parts : PlainTrees} → Ended each parts → IsTrue (known each) → AllGood parts → (d kind : Kind) (turned : Bool) → Uses kind turned
@@ -173,8 +172,7 @@ module _ (numbers : List ℕ) where
         ended_parts (ends {each = each} h) q good d kind turned uses = (good.0 each q h d kind turned uses, tt)
         ended_parts (ends_in_comma {each = each} {comma = comma} h w) q good d kind turned uses =
             (good.0 each q h d kind turned uses, (word_part (t.Comma ∷ []) comma refl w d kind turned uses, tt))
-        ended_parts (goes_on {each = each} {comma = comma} h w others) q good d kind turned uses =
-            (
-              good.0 each q h d kind turned uses,
-              (word_part (t.Comma ∷ []) comma refl w d kind turned uses, ended_parts others q good.1.1 d kind turned uses),
-            )
+        ended_parts (goes_on {each = each} {comma = comma} h w others) q good d kind turned uses = (
+          good.0 each q h d kind turned uses,
+          (word_part (t.Comma ∷ []) comma refl w d kind turned uses, ended_parts others q good.1.1 d kind turned uses),
+        )

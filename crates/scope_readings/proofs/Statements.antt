@@ -1,14 +1,13 @@
 -- Statements are walked as they are read.
-use Rattle.std.proofs.Common.{◌≡◌, ℕ, Bool, true, false, ◌&&◌, ◌||◌, List, [], ◌∷◌, refl, sym, ap, ◌∙◌, IsTrue}
+use Rattle.std.proofs.Common.{◌≡◌, ℕ, Bool, true, false, List, refl, sym, ap, ◌∙◌, IsTrue}
 use Rattle.std.specs.Prelude.{nat_le}
 use Rattle.std.proofs.lemmas.Bool.{and_parts}
 use Rattle.c_text.specs.Token.{PlainToken}
 use Rattle.c_tree.specs.declared.kinds.Kind.{Kind}
 use Rattle.c_tree.specs.declared.kinds.Kind.TheVariants as k
-use Rattle.c_tree.specs.declared.terminals.Terminal.TheVariants as t
 use Rattle.c_tree.specs.Trees.{PlainTree, PlainTrees, leaf, node, none, more}
-use Rattle.c_tree.specs.Grammar.{Category, expression, statement, else_part, block, items, item, for_start, Slot, Role, local, row, level, shape, belongs, is_statement}
-use Rattle.tree_derivations.specs.Derivations.{Derivation, single, made_of, Shaped, a_row, one_or_more, Row, at_end, a_word, a_part, IsWord}
+use Rattle.c_tree.specs.Grammar.{Category, expression, statement, else_part, block, items, item, for_start, Slot, local, row, level, shape, belongs, is_statement}
+use Rattle.tree_derivations.specs.Derivations.{Derivation, single, made_of, Shaped, a_row, one_or_more, Row, at_end, a_word, a_part}
 use Rattle.bindings.specs.Visible.{Reading}
 use Rattle.bindings.specs.Bindings.{in_block, read_expression, read_closed_suffix, read_declaration, read_statement, read_statements}
 use Rattle.scope_readings.specs.Scopes.{leave}

@@ -1,5 +1,5 @@
 -- Units are walked as they are read.
-use Rattle.std.proofs.Common.{◌≡◌, ℕ, Bool, true, false, List, [], ◌∷◌, refl, ap, ◌∙◌, IsTrue}
+use Rattle.std.proofs.Common.{ℕ, true, false, List, [], ◌∷◌, refl, ap, ◌∙◌}
 use Rattle.c_text.specs.Token.{PlainToken}
 use Rattle.c_tree.specs.declared.kinds.Kind.{Kind}
 use Rattle.c_tree.specs.declared.kinds.Kind.TheVariants as k
@@ -10,7 +10,7 @@ use Rattle.core_meaning.specs.Declarations.{name_in}
 use Rattle.tree_derivations.specs.Derivations.{Derivation, single, made_of, a_row, one_or_more, Row, at_end, a_word, a_part, Each, no_more, one_more, IsWord, UnitsAreDerived}
 use Rattle.bindings.specs.Visible as reading
 use Rattle.bindings.specs.Visible.{Reading, start}
-use Rattle.bindings.specs.Bindings.{at_file, among_members, read_words, read_declarators, read_suffix, read_closed_suffix, read_declaration, read_statement, read_members, tag_text, read_item, read_items}
+use Rattle.bindings.specs.Bindings.{at_file, among_members, read_words, read_declarators, read_suffix, read_declaration, read_members, tag_text, read_item, read_items}
 use Rattle.scope_readings.specs.Scopes.{Scopes, leave}
 use Rattle.scope_readings.specs.Laws.{ScopesAreRead}
 use Rattle.scope_readings.proofs.Images.{image}

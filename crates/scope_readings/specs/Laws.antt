@@ -1,5 +1,5 @@
 -- That a unit is read so; the law is the contract of a function of this crate.
-use Rattle.std.specs.Prelude.{◌≡◌, ℕ, List, [], ◌∷◌, get_or, Option, Some, None, IsTrue}
+use Rattle.std.specs.Prelude.{◌≡◌, ℕ, List, [], ◌∷◌, get_or, Some, None, IsTrue}
 use Rattle.std.specs.List.{flat_map}
 use Rattle.c_tree.specs.Trees.{PlainTree}
 use Rattle.c_tree.specs.Grammar.{is_unit}

@@ -1,6 +1,6 @@
 -- How a unit is read by the kinds of its nodes, whatever the places of their parts, so that a reader of all configurations at once, in which a
 -- part may be there or not, reads it in the same way.
-use Rattle.std.specs.Prelude.{ℕ, Bool, true, false, ◌||◌, List, [], if◌then◌else◌}
+use Rattle.std.specs.Prelude.{ℕ, Bool, true, false, ◌||◌, List, if◌then◌else◌}
 use Rattle.c_text.specs.Token.{PlainToken}
 use Rattle.c_tree.specs.declared.kinds.Kind.{Kind}
 use Rattle.c_tree.specs.declared.kinds.Kind.TheVariants as k
@@ -62,42 +62,42 @@ may_declare other = false
 
 -- A scope ends with a block, a `for`, a function's definition, and a function's declarator elsewhere (6.2.1 p4).
 abbrev pub ends_scope : Kind → Kind → Bool
-ends_scope declaration k.Block = true
-ends_scope declaration k.For = true
-ends_scope declaration k.Function = true
+ends_scope around k.Block = true
+ends_scope around k.For = true
+ends_scope around k.Function = true
 ends_scope k.Function k.FunctionDeclarator = false
-ends_scope declaration k.FunctionDeclarator = true
-ends_scope declaration other = false
+ends_scope around k.FunctionDeclarator = true
+ends_scope around other = false
 
 abbrev pub leave_if : Bool → Scopes → Scopes → Scopes
 leave_if true before s = leave before s
 leave_if false before s = s
 
--- ---- the reading, within a declaration
+-- ---- the reading, within the declaration around
 
 -- a name, where the parts behind it are walked so
 abbrev pub walk_name : Kind → Role → PlainToken → (Scopes → Scopes) → Scopes → Scopes
-walk_name declaration ordinary_use token behind s = behind (used token.text s)
-walk_name declaration member_use token behind s = behind (passed s)
-walk_name declaration tag token behind s = behind (tagged (may_declare declaration) token.text s)
-walk_name declaration declared_name token behind s =
-    shown (scope_of declaration) token.text (this s) (behind (named (scope_of declaration) token.text s))
+walk_name around ordinary_use token behind s = behind (used token.text s)
+walk_name around member_use token behind s = behind (passed s)
+walk_name around tag token behind s = behind (tagged (may_declare around) token.text s)
+walk_name around declared_name token behind s =
+    shown (scope_of around) token.text (this s) (behind (named (scope_of around) token.text s))
 
 -- the parts of a node; whether one before them turned what a name is
 abbrev pub walk_parts : Kind → Kind → Bool → PlainTrees → Scopes → Scopes
-walk_parts declaration kind turned none s = s
-walk_parts declaration kind turned (more (node inner parts) rest) s =
-    walk_parts declaration kind turned rest
-    (leave_if (ends_scope declaration inner) s (walk_parts (declaration_in declaration inner) inner false parts s))
-walk_parts declaration kind turned (more (leaf token) rest) s =
+walk_parts around kind turned none s = s
+walk_parts around kind turned (more (node inner parts) rest) s =
+    walk_parts around kind turned rest
+    (leave_if (ends_scope around inner) s (walk_parts (declaration_in around inner) inner false parts s))
+walk_parts around kind turned (more (leaf token) rest) s =
     if is_name token
-    then walk_name declaration (role kind turned) token (λ after. walk_parts declaration kind turned rest after) s
-    else walk_parts declaration kind (turned || turns kind token) rest (passed s)
+    then walk_name around (role kind turned) token (λ after. walk_parts around kind turned rest after) s
+    else walk_parts around kind (turned || turns kind token) rest (passed s)
 
 -- a node among the parts of another
 abbrev pub walk_node : Kind → Kind → PlainTrees → Scopes → Scopes
-walk_node declaration kind parts s =
-    leave_if (ends_scope declaration kind) s (walk_parts (declaration_in declaration kind) kind false parts s)
+walk_node around kind parts s =
+    leave_if (ends_scope around kind) s (walk_parts (declaration_in around kind) kind false parts s)
 
 -- a unit whose tokens have these numbers
 abbrev pub walk_unit : List ℕ → PlainTree → Scopes
