@@ -1,0 +1,9 @@
+pub mod Images
+pub mod Kept
+pub mod Parts
+pub mod Words
+pub mod Expressions
+pub mod Declarators
+pub mod Declarations
+pub mod Statements
+pub mod Units
