@@ -70,10 +70,14 @@ pub locals_entered : (n m : ℕ) (l : LocalPlace) (locals : List LocalPlace) →
 locals_entered n m l locals is lt below =
     and_from (local_below m l) (list_all (local_below m) locals) (lt-ltb l.place m (omega arith)) (locals_longer n m locals (omega arith) below)
 
-pub identifiers_noted : (n : ℕ) (identifiers : List Identifier) (i : Identifier) → IdentifiersBelow n identifiers → meaning_below n i.meaning ≡ true → IdentifiersBelow n (identifiers ++ i ∷ [])
+identifiers_noted : (n : ℕ) (identifiers : List Identifier) (i : Identifier) → IdentifiersBelow n identifiers → meaning_below n i.meaning ≡ true → IdentifiersBelow n (identifiers ++ i ∷ [])
 identifiers_noted n identifiers i below one =
     all_append (identifier_below n) identifiers (i ∷ [])
     ∙ and_from (list_all (identifier_below n) identifiers) (list_all (identifier_below n) (i ∷ [])) below (and_from (identifier_below n i) true one refl)
+
+pub identifiers_noted_if : (n : ℕ) (b : Bool) (identifiers : List Identifier) (i : Identifier) → IdentifiersBelow n identifiers → meaning_below n i.meaning ≡ true → IdentifiersBelow n (if b then identifiers ++ i ∷ [] else identifiers)
+identifiers_noted_if n true identifiers i below one = identifiers_noted n identifiers i below one
+identifiers_noted_if n false identifiers i below one = below
 
 pub innermost_below : (n : ℕ) (locals : List LocalPlace) (name : List ℕ) → list_all (local_below n) locals ≡ true → is_below n (innermost_in locals name) ≡ true
 innermost_below n [] name below = refl
@@ -107,7 +111,7 @@ left_outer f kept locals more outer count is =
     let others = latest_first (take kept locals) in
     let parts = ap (map f) (latest_split kept locals) ∙ map-append f latest others in
     let whole : length locals ≡ length more + kept =
-        sym (length-map (latest_first locals) f ∙ length_latest locals) ∙ ap length is ∙ length-append more outer ∙ ap (λ n. length more + n) count in
+    sym (length-map (latest_first locals) f ∙ length_latest locals) ∙ ap length is ∙ length-append more outer ∙ ap (λ n. length more + n) count in
     let front : length (map f latest) ≡ length locals - kept = length-map latest f ∙ length_latest (drop kept locals) ∙ length-drop kept locals in
     let long : length (map f latest) ≡ length more = omega (arith, whole, front) in
     sym (drop_at (map f latest) (map f others) (length more) long) ∙ ap (drop (length more)) (sym parts ∙ is) ∙ drop_at more outer (length more) refl

@@ -1,11 +1,10 @@
 -- The names once there is one more declaration.
 use Rattle.std.proofs.Common.{◌≡◌, ℕ, Bool, true, false, List, [], ◌∷◌, ◌++◌, length, map, refl, ap, ◌∙◌}
-use Rattle.std.specs.Prelude.{Option, Some, None, if◌then◌else◌}
+use Rattle.std.specs.Prelude.{Option, Some, if◌then◌else◌}
 use Rattle.std.specs.List.{list_all}
 use Rattle.std.specs.Str.{bytes_eq}
 use Rattle.std.proofs.Math.Path.{fun_ext}
 use Rattle.std.proofs.lemmas.Bool.{and_parts}
-use Rattle.cond_formula.specs.declared.formulas.Formula.{Formula}
 use Rattle.cond_formula.specs.Conditions.{Condition, condition_of}
 use Rattle.core_meaning.specs.Entities.{with_entry}
 use Rattle.cond_bindings.specs.declared.unit_bindings.Declaration.{Declaration}
@@ -57,7 +56,7 @@ module _ (ds : List Declaration) (d : Declaration) where
   blocks_kept : (locals : List LocalPlace) → list_all (local_below (length ds)) locals ≡ true → map (block_name (ds ++ d ∷ [])) locals ≡ map (block_name ds) locals
   blocks_kept = all_mapped (local_below (length ds)) (block_name (ds ++ d ∷ [])) (block_name ds) block_kept
 
-  table_kept : (table : List ℕ → Option ℕ) → TableBelow (length ds) table → (λ name. visible (ds ++ d ∷ []) (table name)) ≡ (λ name. visible ds (table name))
+  table_kept : (table : List ℕ → Option ℕ) → TableBelow (length ds) table → ◌≡◌ {A = List ℕ → List Visible} (λ name. visible (ds ++ d ∷ []) (table name)) (λ name. visible ds (table name))
   table_kept table below = fun_ext (λ name. visible_kept ds d (table name) (below name))
 
   chosen : (b : Bool) (place : Option ℕ) → is_below (length ds) place ≡ true → visible (ds ++ d ∷ []) (if b then Some (length ds) else place) ≡ (if b then as_visible d ∷ visible ds d.hides else visible ds place)
@@ -71,7 +70,7 @@ module _ (ds : List Declaration) (d : Declaration) where
   blocks_shown : (locals : List LocalPlace) (name : List ℕ) → d.hides ≡ innermost_in locals name → list_all (local_below (length ds)) locals ≡ true → map (block_name (ds ++ d ∷ [])) (record { name = name; place = length ds } ∷ locals) ≡ record { name = name; visible = as_visible d ∷ visible_in (map (block_name ds) locals) name } ∷ map (block_name ds) locals
   blocks_shown locals name hides below =
       ap (λ (vs : List Visible). let b : BlockName = record { name = name; visible = vs } in b ∷ map (block_name (ds ++ d ∷ [])) locals)
-        (visible_new ds d ∙ ap (λ place. as_visible d ∷ visible ds place) hides ∙ ap (λ vs. as_visible d ∷ vs) (visible_innermost ds locals name))
+      (visible_new ds d ∙ ap (λ place. as_visible d ∷ visible ds place) hides ∙ ap (λ vs. as_visible d ∷ vs) (visible_innermost ds locals name))
       ∙ ap (λ (bs : List BlockName). let b : BlockName = record { name = name; visible = as_visible d ∷ visible_in (map (block_name ds) locals) name } in b ∷ bs) (blocks_kept locals below)
 
 same_names : (f g t u : List ℕ → List Visible) (bs cs : List BlockName) (is js : List PlainIdentifier) (refused : Condition) → f ≡ g → t ≡ u → bs ≡ cs → is ≡ js → let named : (List ℕ → List Visible) → (List ℕ → List Visible) → List BlockName → List PlainIdentifier → PlainNames = λ file tags blocks identifiers. record { file = file; tags = tags; blocks = blocks; identifiers = identifiers; refused = refused } in named f t bs is ≡ named g u cs js

@@ -1,9 +1,8 @@
 -- What is visible at a place of a list.
-use Rattle.std.proofs.Common.{◌≡◌, ℕ, ◌<◌, ◌≤◌, ◌+◌, Bool, true, false, List, [], ◌∷◌, ◌++◌, length, reverse, take, drop, get_or, refl, sym, ap, ◌∙◌, arith, length-append, append_assoc}
+use Rattle.std.proofs.Common.{◌≡◌, ℕ, ◌<◌, ◌≤◌, ◌+◌, true, List, [], ◌∷◌, ◌++◌, length, reverse, take, drop, get_or, refl, sym, ap, ◌∙◌, arith, length-append, append_assoc}
 use Rattle.std.specs.Prelude.{Option, Some, None}
 use Rattle.std.proofs.lemmas.Bool.{ltb-true, eq-eqb, ne_eqb}
 use Rattle.std.proofs.lemmas.List.{reverse-append, length-reverse, take-append-drop, drop_more, get_or-take, take-take, length-take-le}
-use Rattle.cond_formula.specs.Conditions.{condition_of}
 use Rattle.cond_bindings.specs.declared.unit_bindings.Declaration.{Declaration}
 use Rattle.cond_bindings.specs.Bindings.{visible_from, visible}
 use Rattle.cond_bindings.specs.NameSteps.{as_visible}

@@ -1,5 +1,5 @@
 -- What a configuration sees of the names after a step.
-use Rattle.std.proofs.Common.{◌≡◌, ℕ, Bool, true, false, ◌&&◌, ◌||◌, List, [], ◌∷◌, ◌++◌, refl, sym, ap, subst, ⊎_elim, ◌∙◌, append-nil}
+use Rattle.std.proofs.Common.{◌≡◌, ℕ, Bool, true, false, ◌&&◌, ◌||◌, List, [], ◌∷◌, ◌++◌, refl, sym, ap, ⊎_elim, ◌∙◌, append-nil}
 use Rattle.std.specs.Prelude.{Option, Some, None, is_none, if◌then◌else◌}
 use Rattle.std.specs.Str.{bytes_eq}
 use Rattle.std.specs.Cmp.Lexicographic.{bytes_decides}
@@ -9,7 +9,7 @@ use Rattle.cond_formula.specs.Conditions.{Condition, value}
 use Rattle.core_meaning.specs.Entities.{Table, with_entry, or_else}
 use Rattle.scope_readings.specs.Scopes.{Pairing, Scopes, or_own, paired, tagged, named, shown, Scope, file_scope, block_scope, members}
 use Rattle.cond_bindings.specs.Bindings.{Visible, PlainIdentifier, innermost, first, declared_by, declares, pairings_at}
-use Rattle.cond_bindings.specs.Names.{BlockName, PlainNames, visible_in, seen, Steps, some_undeclared, TellsUndeclared}
+use Rattle.cond_bindings.specs.Names.{PlainNames, visible_in, seen, Steps, some_undeclared, TellsUndeclared}
 use Rattle.cond_bindings.specs.NameSteps.{noted, with_visible, with_file, with_tag, with_local, before_in}
 
 -- ---- steps
@@ -87,13 +87,13 @@ module _ (on : ℕ → Bool) (name : List ℕ) (v : Visible) where
   file_there : (table : List ℕ → List Visible) → value on v.when ≡ true → (λ other. first on (with_visible table name v other)) ≡ with_entry (λ n. first on (table n)) name (or_own (first on (table name)) v.number)
   file_there table there = fun_ext (λ other. first_there (bytes_eq other name) (table name) (table other) there)
 
-  file_hidden : (table : List ℕ → List Visible) → value on v.when ≡ false → (λ other. first on (with_visible table name v other)) ≡ (λ other. first on (table other))
+  file_hidden : (table : List ℕ → List Visible) → value on v.when ≡ false → ◌≡◌ {A = Table ℕ} (λ other. first on (with_visible table name v other)) (λ other. first on (table other))
   file_hidden table hidden = fun_ext (hidden_at (first on) table (first_hidden (table name) hidden))
 
   block_there : (table : List ℕ → List Visible) → value on v.when ≡ true → (λ other. innermost on (with_visible table name v other)) ≡ with_entry (λ n. innermost on (table n)) name v.number
   block_there table there = fun_ext (λ other. innermost_there (bytes_eq other name) (table name) (table other) there)
 
-  block_hidden : (table : List ℕ → List Visible) → value on v.when ≡ false → (λ other. innermost on (with_visible table name v other)) ≡ (λ other. innermost on (table other))
+  block_hidden : (table : List ℕ → List Visible) → value on v.when ≡ false → ◌≡◌ {A = Table ℕ} (λ other. innermost on (with_visible table name v other)) (λ other. innermost on (table other))
   block_hidden table hidden = fun_ext (hidden_at (innermost on) table (innermost_hidden (table name) hidden))
 
   pub file_steps : (b : Bool) (coming : List ℕ) (names : PlainNames) → value on v.when ≡ b → Steps on b coming (shown file_scope name v.number) coming names (with_file names name v)
@@ -150,4 +150,4 @@ and_false false = refl
 pub told_declared : (on : ℕ → Bool) (names : PlainNames) (number : ℕ) (when : Condition) (earlier : List Visible) → TellsUndeclared on names → TellsUndeclared on (noted names (record { number = number; when = when; meaning = declares earlier }))
 told_declared on names number when earlier told =
     told_more on names (record { number = number; when = when; meaning = declares earlier }) names.refused told
-      (sym (ap (λ b. value on names.refused || b) (and_false (value on when)) ∙ or_false (value on names.refused)))
+    (sym (ap (λ b. value on names.refused || b) (and_false (value on when)) ∙ or_false (value on names.refused)))

@@ -4,7 +4,7 @@ use Rattle.cond_formula.specs.Conditions.{Condition, condition_of}
 use Rattle.cond_bindings.specs.declared.unit_bindings.Declaration.{Declaration}
 use Rattle.cond_bindings.specs.declared.unit_bindings.Identifier.{Identifier}
 use Rattle.cond_bindings.specs.declared.names.Names.{Names}
-use Rattle.cond_bindings.specs.Bindings.{Visible, visible, plain_identifier}
+use Rattle.cond_bindings.specs.Bindings.{visible, plain_identifier}
 use Rattle.cond_bindings.specs.Names.{BlockName, PlainNames}
 use Rattle.cond_bindings.specs.Places.{LocalPlace, place_of, latest_first}
 
@@ -23,4 +23,4 @@ names_of declarations file tags locals identifiers refused = record {
 abbrev pub plain_names : Names → PlainNames
 plain_names names =
     names_of names.bindings.declarations.items (place_of names.file) (place_of names.tags) (latest_first names.blocks.items)
-      names.bindings.identifiers.items (condition_of names.refused)
+    names.bindings.identifiers.items (condition_of names.refused)

@@ -8,6 +8,6 @@ mod occurrences;
 mod undeclared;
 mod unit_bindings;
 
-pub use unit_bindings::{CondBindings, Declaration, Identifier, Meaning, UnitBindings};
 pub use names::Names;
 pub use occurrences::{Occurrence, Scope};
+pub use unit_bindings::{CondBindings, Declaration, Identifier, Meaning, UnitBindings};

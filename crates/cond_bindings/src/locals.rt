@@ -3,8 +3,8 @@
 ghost use Rattle.std.specs.Prelude.{◌≡◌, ◌≤◌, [], ◌∷◌, ◌++◌, length, OnOk, OnErr};
 ghost use Rattle.cond_bindings.specs.Places.{latest_first, innermost_in, LocalsBelow};
 
-use crate::unit_bindings::Declaration;
 use crate::declarations::declare;
+use crate::unit_bindings::Declaration;
 use cond_formula::{Formula, NoMemory};
 use std::alloc::Global;
 

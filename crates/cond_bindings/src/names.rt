@@ -3,11 +3,11 @@
 ghost use Rattle.std.specs.Prelude.{length};
 ghost use Rattle.cond_bindings.specs.Places.{place_of, TableBelow, IdentifiersBelow, LocalsBelow};
 
-use crate::unit_bindings::{Identifier, Meaning, UnitBindings};
 use crate::declarations::{place_in, show};
 use crate::locals::{LocalName, innermost_place, show_local};
 use crate::occurrences::{Occurrence, Scope};
 use crate::undeclared::{where_undeclared, with_undeclared};
+use crate::unit_bindings::{Identifier, Meaning, UnitBindings};
 use cond_formula::{Formula, NoMemory, Oracle};
 use path_conditions::conjoined;
 use std::alloc::Global;
@@ -123,8 +123,8 @@ impl Names {
         ensures kept { O.admits oracle.new ≡ O.admits oracle.old }
         ensures seen { OnOk result ((on : ℕ → Bool) (coming : List ℕ)
             → Steps on (all_true on (conditions_of occurrence.entry.path.now)) (occurrence.entry.number ∷ coming)
-                (scopes.paired (or_else (innermost on (visible self.old.bindings.declarations.items block)) (first on (visible self.old.bindings.declarations.items file))))
-                coming (plain_names self.old) (plain_names self.new)) }
+            (scopes.paired (or_else (innermost on (visible self.old.bindings.declarations.items block)) (first on (visible self.old.bindings.declarations.items file))))
+            coming (plain_names self.old) (plain_names self.new)) }
         ensures blocks { OnOk result ((plain_names self.new).blocks ≡ (plain_names self.old).blocks) }
         ensures tells { OnOk result ((c : List Bool) → IsTrue (value (has c) (O.admits oracle.old))
             → TellsUndeclared (has c) (plain_names self.old) → TellsUndeclared (has c) (plain_names self.new)) }
@@ -148,7 +148,7 @@ impl Names {
         ensures kept { O.admits oracle.new ≡ O.admits oracle.old }
         ensures seen { OnOk result ((on : ℕ → Bool) (coming : List ℕ)
             → Steps on (all_true on (conditions_of occurrence.entry.path.now)) (occurrence.entry.number ∷ coming)
-                (scopes.used occurrence.entry.name.now) coming (plain_names self.old) (plain_names self.new)) }
+            (scopes.used occurrence.entry.name.now) coming (plain_names self.old) (plain_names self.new)) }
         ensures blocks { OnOk result ((plain_names self.new).blocks ≡ (plain_names self.old).blocks) }
         ensures tells { OnOk result ((c : List Bool) → IsTrue (value (has c) (O.admits oracle.old))
             → TellsUndeclared (has c) (plain_names self.old) → TellsUndeclared (has c) (plain_names self.new)) }
@@ -184,7 +184,7 @@ impl Names {
     fn declare_tag(&mut self, alloc: Global, occurrence: Occurrence) -> Result<(), NoMemory>
         ensures seen { OnOk result ((on : ℕ → Bool) (coming : List ℕ)
             → Steps on (all_true on (conditions_of occurrence.entry.path.now)) (occurrence.entry.number ∷ coming)
-                (scopes.tagged true occurrence.entry.name.now) coming (plain_names self.old) (plain_names self.new)) }
+            (scopes.tagged true occurrence.entry.name.now) coming (plain_names self.old) (plain_names self.new)) }
         ensures blocks { OnOk result ((plain_names self.new).blocks ≡ (plain_names self.old).blocks) }
         ensures tells { OnOk result ((on : ℕ → Bool) → TellsUndeclared on (plain_names self.old) → TellsUndeclared on (plain_names self.new)) }
     {
@@ -207,7 +207,7 @@ impl Names {
         ensures kept { O.admits oracle.new ≡ O.admits oracle.old }
         ensures seen { OnOk result ((on : ℕ → Bool) (coming : List ℕ)
             → Steps on (all_true on (conditions_of occurrence.entry.path.now)) (occurrence.entry.number ∷ coming)
-                (scopes.tagged may_declare occurrence.entry.name.now) coming (plain_names self.old) (plain_names self.new)) }
+            (scopes.tagged may_declare occurrence.entry.name.now) coming (plain_names self.old) (plain_names self.new)) }
         ensures blocks { OnOk result ((plain_names self.new).blocks ≡ (plain_names self.old).blocks) }
         ensures tells { OnOk result ((c : List Bool) → IsTrue (value (has c) (O.admits oracle.old))
             → TellsUndeclared (has c) (plain_names self.old) → TellsUndeclared (has c) (plain_names self.new)) }
@@ -230,7 +230,7 @@ impl Names {
     ) -> Result<(), NoMemory>
         ensures seen { OnOk result ((on : ℕ → Bool) (coming : List ℕ)
             → Steps on (all_true on (conditions_of occurrence.entry.path.now)) (occurrence.entry.number ∷ coming)
-                (scopes.named (plain_scope scope) occurrence.entry.name.now) coming (plain_names self.old) (plain_names self.new)) }
+            (scopes.named (plain_scope scope) occurrence.entry.name.now) coming (plain_names self.old) (plain_names self.new)) }
         ensures blocks { OnOk result ((plain_names self.new).blocks ≡ (plain_names self.old).blocks) }
         ensures tells { OnOk result ((on : ℕ → Bool) → TellsUndeclared on (plain_names self.old) → TellsUndeclared on (plain_names self.new)) }
     {
@@ -285,7 +285,7 @@ impl Names {
     fn shown_at_file(&mut self, alloc: Global, occurrence: Occurrence) -> Result<(), NoMemory>
         ensures seen { OnOk result ((on : ℕ → Bool) (coming : List ℕ)
             → Steps on (all_true on (conditions_of occurrence.entry.path.now)) coming
-                (scopes.shown scopes.file_scope occurrence.entry.name.now occurrence.entry.number) coming (plain_names self.old) (plain_names self.new)) }
+            (scopes.shown scopes.file_scope occurrence.entry.name.now occurrence.entry.number) coming (plain_names self.old) (plain_names self.new)) }
         ensures grows { OnOk result (Grows (plain_names self.old) (plain_names self.new)) }
         ensures tells { OnOk result ((on : ℕ → Bool) → TellsUndeclared on (plain_names self.old) → TellsUndeclared on (plain_names self.new)) }
     {
@@ -297,7 +297,7 @@ impl Names {
     fn shown_in_block(&mut self, alloc: Global, occurrence: Occurrence) -> Result<(), NoMemory>
         ensures seen { OnOk result ((on : ℕ → Bool) (coming : List ℕ)
             → Steps on (all_true on (conditions_of occurrence.entry.path.now)) coming
-                (scopes.shown scopes.block_scope occurrence.entry.name.now occurrence.entry.number) coming (plain_names self.old) (plain_names self.new)) }
+            (scopes.shown scopes.block_scope occurrence.entry.name.now occurrence.entry.number) coming (plain_names self.old) (plain_names self.new)) }
         ensures grows { OnOk result (Grows (plain_names self.old) (plain_names self.new)) }
         ensures tells { OnOk result ((on : ℕ → Bool) → TellsUndeclared on (plain_names self.old) → TellsUndeclared on (plain_names self.new)) }
     {
@@ -315,7 +315,7 @@ impl Names {
     ) -> Result<(), NoMemory>
         ensures seen { OnOk result ((on : ℕ → Bool) (coming : List ℕ)
             → Steps on (all_true on (conditions_of occurrence.entry.path.now)) coming
-                (scopes.shown (plain_scope scope) occurrence.entry.name.now occurrence.entry.number) coming (plain_names self.old) (plain_names self.new)) }
+            (scopes.shown (plain_scope scope) occurrence.entry.name.now occurrence.entry.number) coming (plain_names self.old) (plain_names self.new)) }
         ensures grows { OnOk result (Grows (plain_names self.old) (plain_names self.new)) }
         ensures tells { OnOk result ((on : ℕ → Bool) → TellsUndeclared on (plain_names self.old) → TellsUndeclared on (plain_names self.new)) }
     {

@@ -51,7 +51,7 @@ fn unseen(
 ) -> Result<Option<Vec<Formula>>, NoMemory>
     ensures { IfOk result (λ left. (on : ℕ → Bool) → left_on on left
         ≡ (all_true on (conditions_of path.now)
-            && is_none (or_else (innermost on (visible declarations.now block)) (first on (visible declarations.now file))))) }
+        && is_none (or_else (innermost on (visible declarations.now block)) (first on (visible declarations.now file))))) }
 {
     let path = copied(alloc, path)?;
     match without_visible(alloc, declarations, block, path)? {
@@ -71,7 +71,7 @@ pub fn where_undeclared(
 ) -> Result<Formula, NoMemory>
     ensures { IfOk result (λ f. (on : ℕ → Bool) → value on (condition_of f)
         ≡ (all_true on (conditions_of path.now)
-            && is_none (or_else (innermost on (visible declarations.now block)) (first on (visible declarations.now file))))) }
+        && is_none (or_else (innermost on (visible declarations.now block)) (first on (visible declarations.now file))))) }
 {
     match unseen(alloc, declarations, block, file, path)? {
         None => Ok(Formula::False),

@@ -1,7 +1,7 @@
-use Rattle.std.proofs.Common.{◌≡◌, ℕ, Bool, List, ap, ◌∙◌}
+use Rattle.std.proofs.Common.{◌≡◌, ℕ, List, ap, ◌∙◌, subst, sym}
 use Rattle.cond_formula.specs.Conditions.{Condition, conditions_of, condition_of, value, all_true}
-use Rattle.cond_bindings.specs.Bindings.{Visible, PlainIdentifier, declares, visible}
-use Rattle.cond_bindings.specs.Names.{PlainNames}
+use Rattle.cond_bindings.specs.Bindings.{Visible, declares, visible}
+use Rattle.cond_bindings.specs.Names.{PlainNames, TellsUndeclared}
 use Rattle.cond_bindings.specs.NameSteps.{noted, with_tag}
 use Rattle.cond_bindings.specs.PlainNames.{plain_names}
 use Rattle.cond_bindings.proofs.StepLemmas.{tag_steps, told_declared}
@@ -21,7 +21,7 @@ returns-clause-seen c =
     let copy = condition_of c.in_ok-copy.copy in
     let earlier = visible c.args.self.now.bindings.declarations.items c.tag_place-earlier.result in
     rw (become old (plain_names c.note.new.self) (plain_names c.show_tag.new.self) name v copy earlier c.in_ok-note.ensures c.tag_place-earlier.ensures.visible c.in_ok-show_tag.ensures)
-      (tag_steps on name v (all_true on (conditions_of c.args.occurrence.path.now)) coming old copy (ap (value on) c.in_ok-copy.ensures ∙ c.in_ok-when.ensures on) (c.in_ok-when.ensures on))
+    (tag_steps on name v (all_true on (conditions_of c.args.occurrence.path.now)) coming old copy (ap (value on) c.in_ok-copy.ensures ∙ c.in_ok-when.ensures on) (c.in_ok-when.ensures on))
 
 pub returns-clause-blocks : goal.returns-clause-blocks
 returns-clause-blocks c = ap (λ (n : PlainNames). n.blocks) c.in_ok-show_tag.ensures ∙ ap (λ (n : PlainNames). n.blocks) c.in_ok-note.ensures
@@ -34,5 +34,5 @@ returns-clause-tells c =
     let v : Visible = record { when = condition_of c.in_ok-when.when; number = c.args.occurrence.number } in
     let copy = condition_of c.in_ok-copy.copy in
     let earlier = visible c.args.self.now.bindings.declarations.items c.tag_place-earlier.result in
-    rw (become old (plain_names c.note.new.self) (plain_names c.show_tag.new.self) name v copy earlier c.in_ok-note.ensures c.tag_place-earlier.ensures.visible c.in_ok-show_tag.ensures)
-      (told_declared on old v.number copy (old.tags name) told)
+    subst (TellsUndeclared on) (sym (become old (plain_names c.note.new.self) (plain_names c.show_tag.new.self) name v copy earlier c.in_ok-note.ensures c.tag_place-earlier.ensures.visible c.in_ok-show_tag.ensures))
+    (told_declared on old v.number copy (old.tags name) told)

@@ -1,7 +1,7 @@
-use Rattle.std.proofs.Common.{◌≡◌, ℕ, Bool, List, [], ap}
+use Rattle.std.proofs.Common.{[], ap, subst, sym}
 use Rattle.cond_formula.specs.Conditions.{conditions_of, condition_of, all_true}
 use Rattle.cond_bindings.specs.Bindings.{Visible}
-use Rattle.cond_bindings.specs.Names.{PlainNames}
+use Rattle.cond_bindings.specs.Names.{PlainNames, TellsUndeclared}
 use Rattle.cond_bindings.specs.PlainNames.{plain_names}
 use Rattle.cond_bindings.proofs.StepLemmas.{file_steps}
 use Rattle.cond_bindings.proofs.names.Names.shown_at_file.Goals as goal
@@ -16,4 +16,4 @@ pub returns-clause-grows : goal.returns-clause-grows
 returns-clause-grows c = record { more = []; blocks_are = ap (λ (n : PlainNames). n.blocks) c.in_ok-show_file.ensures }
 
 pub returns-clause-tells : goal.returns-clause-tells
-returns-clause-tells c = λ on told. rw c.in_ok-show_file.ensures told
+returns-clause-tells c = λ on told. subst (TellsUndeclared on) (sym c.in_ok-show_file.ensures) told

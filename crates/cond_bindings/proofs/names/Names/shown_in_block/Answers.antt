@@ -1,7 +1,7 @@
-use Rattle.std.proofs.Common.{◌≡◌, ℕ, Bool, List, [], ◌∷◌, ap}
+use Rattle.std.proofs.Common.{[], ◌∷◌, ap, subst, sym}
 use Rattle.cond_formula.specs.Conditions.{conditions_of, condition_of, all_true}
 use Rattle.cond_bindings.specs.Bindings.{Visible}
-use Rattle.cond_bindings.specs.Names.{BlockName, PlainNames, visible_in}
+use Rattle.cond_bindings.specs.Names.{BlockName, PlainNames, visible_in, TellsUndeclared}
 use Rattle.cond_bindings.specs.PlainNames.{plain_names}
 use Rattle.cond_bindings.proofs.StepLemmas.{block_steps}
 use Rattle.cond_bindings.proofs.names.Names.shown_in_block.Goals as goal
@@ -20,4 +20,4 @@ returns-clause-grows c =
     record { more = b ∷ []; blocks_are = ap (λ (n : PlainNames). n.blocks) c.in_ok-show_block.ensures }
 
 pub returns-clause-tells : goal.returns-clause-tells
-returns-clause-tells c = λ on told. rw c.in_ok-show_block.ensures told
+returns-clause-tells c = λ on told. subst (TellsUndeclared on) (sym c.in_ok-show_block.ensures) told
