@@ -3,11 +3,11 @@ use Rattle.std.specs.Prelude.{ℕ, Bool, ◌==◌, List, [], ◌∷◌, map, rev
 use Rattle.cond_formula.specs.Conditions.{Condition, value, condition_of}
 use Rattle.core_meaning.specs.Entities.{or_else}
 use Rattle.scope_readings.specs.Scopes.{Pairing, or_own}
-use Rattle.cond_bindings.specs.declared.bindings.Declaration.{Declaration}
-use Rattle.cond_bindings.specs.declared.bindings.Identifier.{Identifier}
-use Rattle.cond_bindings.specs.declared.bindings.Meaning.{Meaning}
-use Rattle.cond_bindings.specs.declared.bindings.Meaning.TheVariants.{Use, Declares}
-use Rattle.cond_bindings.specs.declared.bindings.UnitBindings.{UnitBindings}
+use Rattle.cond_bindings.specs.declared.unit_bindings.Declaration.{Declaration}
+use Rattle.cond_bindings.specs.declared.unit_bindings.Identifier.{Identifier}
+use Rattle.cond_bindings.specs.declared.unit_bindings.Meaning.{Meaning}
+use Rattle.cond_bindings.specs.declared.unit_bindings.Meaning.TheVariants.{Use, Declares}
+use Rattle.cond_bindings.specs.declared.unit_bindings.UnitBindings.{UnitBindings}
 
 -- a declaration that is visible where its condition is true
 pub record Visible : Type 0 where

@@ -1,5 +1,5 @@
 -- What is visible at a place of a unit in all configurations, and the identifiers before it.
-use Rattle.std.specs.Prelude.{◌≡◌, ℕ, Bool, true, false, ◌||◌, List, [], ◌∷◌, ◌++◌, Option, Some, None, is_none, if◌then◌else◌}
+use Rattle.std.specs.Prelude.{◌≡◌, ℕ, Bool, true, false, ◌||◌, List, [], ◌∷◌, ◌++◌, is_none, if◌then◌else◌}
 use Rattle.std.specs.Str.{bytes_eq}
 use Rattle.cond_formula.specs.Conditions.{Condition, value}
 use Rattle.scope_readings.specs.Scopes.{Pairing, Scopes}

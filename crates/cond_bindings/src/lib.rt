@@ -1,8 +1,13 @@
 //! What the identifiers of a unit are bound to in all configurations at once (ISO/IEC 9899:2011, 6.2.1 to 6.2.3).
 #![tactic(auto)]
 
-mod bindings;
+mod declarations;
+mod locals;
 mod names;
+mod occurrences;
+mod undeclared;
+mod unit_bindings;
 
-pub use bindings::{CondBindings, Declaration, Identifier, Meaning, UnitBindings};
-pub use names::{Names, Occurrence, Scope};
+pub use names::Names;
+pub use occurrences::{Occurrence, Scope};
+pub use unit_bindings::{CondBindings, Declaration, Identifier, Meaning, UnitBindings};

@@ -1,0 +1,7 @@
+pub mod BelowLemmas
+pub mod PlaceLemmas
+pub mod NameLemmas
+pub mod StepLemmas
+pub mod TableLemmas
+pub mod LocalLemmas
+pub mod WalkLemmas

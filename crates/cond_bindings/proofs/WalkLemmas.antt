@@ -1,0 +1,77 @@
+-- Where none of the declarations is there that a use may see.
+use Rattle.std.proofs.Common.{◌≡◌, ℕ, ◌<◌, ◌≤◌, Bool, true, false, not, ◌&&◌, List, [], ◌∷◌, length, take, get_or, IsTrue, refl, sym, ap, ◌∙◌, arith}
+use Rattle.std.specs.Prelude.{Option, Some, None, is_none, if◌then◌else◌}
+use Rattle.std.proofs.lemmas.List.{length-take}
+use Rattle.cond_formula.specs.Conditions.{condition_of, value}
+use Rattle.core_meaning.specs.Entities.{or_else}
+use Rattle.cond_bindings.specs.declared.unit_bindings.Declaration.{Declaration}
+use Rattle.cond_bindings.specs.Bindings.{Visible, visible, innermost, first}
+use Rattle.cond_bindings.specs.Unseen.{none_there}
+use Rattle.cond_bindings.proofs.PlaceLemmas.{visible_none, visible_past, visible_in_front}
+
+and_assoc : (a b c : Bool) → ((a && b) && c) ≡ (a && (b && c))
+and_assoc true b c = refl
+and_assoc false b c = refl
+
+and_true : (a : Bool) → (a && true) ≡ a
+and_true true = refl
+and_true false = refl
+
+settled : (path there others : Bool) → (IsTrue path → IsTrue there) → false ≡ (path && (not there && others))
+settled true there others follows = sym (ap (λ b. not b && others) (follows refl))
+settled false there others follows = refl
+
+-- one step: from declarations of the front of a list, with the path that is left so far
+module _ (on : ℕ → Bool) (ds : List Declaration) (behind : ℕ) (next : Option ℕ) (path whole : Bool) (so_far : (path && none_there on (visible (take behind ds) next)) ≡ whole) where
+  unseen_end : visible (take behind ds) next ≡ [] → path ≡ whole
+  unseen_end none = sym (and_true path) ∙ ap (λ (vs : List Visible). path && none_there on vs) (sym none) ∙ so_far
+
+  pub ended : next ≡ None → path ≡ whole
+  ended is = unseen_end (ap (visible (take behind ds)) is ∙ visible_none (take behind ds))
+
+  pub past : (place : ℕ) → next ≡ Some place → behind ≤ place → path ≡ whole
+  past place is le = unseen_end (ap (visible (take behind ds)) is ∙ visible_past (take behind ds) place (omega (arith, length-take behind ds)))
+
+  module _ (place : ℕ) (d : Declaration) (is : next ≡ Some place) (lt : place < behind) (le : behind ≤ length ds) (at : d ≡ get_or ds place d) where
+    stepped : (path && (not (value on (condition_of d.when)) && none_there on (visible (take place ds) d.hides))) ≡ whole
+    stepped = ap (λ (vs : List Visible). path && none_there on vs) (sym (ap (visible (take behind ds)) is ∙ visible_in_front ds behind place d lt le at)) ∙ so_far
+
+    -- a declaration that is there wherever the path is true
+    pub found : (IsTrue path → IsTrue (value on (condition_of d.when))) → false ≡ whole
+    found follows = settled path (value on (condition_of d.when)) (none_there on (visible (take place ds) d.hides)) follows ∙ stepped
+
+    pub gone_on : (left : Bool) → left ≡ (path && not (value on (condition_of d.when))) → (left && none_there on (visible (take place ds) d.hides)) ≡ whole
+    gone_on left without =
+        ap (λ (b : Bool). b && none_there on (visible (take place ds) d.hides)) without
+        ∙ and_assoc path (not (value on (condition_of d.when))) (none_there on (visible (take place ds) d.hides))
+        ∙ stepped
+
+none_of_both : (a b : Option ℕ) → is_none (or_else a b) ≡ (is_none a && is_none b)
+none_of_both None b = refl
+none_of_both (Some n) b = refl
+
+innermost_is_none : (on : ℕ → Bool) (vs : List Visible) → is_none (innermost on vs) ≡ none_there on vs
+innermost_is_none on [] = refl
+innermost_is_none on (v ∷ outer) = one (value on v.when) (innermost on outer) ∙ ap (λ b. not (value on v.when) && b) (innermost_is_none on outer)
+  where
+    one : (b : Bool) (o : Option ℕ) → is_none (if b then Some v.number else o) ≡ (not b && is_none o)
+    one true o = refl
+    one false o = refl
+
+first_is_none : (on : ℕ → Bool) (vs : List Visible) → is_none (first on vs) ≡ none_there on vs
+first_is_none on [] = refl
+first_is_none on (v ∷ earlier) = one (value on v.when) (first on earlier) ∙ ap (λ b. not (value on v.when) && b) (first_is_none on earlier)
+  where
+    one : (b : Bool) (o : Option ℕ) → is_none (or_else o (if b then Some v.number else None)) ≡ (not b && is_none o)
+    one true None = refl
+    one true (Some n) = refl
+    one false None = refl
+    one false (Some n) = refl
+
+-- undeclared is what has no declaration in open blocks, and none at file scope
+pub undeclared_is : (on : ℕ → Bool) (path : Bool) (block file : List Visible) → ((path && none_there on block) && none_there on file) ≡ (path && is_none (or_else (innermost on block) (first on file)))
+undeclared_is on path block file =
+    and_assoc path (none_there on block) (none_there on file)
+    ∙ ap (λ b. path && (b && none_there on file)) (sym (innermost_is_none on block))
+    ∙ ap (λ b. path && (is_none (innermost on block) && b)) (sym (first_is_none on file))
+    ∙ ap (λ b. path && b) (sym (none_of_both (innermost on block) (first on file)))

@@ -1,0 +1,115 @@
+//! Where a name that is used isn't declared.
+
+ghost use Rattle.std.specs.Prelude.{◌≡◌, ℕ, Bool, false, ◌&&◌, ◌||◌, List, is_none, IsTrue, IfOk};
+ghost use Rattle.cond_formula.specs.Features.{has};
+ghost use Rattle.cond_formula.specs.Conditions.{condition_of, conditions_of, value, all_true};
+ghost use Rattle.core_meaning.specs.Entities.{or_else};
+ghost use Rattle.cond_bindings.specs.Bindings.{visible, innermost, first};
+ghost use Rattle.cond_bindings.specs.Unseen.{none_there, left_on};
+
+use crate::unit_bindings::Declaration;
+use cond_formula::{Formula, May, NoMemory, Oracle};
+use path_conditions::{conjoined, copied, exclude, follows};
+use reduced_conditions::{either, is_never};
+use std::alloc::Global;
+
+/// The path without the configurations that see a declaration from the place on, or nothing if each of the path's does.
+fn without_visible(
+    alloc: Global,
+    declarations: &[Declaration],
+    latest: Option<u32>,
+    path: Vec<Formula>,
+) -> Result<Option<Vec<Formula>>, NoMemory>
+    ensures { IfOk result (λ left. (on : ℕ → Bool) → left_on on left
+        ≡ (all_true on (conditions_of path.items) && none_there on (visible declarations.now latest))) }
+{
+    let mut left = path;
+    let mut behind = declarations.len();
+    let mut next = latest;
+    while let Some(place) = next {
+        if place as usize >= behind {
+            return Ok(Some(left));
+        }
+        let declaration = &declarations[place as usize];
+        if follows(&declaration.when, &left) {
+            return Ok(None);
+        }
+        exclude(&mut left, alloc, &declaration.when)?;
+        behind = place as usize;
+        next = declaration.hides;
+    }
+    Ok(Some(left))
+}
+
+/// The path without the configurations that see a declaration from one of two places on.
+fn unseen(
+    alloc: Global,
+    declarations: &[Declaration],
+    block: Option<u32>,
+    file: Option<u32>,
+    path: &[Formula],
+) -> Result<Option<Vec<Formula>>, NoMemory>
+    ensures { IfOk result (λ left. (on : ℕ → Bool) → left_on on left
+        ≡ (all_true on (conditions_of path.now)
+        && is_none (or_else (innermost on (visible declarations.now block)) (first on (visible declarations.now file))))) }
+{
+    let path = copied(alloc, path)?;
+    match without_visible(alloc, declarations, block, path)? {
+        None => Ok(None),
+        Some(left) => without_visible(alloc, declarations, file, left),
+    }
+}
+
+/// Where on the path a name is undeclared, of which the latest declarations in open blocks and at file scope have these
+/// places.
+pub fn where_undeclared(
+    alloc: Global,
+    declarations: &[Declaration],
+    block: Option<u32>,
+    file: Option<u32>,
+    path: &[Formula],
+) -> Result<Formula, NoMemory>
+    ensures { IfOk result (λ f. (on : ℕ → Bool) → value on (condition_of f)
+        ≡ (all_true on (conditions_of path.now)
+        && is_none (or_else (innermost on (visible declarations.now block)) (first on (visible declarations.now file))))) }
+{
+    match unseen(alloc, declarations, block, file, path)? {
+        None => Ok(Formula::False),
+        Some(left) => {
+            let all = conjoined(alloc, &left)?;
+            Ok(all)
+        }
+    }
+}
+
+/// Whether the oracle doesn't say that the formula is nowhere true.
+fn may_be<O: Oracle>(f: &Formula, oracle: &mut O) -> bool
+    ensures kept { O.admits oracle.new ≡ O.admits oracle.old }
+    ensures no { result ≡ false → (c : List Bool) → IsTrue (value (has c) (O.admits oracle.old)) → value (has c) (condition_of f.now) ≡ false }
+{
+    if is_never(f) {
+        return false;
+    }
+    match oracle.may(f) {
+        May::No => false,
+        May::Maybe => true,
+    }
+}
+
+/// Where a name was undeclared before, and where one is now, in the configurations that the oracle admits.
+pub fn with_undeclared<O: Oracle>(
+    alloc: Global,
+    refused: Formula,
+    undeclared: Formula,
+    oracle: &mut O,
+) -> Result<Formula, NoMemory>
+    ensures kept { O.admits oracle.new ≡ O.admits oracle.old }
+    ensures refused { IfOk result (λ f. (c : List Bool) → IsTrue (value (has c) (O.admits oracle.old)) →
+        value (has c) (condition_of f) ≡ (value (has c) (condition_of refused) || value (has c) (condition_of undeclared))) }
+{
+    if !may_be(&undeclared, oracle) {
+        return Ok(refused);
+    }
+    let all = either(alloc, refused, undeclared)?;
+    Ok(all)
+}
