@@ -1,7 +1,8 @@
 //! Runs the vectors: commands over stores in memory, each with the answer that is wanted.
 //!
 //! The answers were computed by a program of its own, so they test the definitions too. Each case
-//! that differs is printed, and at the end of a file how many of its cases agree.
+//! that differs is printed, and at the end of a file how many of its cases agree. Then the streams and the trees of
+//! their projects are compared, configuration by configuration.
 #![tactic(auto)]
 
 #[cfg(test)]
@@ -21,6 +22,9 @@ use crate::suites::{SUITES, run};
 fn main(rt: HostRuntime) -> anyhow::Result<()> {
     for suite in &SUITES {
         run(&rt, suite)?;
+    }
+    for file in &["tokens.tsv", "macros.tsv", "run.tsv"] {
+        stream_vectors::run(&rt, file)?;
     }
     Ok(())
 }
