@@ -5,7 +5,6 @@ use Rattle.std.specs.Option.{option_map}
 use Rattle.std.proofs.lemmas.List.{map-append}
 use Rattle.c_text.specs.Token.{PlainToken}
 use Rattle.c_text.specs.Macros as spec
-use Rattle.cond_bodies.specs.Cores.{core, cores}
 use Rattle.cond_runs.specs.Looked.{looked}
 use Rattle.cond_runs.specs.Pieces.{Held, Piece, nothing_done, unless_refused, also, under_piece, items_piece, given_piece, open_piece, some_open, ended, without_calls, brought_again, progress_piece, turn_piece, turn_pieces, outside_piece}
 use Rattle.cond_macros.specs.Readings.{look, prepended, IsSound, items_behind, goes_on, IsSoundPiece, ListBecomes}

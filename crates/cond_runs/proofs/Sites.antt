@@ -1,5 +1,5 @@
 -- What calls give to items: sites and places alone.
-use Rattle.std.proofs.Common.{◌≡◌, Bool, true, false, List, [], ◌∷◌, map, refl, ap, ◌∙◌}
+use Rattle.std.proofs.Common.{◌≡◌, true, false, List, [], ◌∷◌, map, refl, ap, ◌∙◌}
 use Rattle.c_text.specs.declared.origin.Place.{Place}
 use Rattle.c_text.specs.declared.origin.Place.TheVariants as place
 use Rattle.c_text.specs.Token.{PlainToken}

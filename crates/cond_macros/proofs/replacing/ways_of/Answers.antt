@@ -1,9 +1,6 @@
-use Rattle.std.proofs.Common.{ℕ, Bool, ◌≡◌, not, ◌&&◌, ap, ◌∙◌}
-use Rattle.c_text.specs.Macros as spec
+use Rattle.std.proofs.Common.{Bool, not, ◌&&◌, ap, ◌∙◌}
 use Rattle.cond_formula.specs.Conditions.{condition_of, value}
-use Rattle.conditional.specs.declared.entries.Guarded.{Guarded}
 use Rattle.conditional.specs.Entries.{entries_of, seen}
-use Rattle.cond_bodies.specs.CondItems.{items_at}
 use Rattle.cond_bodies.specs.CondMeanings.{plain_function}
 use Rattle.cond_bodies.proofs.LevelLemmas.{holds_is_seen}
 use Rattle.cond_runs.specs.Functions.{some_seen}
