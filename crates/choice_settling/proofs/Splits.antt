@@ -1,22 +1,8 @@
 -- Two alternatives, of which one is taken: what is said of each is said of both.
-use Rattle.std.proofs.Common.{◌≡◌, ℕ, Bool, true, false, not, ◌&&◌, List, Option, IsTrue, refl, sym, ap, ◌∙◌, subst}
+use Rattle.std.proofs.Common.{◌≡◌, Bool, true, false, not, ◌&&◌, IsTrue, refl, sym, ap, ◌∙◌, subst}
 use Rattle.std.specs.Bool.{if◌then◌else◌}
-use Rattle.cond_formula.specs.declared.formulas.Formula.{Formula}
-use Rattle.cond_formula.specs.Features.{has}
-use Rattle.cond_formula.specs.Conditions.{Condition, condition_of, conditions_of, value, all_true}
-use Rattle.c_tree.specs.declared.terminals.Terminal.{Terminal}
-use Rattle.path_conditions.specs.Presences.{IsEverywhere}
-use Rattle.choice_trees.specs.declared.trees.Choice.{Choice}
-use Rattle.choice_trees.specs.declared.trees.Item.{Item}
-use Rattle.grammar_moves.specs.declared.places.Place.{Place as Spot}
-use Rattle.choice_states.specs.Seen.{Seen, Parts, seen_in}
-use Rattle.choice_states.specs.declared.states.State.{State}
-use Rattle.choice_states.specs.States.{Standing, standing}
-use Rattle.choice_states.specs.Alike.{StandsAsSplit}
-use Rattle.choice_settling.specs.Leaving.{IsThere, spot_at}
-use Rattle.choice_reading.specs.Pushing.{ReadsPlaces}
-use Rattle.choice_settling.proofs.Divisions.{Divides}
-use Rattle.choice_settling.specs.Steps.{stood, SameElsewhere, IsSound, ReadsThere, Keeps, Reads, ReadsSo}
+use Rattle.choice_states.specs.States.{Standing}
+use Rattle.choice_settling.specs.Steps.{IsSound}
 
 pub both_true : (a b longer : Bool) → longer ≡ (a && b) → IsTrue a → IsTrue b → IsTrue longer
 both_true true true longer is x y = is
