@@ -4,6 +4,7 @@ ghost use Rattle.text_edits.specs.Files.{plain_files};
 ghost use Rattle.project_file.specs.View.{project_view};
 ghost use Rattle.project_store.specs.Reads.{names_of};
 
+use crate::bound::show_bindings;
 use crate::readings::show_readings;
 use crate::shown::show_stream;
 use crate::sizes::show_sizes;
@@ -49,6 +50,7 @@ fn show_units<R: Print + AllocGlobal>(rt: &R, project: &Project, files: &Files) 
     requires few { length files.now.list.items < 4294967295 }
 {
     let alloc: Global = rt.alloc();
+    let mut streams = Vec::new(alloc);
     for (number, unit) in project.units.iter().enumerate() {
         let stream = preprocess_all(alloc, project, files, number as u32, &mut PlainOracle)?;
         println!(rt; "{} of {}:", unit.file, project.name)?;
@@ -58,6 +60,10 @@ fn show_units<R: Print + AllocGlobal>(rt: &R, project: &Project, files: &Files) 
             show_stream(rt, project.features.len(), &stream)?;
             show_readings(rt, project, files, number as u32, project.features.len())?;
         }
+        streams.push(stream)?;
+    }
+    if project.features.len() <= MOST_FEATURES {
+        show_bindings(rt, project, &streams, project.features.len())?;
     }
     Ok(())
 }

@@ -5,12 +5,18 @@ ghost use Rattle.c_text.specs.Token.{plain_token};
 ghost use Rattle.c_tree.specs.Trees.{plain_tree, plain_trees};
 
 use c_text::Token;
-use c_tree::Tree;
+use c_tree::{Kind, Tree};
 
 fn is_same_token(a: &Token, b: &Token) -> bool
     ensures { IsTrue result → plain_token a.now ≡ plain_token b.now }
 {
     a.same_spelling(b) && a.joined == b.joined && a.origin == b.origin
+}
+
+fn is_same_kind(k: Kind, l: Kind) -> bool
+    ensures { IsTrue result → k ≡ l }
+{
+    k == l
 }
 
 /// Whether two trees are equal, origins of their tokens included.
@@ -21,7 +27,7 @@ pub fn is_same_tree(a: &Tree, b: &Tree) -> bool
 {
     match (a, b) {
         (Tree::Leaf(a), Tree::Leaf(b)) => is_same_token(a, b),
-        (Tree::Node(k, a), Tree::Node(l, b)) => *k == *l && are_same(a, b),
+        (Tree::Node(k, a), Tree::Node(l, b)) => is_same_kind(*k, *l) && are_same(a, b),
         _ => false,
     }
 }

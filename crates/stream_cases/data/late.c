@@ -1,0 +1,5 @@
+#ifdef A
+int y;
+#endif
+int main(void) { return y; }
+int y;
