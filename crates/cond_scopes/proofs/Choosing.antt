@@ -12,7 +12,7 @@ use Rattle.cond_bindings.specs.Names.{PlainNames}
 use Rattle.cond_scopes.specs.declared.parts.Progress.{Progress}
 use Rattle.cond_scopes.specs.Progress.{SoFar, part_read, perhaps_read, numbers, seen_so_far, Reads}
 
-module _ (on : ℕ → Bool) (declaration kind : Kind) (needed : Bool) (all : PlainBranches) (on_path : Bool) (old_names : PlainNames) (old : Progress) where
+module _ (on : ℕ → Bool) (around kind : Kind) (needed : Bool) (all : PlainBranches) (on_path : Bool) (old_names : PlainNames) (old : Progress) where
   -- the same is seen, whatever stands behind
   abbrev pub SeesAlike : PlainNames → Progress → PlainNames → Progress → Type 0
   SeesAlike a p b q = (leaves : List Leaf) → seen_so_far on (numbers leaves) b q ≡ seen_so_far on (numbers leaves) a p
@@ -27,7 +27,7 @@ module _ (on : ℕ → Bool) (declaration kind : Kind) (needed : Bool) (all : Pl
     pub read :
         IsTrue on_path → left ≡ false → (behind : List Leaf)
         → seen_so_far on (numbers behind) names now
-        ≡ perhaps_read declaration kind needed (branch_at on all) (seen_so_far on (numbers (branch_leaves on needed all behind)) old_names old)
+        ≡ perhaps_read around kind needed (branch_at on all) (seen_so_far on (numbers (branch_leaves on needed all behind)) old_names old)
 
   pub start : ChoiceSoFar on_path all old_names old
   start = record {
@@ -46,7 +46,7 @@ module _ (on : ℕ → Bool) (declaration kind : Kind) (needed : Bool) (all : Pl
       abbrev pub ReadsHere : Bool → Type 0
       ReadsHere here =
           (behind : List Leaf)
-          → Reads on here (numbers (item_leaves on item behind)) (part_read declaration kind (item_at on item)) (numbers behind) names now new_names new
+          → Reads on here (numbers (item_leaves on item behind)) (part_read around kind (item_at on item)) (numbers behind) names now new_names new
 
       first_branch : (w : Bool) → value on when ≡ w → (if w then Some (item_at on item) else branch_at on rest) ≡ branch_at on (branch when item rest)
       first_branch w is = ap (λ b. if b then Some (item_at on item) else branch_at on rest) (sym is)
@@ -83,8 +83,8 @@ module _ (on : ℕ → Bool) (declaration kind : Kind) (needed : Bool) (all : Pl
         same_branch = λ h. absurd (cc h);
         same_leaves = λ h. absurd (cc h);
         read = λ h none behind.
-            reads behind ∙ (ap (part_read declaration kind (item_at on item)) (so_far.unread refl (item_leaves on item behind)) ∙
-            ap₂ (λ part leaves. perhaps_read declaration kind needed part (seen_so_far on (numbers leaves) old_names old))
+            reads behind ∙ (ap (part_read around kind (item_at on item)) (so_far.unread refl (item_leaves on item behind)) ∙
+            ap₂ (λ part leaves. perhaps_read around kind needed part (seen_so_far on (numbers leaves) old_names old))
             (first_branch true is ∙ so_far.same_branch refl) (first_leaves needed true is behind ∙ so_far.same_leaves refl behind));
       }
 
@@ -124,12 +124,12 @@ module _ (on : ℕ → Bool) (declaration kind : Kind) (needed : Bool) (all : Pl
         (left here after : Bool) (new_names : PlainNames) (new : Progress) → place < length list → b ≡ get_or list place b
         → here ≡ (left && value on (condition_of b.0)) → after ≡ (left && not (value on (condition_of b.0)))
         → ChoiceSoFar left (plain_branches (drop place list)) names now
-        → ((behind : List Leaf) → Reads on here (numbers (item_leaves on (plain_item b.1) behind)) (part_read declaration kind (item_at on (plain_item b.1))) (numbers behind) names now new_names new)
+        → ((behind : List Leaf) → Reads on here (numbers (item_leaves on (plain_item b.1) behind)) (part_read around kind (item_at on (plain_item b.1))) (numbers behind) names now new_names new)
         → ChoiceSoFar after (plain_branches (drop (place + 1) list)) new_names new
     one_read left here after new_names new within is here_is after_is so_far reads =
         subst (λ a. ChoiceSoFar a (plain_branches (drop (place + 1) list)) new_names new) (sym after_is)
         (here_read (condition_of b.0) (plain_item b.1) (plain_branches (drop (place + 1) list)) names now new_names new left (value on (condition_of b.0)) refl (opened left within is so_far)
-        (λ behind. subst (λ h. Reads on h (numbers (item_leaves on (plain_item b.1) behind)) (part_read declaration kind (item_at on (plain_item b.1))) (numbers behind) names now new_names new) here_is (reads behind)))
+        (λ behind. subst (λ h. Reads on h (numbers (item_leaves on (plain_item b.1) behind)) (part_read around kind (item_at on (plain_item b.1))) (numbers behind) names now new_names new) here_is (reads behind)))
 
     pub one_passed :
         (left : Bool) → place < length list → b ≡ get_or list place b → false ≡ (left && value on (condition_of b.0))
@@ -142,31 +142,31 @@ module _ (on : ℕ → Bool) (declaration kind : Kind) (needed : Bool) (all : Pl
     none_holds :
         (n : Bool) → SeesAlike old_names old names now
         → seen_so_far on (numbers behind) names now
-        ≡ perhaps_read declaration kind n None (seen_so_far on (numbers (branch_leaves on n no_branch behind)) old_names old)
+        ≡ perhaps_read around kind n None (seen_so_far on (numbers (branch_leaves on n no_branch behind)) old_names old)
     none_holds true alike = alike behind
     none_holds false alike = alike behind
 
     at_end :
         (l : Bool) → left ≡ l → IsTrue on_path
         → seen_so_far on (numbers behind) names now
-        ≡ perhaps_read declaration kind needed (branch_at on all) (seen_so_far on (numbers (branch_leaves on needed all behind)) old_names old)
+        ≡ perhaps_read around kind needed (branch_at on all) (seen_so_far on (numbers (branch_leaves on needed all behind)) old_names old)
     at_end false is h = so_far.read h is behind
     at_end true is h =
         none_holds needed (so_far.unread is) ∙
-        ap₂ (λ part leaves. perhaps_read declaration kind needed part (seen_so_far on (numbers leaves) old_names old)) (so_far.same_branch is) (so_far.same_leaves is behind)
+        ap₂ (λ part leaves. perhaps_read around kind needed part (seen_so_far on (numbers leaves) old_names old)) (so_far.same_branch is) (so_far.same_leaves is behind)
 
     by_path :
         (p : Bool) → on_path ≡ p
-        → Reads on p (numbers (branch_leaves on needed all behind)) (perhaps_read declaration kind needed (branch_at on all)) (numbers behind) old_names old names now
+        → Reads on p (numbers (branch_leaves on needed all behind)) (perhaps_read around kind needed (branch_at on all)) (numbers behind) old_names old names now
     by_path true is = at_end left refl is
     by_path false is = so_far.off is behind
 
-    pub all_read : Reads on on_path (numbers (branch_leaves on needed all behind)) (perhaps_read declaration kind needed (branch_at on all)) (numbers behind) old_names old names now
+    pub all_read : Reads on on_path (numbers (branch_leaves on needed all behind)) (perhaps_read around kind needed (branch_at on all)) (numbers behind) old_names old names now
     all_read = by_path on_path refl
 
   pub list_read :
       (list : List (Formula × Item)) (place : ℕ) (left : Bool) (names : PlainNames) (now : Progress) → length list ≤ place
       → ChoiceSoFar left (plain_branches (drop place list)) names now → (behind : List Leaf)
-      → Reads on on_path (numbers (branch_leaves on needed all behind)) (perhaps_read declaration kind needed (branch_at on all)) (numbers behind) old_names old names now
+      → Reads on on_path (numbers (branch_leaves on needed all behind)) (perhaps_read around kind needed (branch_at on all)) (numbers behind) old_names old names now
   list_read list place left names now past so_far behind =
       all_read left names now (subst (λ rest. ChoiceSoFar left (plain_branches rest) names now) (drop_all place list past) so_far) behind

@@ -33,21 +33,21 @@ module _ (on : ℕ → Bool) (behind : List ℕ) (old new : PlainNames) where
       ap (λ there. if there then record { name = item.name.now; number = item.number } ∷ hidden_at on (reverse items) else hidden_at on (reverse items)) is
 
   pub declared_read :
-      (declaration : Kind) (name : List ℕ) (number : ℕ) (b : Bool) (p q : Progress) (item : Pending)
+      (around : Kind) (name : List ℕ) (number : ℕ) (b : Bool) (p q : Progress) (item : Pending)
       → q.turned ≡ p.turned → q.pending.items ≡ p.pending.items ++ item ∷ [] → item.name.now ≡ name → item.number ≡ number
       → all_true on (conditions_of item.path.items) ≡ b
-      → Steps on b (number ∷ behind) (named (scope_of declaration) name) behind old new
-      → Reads on b (number ∷ behind) (name_read declaration declared_name name) behind old p new q
-  declared_read declaration name number true p q item same more is_name is_number is h =
+      → Steps on b (number ∷ behind) (named (scope_of around) name) behind old new
+      → Reads on b (number ∷ behind) (name_read around declared_name name) behind old p new q
+  declared_read around name number true p q item same more is_name is_number is h =
       ap₂ (λ (s : Scopes) (hidden : List Hidden). record { scopes = s; turned = value on (condition_of q.turned); hidden = hidden }) h
       (ap (λ items. hidden_at on (reverse items)) more ∙ (one_hidden p.pending.items item true is ∙
       ap₂ (λ (n : List ℕ) (m : ℕ). record { name = n; number = m } ∷ hidden_at on (reverse p.pending.items)) is_name is_number)) ∙
       ap (λ f. record {
-        scopes = named (scope_of declaration) name (seen on (number ∷ behind) old);
+        scopes = named (scope_of around) name (seen on (number ∷ behind) old);
         turned = value on (condition_of f);
         hidden = record { name = name; number = number } ∷ hidden_at on (reverse p.pending.items);
       }) same
-  declared_read declaration name number false p q item same more is_name is_number is h =
+  declared_read around name number false p q item same more is_name is_number is h =
       ap₂ (λ (s : Scopes) (hidden : List Hidden). record { scopes = s; turned = value on (condition_of q.turned); hidden = hidden }) h
       (ap (λ items. hidden_at on (reverse items)) more ∙ one_hidden p.pending.items item false is) ∙
       ap (λ f. record { scopes = seen on behind old; turned = value on (condition_of f); hidden = hidden_at on (reverse p.pending.items) }) same
@@ -71,24 +71,24 @@ either_read on true false number behind step first_names mid_names last_names fi
 either_read on false turned number behind step first_names mid_names last_names first mid last is one other = other ∙ one behind
 
 -- a name among the tokens of a node, and another token
-module _ (on : ℕ → Bool) (declaration kind : Kind) (token : PlainToken) (b : Bool) (number : ℕ) (behind : List ℕ) (old new : PlainNames) (p q : Progress) where
+module _ (on : ℕ → Bool) (around kind : Kind) (token : PlainToken) (b : Bool) (number : ℕ) (behind : List ℕ) (old new : PlainNames) (p q : Progress) where
   abbrev reads_as : (SoFar → SoFar) → Type 0
   reads_as step = Reads on b (number ∷ behind) step behind old p new q
 
   pub name_token :
-      (name : List ℕ) → name ≡ token.text → is_name token ≡ true → reads_as (λ s. name_read declaration (role kind s.turned) name s)
-      → reads_as (part_read declaration kind (leaf token))
+      (name : List ℕ) → name ≡ token.text → is_name token ≡ true → reads_as (λ s. name_read around (role kind s.turned) name s)
+      → reads_as (part_read around kind (leaf token))
   name_token name same is reads =
-      subst (λ t. reads_as (λ s. if t then name_read declaration (role kind s.turned) token.text s else record s { scopes = passed s.scopes; turned = s.turned || turns kind token }))
-      (sym is) (subst (λ n. reads_as (λ s. name_read declaration (role kind s.turned) n s)) same reads)
+      subst (λ t. reads_as (λ s. if t then name_read around (role kind s.turned) token.text s else record s { scopes = passed s.scopes; turned = s.turned || turns kind token }))
+      (sym is) (subst (λ n. reads_as (λ s. name_read around (role kind s.turned) n s)) same reads)
 
-module _ (on : ℕ → Bool) (declaration kind : Kind) (token : PlainToken) (number : ℕ) (behind : List ℕ) (names : PlainNames) (p q : Progress) where
+module _ (on : ℕ → Bool) (around kind : Kind) (token : PlainToken) (number : ℕ) (behind : List ℕ) (names : PlainNames) (p q : Progress) where
   pub other_token :
       (b : Bool) → is_name token ≡ false → q.pending ≡ p.pending → value on (condition_of q.turned) ≡ (value on (condition_of p.turned) || (b && turns kind token))
-      → Reads on b (number ∷ behind) (part_read declaration kind (leaf token)) behind names p names q
+      → Reads on b (number ∷ behind) (part_read around kind (leaf token)) behind names p names q
   other_token true is same turned =
       ap₂ (λ (t : Bool) (pending : Vec Pending Global). record { scopes = seen on behind names; turned = t; hidden = hidden_at on (reverse pending.items) }) turned same ∙
-      ap (λ t. if t then name_read declaration (role kind (value on (condition_of p.turned))) token.text (seen_so_far on (number ∷ behind) names p)
+      ap (λ t. if t then name_read around (role kind (value on (condition_of p.turned))) token.text (seen_so_far on (number ∷ behind) names p)
       else record { scopes = seen on behind names; turned = value on (condition_of p.turned) || turns kind token; hidden = hidden_at on (reverse p.pending.items) }) (sym is)
   other_token false is same turned =
       ap₂ (λ (t : Bool) (pending : Vec Pending Global). record { scopes = seen on behind names; turned = t; hidden = hidden_at on (reverse pending.items) })

@@ -16,16 +16,16 @@ use Rattle.cond_scopes.specs.declared.parts.Progress.{Progress}
 use Rattle.cond_scopes.specs.Progress.{SoFar, showing, parts_read, perhaps_read, numbers, hidden_at, seen_so_far, Reads}
 use Rattle.cond_scopes.proofs.Walked.{ended, walked_by_parts, part_then}
 
-module _ (on : ℕ → Bool) (declaration kind : Kind) where
+module _ (on : ℕ → Bool) (around kind : Kind) where
   -- what comes of the parts from one place on
   abbrev pub outcome : ℕ → PlainChoices → List Leaf → PlainNames → Progress → Scopes
   outcome place rest behind names p =
-      ended declaration kind (parts_read declaration kind (parts_at on kind place rest) (seen_so_far on (numbers (parts_leaves on kind place rest behind)) names p))
+      ended around kind (parts_read around kind (parts_at on kind place rest) (seen_so_far on (numbers (parts_leaves on kind place rest behind)) names p))
 
   module _ (parts : List (Choice Item)) where
     abbrev begun : PlainNames → List Leaf → Scopes
     begun old behind =
-        walk_parts declaration kind false (parts_at on kind 0 (plain_choices parts)) (seen on (numbers (parts_leaves on kind 0 (plain_choices parts) behind)) old)
+        walk_parts around kind false (parts_at on kind 0 (plain_choices parts)) (seen on (numbers (parts_leaves on kind 0 (plain_choices parts) behind)) old)
 
     -- on the path what comes of the parts that are left is what was to come of all, and off it nothing is seen
     abbrev pub SoFarOn : Bool → PlainNames → ℕ → PlainNames → Progress → Type 0
@@ -39,8 +39,8 @@ module _ (on : ℕ → Bool) (declaration kind : Kind) where
         (path : Bool) (old : PlainNames) (p : Progress) → ((behind : List Leaf) → seen_so_far on (numbers behind) old p ≡ record { scopes = seen on (numbers behind) old; turned = false; hidden = [] })
         → SoFarOn path old 0 old p
     starts_on true old p new = λ behind.
-        ap (λ s. ended declaration kind (parts_read declaration kind (parts_at on kind 0 (plain_choices parts)) s)) (new (parts_leaves on kind 0 (plain_choices parts) behind)) ∙
-        sym (walked_by_parts declaration kind (parts_at on kind 0 (plain_choices parts)) (record { scopes = seen on (numbers (parts_leaves on kind 0 (plain_choices parts) behind)) old; turned = false; hidden = [] }))
+        ap (λ s. ended around kind (parts_read around kind (parts_at on kind 0 (plain_choices parts)) s)) (new (parts_leaves on kind 0 (plain_choices parts) behind)) ∙
+        sym (walked_by_parts around kind (parts_at on kind 0 (plain_choices parts)) (record { scopes = seen on (numbers (parts_leaves on kind 0 (plain_choices parts) behind)) old; turned = false; hidden = [] }))
     starts_on false old p new = new
 
     pub starts :
@@ -56,13 +56,13 @@ module _ (on : ℕ → Bool) (declaration kind : Kind) where
       next_on :
           (path : Bool) → drop place parts ≡ part ∷ rest → drop (suc place) parts ≡ rest
           → ((behind : List Leaf) (needed : Bool) → Reads on path (numbers (branch_leaves on needed (plain_branches part.branches.items) behind))
-          (perhaps_read declaration kind needed (branch_at on (plain_branches part.branches.items))) (numbers behind) names p new_names q)
+          (perhaps_read around kind needed (branch_at on (plain_branches part.branches.items))) (numbers behind) names p new_names q)
           → SoFarOn path old place names p → SoFarOn path old (suc place) new_names q
       next_on true here there reads before = λ behind.
           let left : List Leaf = parts_leaves on kind (suc place) (plain_choices rest) behind in
           ap (λ list. outcome (suc place) (plain_choices list) behind new_names q) there ∙
-          (ap (λ s. ended declaration kind (parts_read declaration kind (parts_at on kind (suc place) (plain_choices rest)) s)) (reads left (needs_statement kind place)) ∙
-          (ap (ended declaration kind) (sym (part_then declaration kind (needs_statement kind place) (branch_at on (plain_branches part.branches.items)) (parts_at on kind (suc place) (plain_choices rest))
+          (ap (λ s. ended around kind (parts_read around kind (parts_at on kind (suc place) (plain_choices rest)) s)) (reads left (needs_statement kind place)) ∙
+          (ap (ended around kind) (sym (part_then around kind (needs_statement kind place) (branch_at on (plain_branches part.branches.items)) (parts_at on kind (suc place) (plain_choices rest))
           (seen_so_far on (numbers (branch_leaves on (needs_statement kind place) (plain_branches part.branches.items) left)) names p))) ∙
           (ap (λ list. outcome place (plain_choices list) behind names p) (sym here) ∙ before behind)))
       next_on false here there reads before = λ behind. reads behind false ∙ before behind
@@ -74,7 +74,7 @@ module _ (on : ℕ → Bool) (declaration kind : Kind) where
         (path : Bool) (old : PlainNames) (place : ℕ) (part : Choice Item) (names : PlainNames) (p : Progress) (new_names : PlainNames) (q : Progress)
         → place < length parts → part ≡ get_or parts place part
         → ((behind : List Leaf) (needed : Bool) → Reads on path (numbers (branch_leaves on needed (plain_branches part.branches.items) behind))
-        (perhaps_read declaration kind needed (branch_at on (plain_branches part.branches.items))) (numbers behind) names p new_names q)
+        (perhaps_read around kind needed (branch_at on (plain_branches part.branches.items))) (numbers behind) names p new_names q)
         → PartsSoFar path old place names p → PartsSoFar path old (place + 1) new_names q
     next path old place part names p new_names q within is reads before =
         let further : PartsSoFar path old (suc place) new_names q = record {
@@ -85,17 +85,17 @@ module _ (on : ℕ → Bool) (declaration kind : Kind) where
     -- at the end
     finished_on :
         (path : Bool) (old : PlainNames) (place : ℕ) (names : PlainNames) (p : Progress) (last : PlainNames) → length parts ≤ place
-        → ((coming : List ℕ) → seen on coming last ≡ showing (scope_of declaration) (hidden_at on (reverse p.pending.items)) (seen on coming names))
+        → ((coming : List ℕ) → seen on coming last ≡ showing (scope_of around) (hidden_at on (reverse p.pending.items)) (seen on coming names))
         → SoFarOn path old place names p → (behind : List Leaf)
-        → Steps on path (numbers (parts_leaves on kind 0 (plain_choices parts) behind)) (walk_parts declaration kind false (parts_at on kind 0 (plain_choices parts))) (numbers behind) old last
+        → Steps on path (numbers (parts_leaves on kind 0 (plain_choices parts) behind)) (walk_parts around kind false (parts_at on kind 0 (plain_choices parts))) (numbers behind) old last
     finished_on true old place names p last past shown before behind =
         shown (numbers behind) ∙ (ap (λ list. outcome place (plain_choices list) behind names p) (sym (drop_all place parts past)) ∙ before behind)
     finished_on false old place names p last past shown before behind =
-        shown (numbers behind) ∙ ap (ended declaration kind) (before behind)
+        shown (numbers behind) ∙ ap (ended around kind) (before behind)
 
     pub finished :
         (path : Bool) (old : PlainNames) (place : ℕ) (names : PlainNames) (p : Progress) (last : PlainNames) → length parts ≤ place
-        → ((coming : List ℕ) → seen on coming last ≡ showing (scope_of declaration) (hidden_at on (reverse p.pending.items)) (seen on coming names))
+        → ((coming : List ℕ) → seen on coming last ≡ showing (scope_of around) (hidden_at on (reverse p.pending.items)) (seen on coming names))
         → PartsSoFar path old place names p → (behind : List Leaf)
-        → Steps on path (numbers (parts_leaves on kind 0 (plain_choices parts) behind)) (walk_parts declaration kind false (parts_at on kind 0 (plain_choices parts))) (numbers behind) old last
+        → Steps on path (numbers (parts_leaves on kind 0 (plain_choices parts) behind)) (walk_parts around kind false (parts_at on kind 0 (plain_choices parts))) (numbers behind) old last
     finished path old place names p last past shown before = finished_on path old place names p last past shown before.is

@@ -9,45 +9,45 @@ use Rattle.scope_readings.specs.Scopes.{Scopes, this, passed, used, tagged, name
 use Rattle.scope_readings.specs.Walks.{Role, ordinary_use, member_use, tag, declared_name, role, turns, scope_of, may_declare, walk_node, walk_parts, walk_name}
 use Rattle.cond_scopes.specs.Progress.{SoFar, showing, name_read, part_read, perhaps_read, parts_read}
 
-module _ (declaration kind : Kind) where
+module _ (around kind : Kind) where
   -- the names of declarators are shown at the end
   abbrev pub ended : SoFar → Scopes
-  ended p = showing (scope_of declaration) p.hidden p.scopes
+  ended p = showing (scope_of around) p.hidden p.scopes
 
   abbrev walked : PlainTrees → SoFar → Scopes
-  walked parts p = showing (scope_of declaration) p.hidden (walk_parts declaration kind p.turned parts p.scopes)
+  walked parts p = showing (scope_of around) p.hidden (walk_parts around kind p.turned parts p.scopes)
 
   abbrev pub AreRead : PlainTrees → Type 0
-  AreRead parts = (p : SoFar) → walked parts p ≡ ended (parts_read declaration kind parts p)
+  AreRead parts = (p : SoFar) → walked parts p ≡ ended (parts_read around kind parts p)
 
   name_walked :
       (token : PlainToken) (rest : PlainTrees) (p : SoFar) (r : Role) → AreRead rest
-      → showing (scope_of declaration) p.hidden (walk_name declaration r token (λ after. walk_parts declaration kind p.turned rest after) p.scopes)
-      ≡ ended (parts_read declaration kind rest (name_read declaration r token.text p))
-  name_walked token rest p ordinary_use behind = behind (name_read declaration ordinary_use token.text p)
-  name_walked token rest p member_use behind = behind (name_read declaration member_use token.text p)
-  name_walked token rest p tag behind = behind (name_read declaration tag token.text p)
-  name_walked token rest p declared_name behind = behind (name_read declaration declared_name token.text p)
+      → showing (scope_of around) p.hidden (walk_name around r token (λ after. walk_parts around kind p.turned rest after) p.scopes)
+      ≡ ended (parts_read around kind rest (name_read around r token.text p))
+  name_walked token rest p ordinary_use behind = behind (name_read around ordinary_use token.text p)
+  name_walked token rest p member_use behind = behind (name_read around member_use token.text p)
+  name_walked token rest p tag behind = behind (name_read around tag token.text p)
+  name_walked token rest p declared_name behind = behind (name_read around declared_name token.text p)
 
   leaf_walked :
       (token : PlainToken) (rest : PlainTrees) (p : SoFar) (b : Bool) → AreRead rest
-      → showing (scope_of declaration) p.hidden
-      (if b then walk_name declaration (role kind p.turned) token (λ after. walk_parts declaration kind p.turned rest after) p.scopes
-      else walk_parts declaration kind (p.turned || turns kind token) rest (passed p.scopes))
-      ≡ ended (parts_read declaration kind rest
-      (if b then name_read declaration (role kind p.turned) token.text p
+      → showing (scope_of around) p.hidden
+      (if b then walk_name around (role kind p.turned) token (λ after. walk_parts around kind p.turned rest after) p.scopes
+      else walk_parts around kind (p.turned || turns kind token) rest (passed p.scopes))
+      ≡ ended (parts_read around kind rest
+      (if b then name_read around (role kind p.turned) token.text p
       else record p { scopes = passed p.scopes; turned = p.turned || turns kind token }))
   leaf_walked token rest p true behind = name_walked token rest p (role kind p.turned) behind
   leaf_walked token rest p false behind = behind (record p { scopes = passed p.scopes; turned = p.turned || turns kind token })
 
   pub walked_by_parts : (parts : PlainTrees) → AreRead parts
   walked_by_parts none p = refl
-  walked_by_parts (more (node inner parts) rest) p = walked_by_parts rest (part_read declaration kind (node inner parts) p)
+  walked_by_parts (more (node inner parts) rest) p = walked_by_parts rest (part_read around kind (node inner parts) p)
   walked_by_parts (more (leaf token) rest) p = leaf_walked token rest p (is_name token) (walked_by_parts rest)
 
   -- what stands for a part, if anything does, and then the others
   pub part_then : (needed : Bool) (part : Option PlainTree) (rest : PlainTrees) (p : SoFar)
-      → parts_read declaration kind (with_part needed part rest) p ≡ parts_read declaration kind rest (perhaps_read declaration kind needed part p)
+      → parts_read around kind (with_part needed part rest) p ≡ parts_read around kind rest (perhaps_read around kind needed part p)
   part_then needed (Some tree) rest p = refl
   part_then true None rest p = refl
   part_then false None rest p = refl

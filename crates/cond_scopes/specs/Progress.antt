@@ -34,27 +34,27 @@ showing scope (h ∷ rest) s = showing scope rest (shown scope h.name h.number s
 
 -- one part more, in a declaration and a node of these kinds
 abbrev pub name_read : Kind → Role → List ℕ → SoFar → SoFar
-name_read declaration ordinary_use name p = record p { scopes = used name p.scopes }
-name_read declaration member_use name p = record p { scopes = passed p.scopes }
-name_read declaration tag name p = record p { scopes = tagged (may_declare declaration) name p.scopes }
-name_read declaration declared_name name p =
-    record p { scopes = named (scope_of declaration) name p.scopes; hidden = record { name = name; number = this p.scopes } ∷ p.hidden }
+name_read around ordinary_use name p = record p { scopes = used name p.scopes }
+name_read around member_use name p = record p { scopes = passed p.scopes }
+name_read around tag name p = record p { scopes = tagged (may_declare around) name p.scopes }
+name_read around declared_name name p =
+    record p { scopes = named (scope_of around) name p.scopes; hidden = record { name = name; number = this p.scopes } ∷ p.hidden }
 
 abbrev pub part_read : Kind → Kind → PlainTree → SoFar → SoFar
-part_read declaration kind (node inner parts) p = record p { scopes = walk_node declaration inner parts p.scopes }
-part_read declaration kind (leaf token) p =
-    if is_name token then name_read declaration (role kind p.turned) token.text p
+part_read around kind (node inner parts) p = record p { scopes = walk_node around inner parts p.scopes }
+part_read around kind (leaf token) p =
+    if is_name token then name_read around (role kind p.turned) token.text p
     else record p { scopes = passed p.scopes; turned = p.turned || turns kind token }
 
 -- what stands for a part, if anything does
 abbrev pub perhaps_read : Kind → Kind → Bool → Option PlainTree → SoFar → SoFar
-perhaps_read declaration kind needed (Some part) p = part_read declaration kind part p
-perhaps_read declaration kind true None p = part_read declaration kind no_statement p
-perhaps_read declaration kind false None p = p
+perhaps_read around kind needed (Some part) p = part_read around kind part p
+perhaps_read around kind true None p = part_read around kind no_statement p
+perhaps_read around kind false None p = p
 
 abbrev pub parts_read : Kind → Kind → PlainTrees → SoFar → SoFar
-parts_read declaration kind none p = p
-parts_read declaration kind (more tree rest) p = parts_read declaration kind rest (part_read declaration kind tree p)
+parts_read around kind none p = p
+parts_read around kind (more tree rest) p = parts_read around kind rest (part_read around kind tree p)
 
 -- ---- what a configuration sees
 
