@@ -1,16 +1,15 @@
 -- Of the alternatives for a part the first that holds is read.
-use Rattle.std.proofs.Common.{◌≡◌, ℕ, suc, ◌+◌, ◌<◌, ◌≤◌, drop, length, get_or, add-one, drop-cons, subst, Bool, true, false, not, ◌&&◌, List, [], ◌∷◌, Option, Some, None, IsTrue, refl, sym, ap, ap₂, ◌∙◌, if◌then◌else◌}
+use Rattle.std.proofs.Common.{◌≡◌, ℕ, suc, ◌+◌, ◌<◌, ◌≤◌, drop, length, get_or, add-one, drop-cons, subst, Bool, true, false, not, ◌&&◌, List, ◌∷◌, Some, None, IsTrue, refl, sym, ap, ap₂, ◌∙◌, if◌then◌else◌}
 use Rattle.std.proofs.lemmas.List.{drop_all}
 use Rattle.cond_formula.specs.Conditions.{Condition, condition_of, value}
 use Rattle.cond_formula.specs.declared.formulas.Formula.{Formula}
 use Rattle.choice_trees.specs.declared.trees.Item.{Item}
 use Rattle.c_tree.specs.declared.kinds.Kind.{Kind}
-use Rattle.c_tree.specs.Trees.{PlainTree}
 use Rattle.choice_trees.specs.ChoiceTrees.{PlainItem, PlainBranches, no_branch, branch, plain_item, plain_branches, item_at, branch_at}
 use Rattle.choice_trees.specs.Leaves.{Leaf, item_leaves, branch_leaves}
 use Rattle.cond_bindings.specs.Names.{PlainNames}
 use Rattle.cond_scopes.specs.declared.parts.Progress.{Progress}
-use Rattle.cond_scopes.specs.Progress.{SoFar, part_read, perhaps_read, numbers, seen_so_far, Reads}
+use Rattle.cond_scopes.specs.Progress.{part_read, perhaps_read, numbers, seen_so_far, Reads}
 
 module _ (on : ℕ → Bool) (around kind : Kind) (needed : Bool) (all : PlainBranches) (on_path : Bool) (old_names : PlainNames) (old : Progress) where
   -- the same is seen, whatever stands behind

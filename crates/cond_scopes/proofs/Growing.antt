@@ -1,5 +1,5 @@
 -- Blocks that are left as they were, or declare more.
-use Rattle.std.proofs.Common.{◌≡◌, [], ◌++◌, refl, sym, ap, ◌∙◌, append_assoc}
+use Rattle.std.proofs.Common.{◌≡◌, [], ◌++◌, sym, ap, ◌∙◌, append_assoc}
 use Rattle.cond_bindings.specs.Names.{PlainNames, Grows}
 
 pub stays : (old new : PlainNames) → new.blocks ≡ old.blocks → Grows old new

@@ -1,7 +1,5 @@
 -- A scope that ends with a node.
-use Rattle.std.proofs.Common.{◌≡◌, ℕ, Bool, true, false, List, sym, ap, ◌∙◌, subst}
-use Rattle.c_tree.specs.declared.kinds.Kind.{Kind}
-use Rattle.c_tree.specs.Trees.{PlainTrees}
+use Rattle.std.proofs.Common.{◌≡◌, ℕ, Bool, true, false, List, sym, ap, subst}
 use Rattle.scope_readings.specs.Scopes.{Scopes, leave}
 use Rattle.scope_readings.specs.Walks.{leave_if}
 use Rattle.cond_bindings.specs.Names.{PlainNames, seen, Steps}

@@ -1,19 +1,18 @@
 -- The parts of a node are read one after the other, where alternatives stand for them.
-use Rattle.std.proofs.Common.{◌≡◌, ℕ, suc, ◌+◌, ◌<◌, ◌≤◌, Bool, true, false, List, [], ◌∷◌, Option, drop, length, get_or, reverse, refl, sym, ap, ap₂, ◌∙◌, add-one, drop-cons, arith}
+use Rattle.std.proofs.Common.{◌≡◌, ℕ, suc, ◌+◌, ◌<◌, ◌≤◌, Bool, true, false, List, [], ◌∷◌, drop, length, get_or, reverse, refl, sym, ap, ap₂, ◌∙◌, add-one, drop-cons}
 use Rattle.std.proofs.lemmas.List.{drop_all}
 use Rattle.cond_formula.specs.Conditions.{condition_of, value}
 use Rattle.c_tree.specs.declared.kinds.Kind.{Kind}
-use Rattle.c_tree.specs.Trees.{PlainTree, PlainTrees, none}
 use Rattle.choice_trees.specs.declared.trees.Choice.{Choice}
 use Rattle.choice_trees.specs.declared.trees.Item.{Item}
-use Rattle.choice_trees.specs.ChoiceTrees.{PlainChoices, choice, plain_branches, plain_choices, needs_statement, branch_at, parts_at, with_part}
+use Rattle.choice_trees.specs.ChoiceTrees.{PlainChoices, plain_branches, plain_choices, needs_statement, branch_at, parts_at}
 use Rattle.choice_trees.specs.Leaves.{Leaf, branch_leaves, parts_leaves}
 use Rattle.scope_readings.specs.Scopes.{Scopes}
 use Rattle.scope_readings.specs.Walks.{walk_parts, scope_of}
 use Rattle.cond_bindings.specs.Names.{PlainNames, seen, Steps}
 use Rattle.cond_scopes.specs.declared.parts.Pending.{Pending}
 use Rattle.cond_scopes.specs.declared.parts.Progress.{Progress}
-use Rattle.cond_scopes.specs.Progress.{SoFar, showing, parts_read, perhaps_read, numbers, hidden_at, seen_so_far, Reads}
+use Rattle.cond_scopes.specs.Progress.{showing, parts_read, perhaps_read, numbers, hidden_at, seen_so_far, Reads}
 use Rattle.cond_scopes.proofs.Walked.{ended, walked_by_parts, part_then}
 
 module _ (on : ℕ → Bool) (around kind : Kind) where

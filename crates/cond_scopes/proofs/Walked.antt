@@ -1,12 +1,12 @@
 -- The parts of a node are read one after the other.
-use Rattle.std.proofs.Common.{◌≡◌, ℕ, Bool, true, false, ◌||◌, List, [], ◌∷◌, Option, Some, None, refl, if◌then◌else◌}
+use Rattle.std.proofs.Common.{◌≡◌, Bool, true, false, ◌||◌, Option, Some, None, refl, if◌then◌else◌}
 use Rattle.c_text.specs.Token.{PlainToken}
 use Rattle.c_tree.specs.declared.kinds.Kind.{Kind}
 use Rattle.c_tree.specs.Trees.{PlainTree, PlainTrees, leaf, node, none, more}
 use Rattle.choice_trees.specs.ChoiceTrees.{with_part}
 use Rattle.bindings.specs.Bindings.{is_name}
-use Rattle.scope_readings.specs.Scopes.{Scopes, this, passed, used, tagged, named}
-use Rattle.scope_readings.specs.Walks.{Role, ordinary_use, member_use, tag, declared_name, role, turns, scope_of, may_declare, walk_node, walk_parts, walk_name}
+use Rattle.scope_readings.specs.Scopes.{Scopes, passed}
+use Rattle.scope_readings.specs.Walks.{Role, ordinary_use, member_use, tag, declared_name, role, turns, scope_of, walk_parts, walk_name}
 use Rattle.cond_scopes.specs.Progress.{SoFar, showing, name_read, part_read, perhaps_read, parts_read}
 
 module _ (around kind : Kind) where

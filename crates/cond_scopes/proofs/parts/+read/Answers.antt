@@ -1,4 +1,4 @@
-use Rattle.std.proofs.Common.{◌≡◌, suc, ◌+◌, ◌≤◌, Bool, false, ◌&&◌, not, drop, reverse, arith, refl, sym, ap, ◌∙◌, subst}
+use Rattle.std.proofs.Common.{◌≡◌, suc, ◌≤◌, false, ◌&&◌, reverse, arith, refl, sym, ap, ◌∙◌, subst}
 use Rattle.cond_formula.specs.declared.formulas.Formula.{False}
 use Rattle.cond_formula.specs.Features.{has}
 use Rattle.cond_formula.specs.Conditions.{condition_of, conditions_of, value, all_true}
