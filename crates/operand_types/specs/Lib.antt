@@ -1,0 +1,3 @@
+pub mod OperandTypes
+pub mod Operators
+pub mod Laws
