@@ -1,10 +1,10 @@
 -- Two judgements side by side that come to related results or are both refused.
-use Rattle.std.proofs.Common.{◌≡◌, ℕ, Bool, true, false, List, [], ◌∷◌, ◌++◌, refl, sym, ap, ◌∙◌}
+use Rattle.std.proofs.Common.{◌≡◌, Bool, true, false, List, refl, sym, ap}
 use Rattle.std.specs.Prelude.{Option, Some, None, if◌then◌else◌}
 use Rattle.std.proofs.lemmas.Bool.{false≢true}
 use Rattle.c_text.specs.Token.{PlainToken}
 use Rattle.core_meaning.specs.declared.refusals.TypeKind.{TypeKind}
-use Rattle.core_meaning.specs.Checking.{Binding, Checked, fine, refused, broken, with_bindings, ◌>>=◌, give, unless_so, found_or, or_broken}
+use Rattle.core_meaning.specs.Checking.{Binding, Checked, fine, refused, broken, with_bindings, ◌>>=◌, unless_so, or_broken}
 use Rattle.operand_types.specs.OperandTypes.{outcome_as}
 
 abbrev pub Both : {A B : Type 0} → (A → B → Type 0) → Checked A → Checked B → Type 0

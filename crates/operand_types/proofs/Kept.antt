@@ -9,7 +9,7 @@ use Rattle.core_meaning.specs.Typing.{Operand, Typed, loaded}
 use Rattle.core_meaning.specs.Expressions.{prefixed, stepped, cast_to, combined_by, indexed, written_place, assignment, chosen, condition_value, passed}
 use Rattle.c_types.specs.Integers.{is_integer}
 use Rattle.operand_types.specs.OperandTypes.{OperandType, struct_in, is_known_complete, renumbered, type_of_operand, type_of_value, outcome_as, structs_with, structs_for, scope_with, asked_of, any_core, an_operand, a_value}
-use Rattle.operand_types.specs.Operators.{same_number, operand_outcome}
+use Rattle.operand_types.specs.Operators.{same_number}
 use Rattle.operand_types.specs.Laws.{KeepsApart, OperatorsKeepTypes, TypesAreKept}
 use Rattle.operand_types.proofs.Renumbered.{integer_no_struct, struct_by, Alike, alike_for}
 use Rattle.operand_types.proofs.Both.{Both, both_as, both_weaker, Any}
@@ -51,7 +51,7 @@ module _ (by : ℕ → ℕ) (structs : List Struct) (s t : PlainType) where
   pub second_alike : struct_in s ≡ None
       → Alike by structs (asked_structs (struct_in (renumbered by s)) (is_known_complete structs (struct_in s)) (structs_with (struct_in (renumbered by t)) (is_known_complete structs (struct_in t)))) t
   second_alike h = subst (λ k. Alike by structs (asked_structs k (is_known_complete structs (struct_in s)) (structs_with (struct_in (renumbered by t)) (is_known_complete structs (struct_in t)))) t)
-    (sym (struct_by by s ∙ ap (option_map by) h)) (alike_for by structs t)
+      (sym (struct_by by s ∙ ap (option_map by) h)) (alike_for by structs t)
 
 module _ (by : ℕ → ℕ) (keeps : KeepsApart by) (scope : Scope) where
   abbrev operand_of : Operand → OperandType
@@ -83,32 +83,32 @@ module _ (by : ℕ → ℕ) (keeps : KeepsApart by) (scope : Scope) where
   pub operators_keep_types : OperatorsKeepTypes by scope
   operators_keep_types = record {
     loads = λ at x. both_as (type_of_value by scope.structs) (type_of_value same_number (structs_for (operand_of x))) (loaded scope x) (loaded (scope_with (structs_for (operand_of x))) (an_operand at (operand_of x)))
-      (both_weaker (SameValue by scope (structs_for (operand_of x))) (λ v w. type_of_value by scope.structs v ≡ type_of_value same_number (structs_for (operand_of x)) w)
+        (both_weaker (SameValue by scope (structs_for (operand_of x))) (λ v w. type_of_value by scope.structs v ≡ type_of_value same_number (structs_for (operand_of x)) w)
         (loaded scope x) (loaded (scope_with (structs_for (operand_of x))) (an_operand at (operand_of x)))
         (loads_same by scope (structs_for (operand_of x)) at x (known_of x)) (value_same by scope (structs_for (operand_of x))));
     prefixes = λ sign x. seen_so (structs_for (operand_of x)) (prefixed scope sign x) (prefixed (scope_with (structs_for (operand_of x))) sign (an_operand sign (operand_of x)))
-      (prefixes_same by scope (structs_for (operand_of x)) sign x (known_of x));
+        (prefixes_same by scope (structs_for (operand_of x)) sign x (known_of x));
     steps = λ sign make x. seen_so (structs_for (operand_of x)) (stepped scope make sign x) (stepped (scope_with (structs_for (operand_of x))) update sign (an_operand sign (operand_of x)))
-      (steps_same by scope (structs_for (operand_of x)) keeps make update sign sign x (known_of x));
+        (steps_same by scope (structs_for (operand_of x)) keeps make update sign sign x (known_of x));
     casts = λ bracket ty x h. seen_so (structs_for (value_of x)) (cast_to bracket x ty) (cast_to bracket (a_value (value_of x)) ty)
-      (casts_same by scope (structs_for (value_of x)) keeps bracket ty any_core x h);
+        (casts_same by scope (structs_for (value_of x)) keeps bracket ty any_core x h);
     combines = λ kind sign x y. seen_so (structs_for (asked_of (value_of x) (value_of y))) (combined_by scope kind sign x y)
-      (combined_by (scope_with (structs_for (asked_of (value_of x) (value_of y)))) kind sign (a_value (value_of x)) (a_value (value_of y)))
-      (combines_same by scope (structs_for (asked_of (value_of x) (value_of y))) keeps kind sign any_core any_core x y (first_known x y) (number_known x y));
+        (combined_by (scope_with (structs_for (asked_of (value_of x) (value_of y)))) kind sign (a_value (value_of x)) (a_value (value_of y)))
+        (combines_same by scope (structs_for (asked_of (value_of x) (value_of y))) keeps kind sign any_core any_core x y (first_known x y) (number_known x y));
     indexes = λ bracket x y. seen_so (structs_for (asked_of (value_of x) (value_of y))) (indexed scope bracket x y)
-      (indexed (scope_with (structs_for (asked_of (value_of x) (value_of y)))) bracket (a_value (value_of x)) (a_value (value_of y)))
-      (indexes_same by scope (structs_for (asked_of (value_of x) (value_of y))) keeps bracket any_core any_core x y (first_known x y) (number_known x y));
+        (indexed (scope_with (structs_for (asked_of (value_of x) (value_of y)))) bracket (a_value (value_of x)) (a_value (value_of y)))
+        (indexes_same by scope (structs_for (asked_of (value_of x) (value_of y))) keeps bracket any_core any_core x y (first_known x y) (number_known x y));
     assigns = λ sign x y. seen_so (structs_for (operand_of x)) (written_place scope sign x >>= (λ place. assignment scope sign x place y))
-      (written_place (scope_with (structs_for (operand_of x))) sign (an_operand sign (operand_of x))
+        (written_place (scope_with (structs_for (operand_of x))) sign (an_operand sign (operand_of x))
         >>= (λ place. assignment (scope_with (structs_for (operand_of x))) sign (an_operand sign (operand_of x)) place (a_value (value_of y))))
-      (assigns_same by scope (structs_for (operand_of x)) keeps sign x any_core y (known_of x));
+        (assigns_same by scope (structs_for (operand_of x)) keeps sign x any_core y (known_of x));
     chooses = λ question condition x y null. seen_so (structs_for (asked_of (value_of x) (value_of y))) (chosen question condition x y)
-      (chosen question any_core (a_value (value_of x)) (a_value (value_of y)))
-      (chooses_same by scope (structs_for (asked_of (value_of x) (value_of y))) keeps question condition any_core any_core x y (first_known x y) (second_known x y) null);
+        (chosen question any_core (a_value (value_of x)) (a_value (value_of y)))
+        (chooses_same by scope (structs_for (asked_of (value_of x) (value_of y))) keeps question condition any_core any_core x y (first_known x y) (second_known x y) null);
     tests = λ at first x. tested_so (condition_value scope at x) (condition_value (scope_with (structs_for (operand_of x))) first (an_operand first (operand_of x)))
-      (tests_same by scope (structs_for (operand_of x)) keeps at first first x (known_of x));
+        (tests_same by scope (structs_for (operand_of x)) keeps at first first x (known_of x));
     fits = λ at first ty x. tested_so (passed scope ty x at) (passed (scope_with (structs_for (operand_of x))) (renumbered by ty) (an_operand first (operand_of x)) first)
-      (passes_same by scope (structs_for (operand_of x)) keeps at first first ty x (known_of x));
+        (passes_same by scope (structs_for (operand_of x)) keeps at first first ty x (known_of x));
   }
 
 pub types_are_kept_lem : TypesAreKept

@@ -1,7 +1,7 @@
 -- Operations between two values, where structs have other numbers.
-use Rattle.std.proofs.Common.{◌≡◌, ℕ, Bool, true, false, List, refl, sym, ap, ◌∙◌}
+use Rattle.std.proofs.Common.{◌≡◌, ℕ, Bool, true, false, List, refl}
 use Rattle.std.specs.Prelude.{◌&&◌, ◌||◌, Option, Some, None, if◌then◌else◌}
-use Rattle.std.proofs.lemmas.Bool.{false≢true, and_parts}
+use Rattle.std.proofs.lemmas.Bool.{and_parts}
 use Rattle.c_types.specs.Types.{PlainType, int}
 use Rattle.c_types.specs.Integers.{is_integer}
 use Rattle.c_types.specs.declared.arithmetic.BinaryOp.{BinaryOp}
@@ -11,10 +11,10 @@ use Rattle.core_meaning.specs.declared.expressions.Operation.TheVariants as oper
 use Rattle.core_meaning.specs.Program.{PlainExpression}
 use Rattle.core_meaning.specs.Entities.{Struct}
 use Rattle.core_meaning.specs.Typing.{Typed, promoted, common, is_movable, same_type}
-use Rattle.core_meaning.specs.Expressions.{is_shift_operator, is_order, is_equality, computing_type, result_type, on_numbers, is_any_pointer, are_comparable, pointer_operation, operation_on}
+use Rattle.core_meaning.specs.Expressions.{is_shift_operator, is_order, is_equality, computing_type, result_type, on_numbers, are_comparable, pointer_operation, operation_on}
 use Rattle.operand_types.specs.OperandTypes.{struct_in, renumbered}
 use Rattle.operand_types.specs.Laws.{KeepsApart}
-use Rattle.operand_types.proofs.Renumbered.{integer_no_struct, promoted_no_struct, integer_by, any_pointer_by, promoted_by, common_by, same_by, Alike, movable_alike}
+use Rattle.operand_types.proofs.Renumbered.{promoted_no_struct, integer_by, any_pointer_by, promoted_by, common_by, same_by, Alike, movable_alike}
 use Rattle.operand_types.proofs.Both.{both_if}
 
 and_alike : (b c d : Bool) → (b ≡ true → c ≡ d) → (b && c) ≡ (b && d)
@@ -41,7 +41,7 @@ result_by by op s t = elim (is_order op || is_equality op) as (λ b. (if b then 
 
 pub common_no_struct : (s t : PlainType) → struct_in s ≡ None → struct_in t ≡ None → struct_in (common s t) ≡ None
 common_no_struct s t f g = elim (Rattle.std.specs.Prelude.nat_le (Rattle.core_meaning.specs.Typing.rank (promoted s)) (Rattle.core_meaning.specs.Typing.rank (promoted t)))
-  as (λ b. struct_in (if b then promoted t else promoted s) ≡ None) [ true ↦ promoted_no_struct t g | false ↦ promoted_no_struct s f ]
+    as (λ b. struct_in (if b then promoted t else promoted s) ≡ None) [ true ↦ promoted_no_struct t g | false ↦ promoted_no_struct s f ]
 
 computing_no_struct : (op : BinaryOp) (s t : PlainType) → struct_in s ≡ None → struct_in t ≡ None → struct_in (computing_type op s t) ≡ None
 computing_no_struct op s t f g = elim (is_shift_operator op) as (λ b. struct_in (if b then promoted s else common s t) ≡ None) [
@@ -88,22 +88,22 @@ module _ (by : ℕ → ℕ) (keeps : KeepsApart by) (structs others : List Struc
     compared : (op : BinaryOp) → OfEach C op x y
         → C (if are_comparable op x y then Some (operation.Pointers op) else None) (if are_comparable op (other_value by c x) (other_value by d y) then Some (operation.Pointers op) else None)
     compared op each = both_if C (are_comparable op x y) (are_comparable op (other_value by c x) (other_value by d y)) (Some (operation.Pointers op)) None (Some (operation.Pointers op)) None
-      (comparable_by op c d x y) (λ h. each.pointers) (λ h. each.nothing)
+        (comparable_by op c d x y) (λ h. each.pointers) (λ h. each.nothing)
 
     on_pointers : (op : BinaryOp) → OfEach C op x y → C (pointer_operation structs op x y) (pointer_operation others op (other_value by c x) (other_value by d y))
     on_pointers Add each =
         both_if C (is_movable structs x.ty && is_integer y.ty) (is_movable others (renumbered by x.ty) && is_integer (renumbered by y.ty))
-          (Some operation.Forward) (if is_integer x.ty && is_movable structs y.ty then Some operation.ForwardBy else None)
-          (Some operation.Forward) (if is_integer (renumbered by x.ty) && is_movable others (renumbered by y.ty) then Some operation.ForwardBy else None)
-          moves_first (λ h. each.forward)
-          (λ h. each.forward_by)
+        (Some operation.Forward) (if is_integer x.ty && is_movable structs y.ty then Some operation.ForwardBy else None)
+        (Some operation.Forward) (if is_integer (renumbered by x.ty) && is_movable others (renumbered by y.ty) then Some operation.ForwardBy else None)
+        moves_first (λ h. each.forward)
+        (λ h. each.forward_by)
     on_pointers Sub each =
         both_if C (is_movable structs x.ty && is_integer y.ty) (is_movable others (renumbered by x.ty) && is_integer (renumbered by y.ty))
-          (Some operation.Back) (if is_movable structs x.ty && same_type x.ty y.ty then Some operation.Distance else None)
-          (Some operation.Back) (if is_movable others (renumbered by x.ty) && same_type (renumbered by x.ty) (renumbered by y.ty) then Some operation.Distance else None)
-          moves_first (λ h. each.back)
-          (λ h. both_if C (is_movable structs x.ty && same_type x.ty y.ty) (is_movable others (renumbered by x.ty) && same_type (renumbered by x.ty) (renumbered by y.ty))
-            (Some operation.Distance) None (Some operation.Distance) None differs (λ e. each.distance) (λ e. each.nothing))
+        (Some operation.Back) (if is_movable structs x.ty && same_type x.ty y.ty then Some operation.Distance else None)
+        (Some operation.Back) (if is_movable others (renumbered by x.ty) && same_type (renumbered by x.ty) (renumbered by y.ty) then Some operation.Distance else None)
+        moves_first (λ h. each.back)
+        (λ h. both_if C (is_movable structs x.ty && same_type x.ty y.ty) (is_movable others (renumbered by x.ty) && same_type (renumbered by x.ty) (renumbered by y.ty))
+        (Some operation.Distance) None (Some operation.Distance) None differs (λ e. each.distance) (λ e. each.nothing))
     on_pointers Mul each = compared Mul each
     on_pointers Div each = compared Div each
     on_pointers Rem each = compared Rem each
@@ -122,6 +122,6 @@ module _ (by : ℕ → ℕ) (keeps : KeepsApart by) (structs others : List Struc
     pub of_each : (op : BinaryOp) → OfEach C op x y → C (operation_on structs op x y) (operation_on others op (other_value by c x) (other_value by d y))
     of_each op each =
         both_if C (is_integer x.ty && is_integer y.ty) (is_integer (renumbered by x.ty) && is_integer (renumbered by y.ty))
-          (Some (on_numbers op x.ty y.ty)) (pointer_operation structs op x y)
-          (Some (on_numbers op (renumbered by x.ty) (renumbered by y.ty))) (pointer_operation others op (other_value by c x) (other_value by d y))
-          integers (λ h. each.numbers ((and_parts (is_integer x.ty) (is_integer y.ty) h).0) ((and_parts (is_integer x.ty) (is_integer y.ty) h).1)) (λ h. on_pointers op each)
+        (Some (on_numbers op x.ty y.ty)) (pointer_operation structs op x y)
+        (Some (on_numbers op (renumbered by x.ty) (renumbered by y.ty))) (pointer_operation others op (other_value by c x) (other_value by d y))
+        integers (λ h. each.numbers ((and_parts (is_integer x.ty) (is_integer y.ty) h).0) ((and_parts (is_integer x.ty) (is_integer y.ty) h).1)) (λ h. on_pointers op each)

@@ -1,11 +1,11 @@
 -- What types are where structs have other numbers.
-use Rattle.std.proofs.Common.{◌≡◌, ℕ, zero, suc, Bool, true, false, List, [], ◌∷◌, refl, sym, ap, ◌∙◌, subst}
-use Rattle.std.specs.Prelude.{◌==◌, ◌&&◌, ◌||◌, not, nat_le, Option, Some, None, option_map, slice_get, if◌then◌else◌, IsTrue}
+use Rattle.std.proofs.Common.{◌≡◌, ℕ, zero, suc, Bool, true, false, List, refl, sym, ap, ◌∙◌}
+use Rattle.std.specs.Prelude.{◌==◌, ◌&&◌, not, nat_le, Option, Some, None, option_map, slice_get, if◌then◌else◌}
 use Rattle.std.proofs.lemmas.Bool.{false≢true}
 use Rattle.c_types.specs.Types.{PlainType, void, char, unsigned_char, int, unsigned_int, long, unsigned_long, pointer_to, array_of, structure}
 use Rattle.c_types.specs.Integers.{is_integer}
 use Rattle.core_meaning.specs.Entities.{Struct}
-use Rattle.core_meaning.specs.Typing.{promoted, rank, common, integer_type, same_type, is_complete_struct, is_complete, is_struct, is_pointer, is_pointer_to_array, is_scalar_type, is_movable}
+use Rattle.core_meaning.specs.Typing.{promoted, rank, common, same_type, is_complete_struct, is_complete, is_struct, is_pointer, is_pointer_to_array, is_scalar_type, is_movable}
 use Rattle.core_meaning.specs.Expressions.{is_any_pointer, may_be_assigned, is_void}
 use Rattle.operand_types.specs.OperandTypes.{struct_in, is_known_complete, renumbered, structs_up_to, structs_with}
 use Rattle.operand_types.specs.Operators.{same_number}

@@ -1,10 +1,10 @@
 -- That operators make of operands what they make of the operands' types; the law is the contract of a function of this crate.
-use Rattle.std.specs.Prelude.{◌≡◌, ℕ, ◌==◌, Bool, Option, None, IsTrue}
+use Rattle.std.specs.Prelude.{◌≡◌, ℕ, ◌==◌, None, IsTrue}
 use Rattle.c_text.specs.Token.{PlainToken}
 use Rattle.c_types.specs.Types.{PlainType}
 use Rattle.c_types.specs.Integers.{is_integer}
 use Rattle.c_tree.specs.declared.kinds.Kind.{Kind}
-use Rattle.core_meaning.specs.Program.{PlainExpression, PlainPlace, update, update_after}
+use Rattle.core_meaning.specs.Program.{PlainExpression, PlainPlace}
 use Rattle.core_meaning.specs.Checking.{◌>>=◌}
 use Rattle.core_meaning.specs.Checking as judged
 use Rattle.core_meaning.specs.declared.expressions.Change.{Change}

@@ -1,5 +1,5 @@
 -- What operands are to the operators around them, whatever they compute (ISO/IEC 9899:2011, 6.3.2, 6.5).
-use Rattle.std.specs.Prelude.{ℕ, zero, suc, Bool, true, false, pos, List, [], ◌∷◌, Option, Some, None, is_some, slice_get}
+use Rattle.std.specs.Prelude.{ℕ, zero, suc, Bool, true, pos, List, [], ◌∷◌, Option, Some, None, slice_get}
 use Rattle.c_text.specs.Token.{PlainToken}
 use Rattle.c_types.specs.Types.{PlainType, void, char, unsigned_char, int, unsigned_int, long, unsigned_long, pointer_to, array_of, structure}
 use Rattle.core_meaning.specs.Program.{PlainExpression, constant, PlainPlace, slot}

@@ -7,7 +7,7 @@ use Rattle.core_meaning.specs.Program.{update}
 use Rattle.core_meaning.specs.Checking.{◌>>=◌}
 use Rattle.core_meaning.specs.Checking as judged
 use Rattle.core_meaning.specs.Entities.{Scope}
-use Rattle.core_meaning.specs.Typing.{loaded, fits_into, Operand, Typed}
+use Rattle.core_meaning.specs.Typing.{loaded, Operand, Typed}
 use Rattle.core_meaning.specs.Expressions as expressions
 use Rattle.conditional.specs.Judgements.{Checked}
 use Rattle.operand_types.specs.OperandTypes.{OperandType, type_of_operand, type_of_value, outcome_as, scope_for, asked_of, any_core, an_operand, a_value}
