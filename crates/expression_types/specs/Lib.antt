@@ -1,3 +1,4 @@
 pub mod Known
 pub mod Reading
 pub mod Laws
+pub mod Rows

@@ -5,7 +5,10 @@
 
 ghost use Rattle.expression_types.specs.Laws.{ExpressionsHaveTypes};
 
+mod rows;
+
 use operand_types::types_are_kept;
+pub use rows::worked_types;
 
 /// The type that is read of an expression is that of the operand that it is judged to be.
 pub fn expressions_have_types()
