@@ -19,5 +19,5 @@ pub use operands::{
     Designation, Operand, Typed, fits_into, fitted, loaded, number_in_type, of_object, of_value,
     typed_value,
 };
-pub use operators::{combined, logical};
+pub use operators::{combined, logical, operator_named};
 pub use prefixes::prefixed;

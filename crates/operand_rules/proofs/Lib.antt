@@ -1,0 +1,9 @@
+pub mod SameTypes
+pub mod SameOperands
+pub mod Answering
+pub mod Knowledge
+pub mod Loads
+pub mod TestRules
+pub mod PrefixRules
+pub mod AssignmentRules
+pub mod CombinationRules

@@ -1,0 +1,2 @@
+pub mod PlainOperandTypes
+pub mod Rules
