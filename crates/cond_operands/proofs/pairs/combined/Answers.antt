@@ -1,0 +1,8 @@
+use Rattle.std.proofs.lemmas.Result.{IfOk-weaker}
+use Rattle.c_text.specs.Token.{plain_token}
+use Rattle.operand_types.specs.Operators.{combined_type}
+use Rattle.cond_operands.proofs.pairs.combined.Goals as goal
+
+pub returns-clause-shows : goal.returns-clause-shows
+returns-clause-shows g c =
+    IfOk-weaker c.crossed.result _ _ (λ z crosses n admitted x y sx sy. crosses (combined_type c.args.kind (plain_token c.args.sign.now)) (record { computes = λ a b r answers. answers }) n admitted x y sx sy) c.crossed.ensures.shows
