@@ -8,9 +8,9 @@ ghost use Rattle.operand_types.specs.Operators.{stepped_type, assigned_type};
 ghost use Rattle.operand_rules.specs.PlainOperandTypes.{plain_category, plain_operand_type, judgement};
 ghost use Rattle.operand_rules.specs.Rules as rule;
 
+use crate::conditions::fits;
 use crate::operands::{Category, Judged, OperandType, Refused};
 use crate::structs::{is_complete, is_moved, same_value};
-use crate::tests::fits;
 use c_text::Token;
 use c_types::{BinaryOp, CType};
 use cond_formula::NoMemory;
