@@ -1,4 +1,5 @@
--- The rules for types by cases, which operators follow (ISO/IEC 9899:2011, 6.3.2, 6.5).
+-- The rules for types by cases, which operators follow (ISO/IEC 9899:2011, 6.3.2, 6.5): an aid of proofs, no further definition. That they are those of
+-- `operand_types` is what the contracts say.
 use Rattle.std.specs.Prelude.{ℕ, Bool, true, false, not, ◌&&◌, ◌||◌, List, codes, Option, Some, None, is_some, if◌then◌else◌, IsTrue}
 use Rattle.std.specs.Str.{bytes_eq}
 use Rattle.c_text.specs.Token.{PlainToken}
