@@ -12,6 +12,7 @@ ghost use Rattle.plain_operands.specs.PlainOperands.{plain_operand, plain_typed}
 ghost use Rattle.plain_scope.specs.Judgements.{Answers};
 ghost use Rattle.plain_operands.specs.Operators.{left_operand, left_place, update_by};
 
+use crate::boxes::expression_in_box;
 use crate::operands::{Designation, Operand, Typed, fitted, int, of_value, same, typed_value};
 use crate::operators::{null, operation_on, operator_named};
 use c_text::Token;
@@ -91,9 +92,9 @@ fn update_of(
     ensures { IfOk result (λ e. plain_expression e.value ≡ update_by after change (plain_place place.value) (plain_expression by.value)) }
 {
     if after {
-        Ok(Box::new(alloc, Expression::UpdateAfter(change, place, by))?)
+        expression_in_box(alloc, Expression::UpdateAfter(change, place, by))
     } else {
-        Ok(Box::new(alloc, Expression::Update(change, place, by))?)
+        expression_in_box(alloc, Expression::Update(change, place, by))
     }
 }
 
@@ -136,7 +137,7 @@ fn updated<'t>(
 fn one(alloc: Global) -> Result<Typed, NoMemory>
     ensures { IfOk result (λ x. plain_typed x ≡ spec.one) }
 {
-    let core = Box::new(alloc, Expression::Number(1))?;
+    let core = expression_in_box(alloc, Expression::Number(1))?;
     Ok(typed_value(int(alloc)?, core))
 }
 
@@ -166,7 +167,7 @@ fn plain_assignment<'t>(
     ensures { (scope : entities.Scope) → Answers (spec.assignment scope (plain_token sign.now) (left_operand (plain_token sign.now) left) (plain_place left.place.value) (plain_typed right)) plain_operand result }
 {
     let core = fitted(alloc, &left.ty, right, TypeKind::BadOperand, sign)?;
-    let assign = Box::new(alloc, Expression::Assign(left.place, core))?;
+    let assign = expression_in_box(alloc, Expression::Assign(left.place, core))?;
     Ok(of_value(sign, left.ty, assign))
 }
 

@@ -9,6 +9,7 @@ ghost use Rattle.core_meaning.specs.Expressions as spec;
 ghost use Rattle.plain_operands.specs.PlainOperands.{plain_operand, plain_typed};
 ghost use Rattle.plain_scope.specs.Judgements.{Answers};
 
+use crate::boxes::{expression_in_box, type_in_box};
 use crate::operands::{Operand, Typed, conversion, of_value};
 use c_text::Token;
 use c_types::CType;
@@ -31,13 +32,13 @@ fn unused_part(
             if is_result {
                 unused_part(alloc, false, inner)
             } else {
-                Ok(Box::new(alloc, Expression::Convert(ty, inner))?)
+                expression_in_box(alloc, Expression::Convert(ty, inner))
             }
         }
         Expression::Choose(condition, a, b) => {
             let a = unused_part(alloc, true, a)?;
             let b = unused_part(alloc, true, b)?;
-            Ok(Box::new(alloc, Expression::Choose(condition, a, b))?)
+            expression_in_box(alloc, Expression::Choose(condition, a, b))
         }
         Expression::Number(_)
         | Expression::Null
@@ -52,7 +53,7 @@ fn unused_part(
         | Expression::Update(..)
         | Expression::UpdateAfter(..)
         | Expression::Call(..)
-        | Expression::Discard(_) => Ok(Box::new(alloc, e)?),
+        | Expression::Discard(_) => expression_in_box(alloc, e),
     }
 }
 
@@ -79,12 +80,12 @@ fn number_cast<'t>(
 }
 
 #[tactic(auto, using(core_meaning::specs::PlainLaws::expression_kinds, c_types::specs::TypeLaws::type_kinds))]
-fn discarded<'t>(alloc: Global, sign: &'t Token, x: Typed) -> Result<Operand<'t>, NoMemory>
-    ensures { IfOk result (λ o. plain_operand o ≡ typing.of_value (plain_token sign.now) void (program.discard (spec.unused (plain_expression x.core.value)))) }
+fn discarded<'t>(alloc: Global, sign: &'t Token, x: Typed) -> Result<Operand<'t>, ElabError>
+    ensures { Answers (spec.cast_to (plain_token sign.now) (plain_typed x) void) plain_operand result }
 {
     let core = unused(alloc, x.core)?;
-    let core = Box::new(alloc, Expression::Discard(core))?;
-    let nothing = Box::new(alloc, CType::Void)?;
+    let core = expression_in_box(alloc, Expression::Discard(core))?;
+    let nothing = type_in_box(alloc, CType::Void)?;
     Ok(of_value(sign, nothing, core))
 }
 
@@ -98,9 +99,8 @@ pub fn cast_to<'t>(
     ensures { Answers (spec.cast_to (plain_token sign.now) (plain_typed x) (plain_type ty)) plain_operand result }
 {
     if is_void(&ty) {
-        let done = discarded(alloc, sign, x)?;
-        Ok(done)
+        discarded(alloc, sign, x)
     } else {
-        number_cast(alloc, sign, x, Box::new(alloc, ty)?)
+        number_cast(alloc, sign, x, type_in_box(alloc, ty)?)
     }
 }

@@ -9,6 +9,7 @@ ghost use Rattle.plain_operands.specs.PlainOperands.{plain_operand, plain_typed,
 ghost use Rattle.plain_scope.specs.Judgements.{Answers};
 ghost use Rattle.plain_operands.specs.Operators.{chosen_number, chosen_or_null, chosen_struct_or_pointer};
 
+use crate::boxes::{expression_in_box, type_in_box};
 use crate::operands::{Operand, Typed, conversion, loaded, of_value};
 use crate::operators::null;
 use c_text::Token;
@@ -46,7 +47,7 @@ fn choice<'t>(
 ) -> Result<Operand<'t>, ElabError>
     ensures { Answers (spec.chosen_core (plain_token sign.now) (plain_expression condition.value) (plain_type ty.value) (plain_expression a.value) (plain_expression b.value)) plain_operand result }
 {
-    let core = Box::new(alloc, Expression::Choose(condition, a, b))?;
+    let core = expression_in_box(alloc, Expression::Choose(condition, a, b))?;
     Ok(of_value(sign, ty, core))
 }
 
@@ -60,7 +61,7 @@ fn chosen_void<'t>(
 ) -> Result<Operand<'t>, ElabError>
     ensures { Answers (spec.chosen_core (plain_token sign.now) (plain_expression condition.value) void (plain_expression a.value) (plain_expression b.value)) plain_operand result }
 {
-    let ty = Box::new(alloc, CType::Void)?;
+    let ty = type_in_box(alloc, CType::Void)?;
     choice(alloc, sign, condition, ty, a, b)
 }
 
@@ -73,7 +74,7 @@ fn chosen_number<'t>(
 ) -> Result<Operand<'t>, ElabError>
     ensures { Answers (chosen_number (plain_token sign.now) (plain_expression condition.value) (plain_typed a) (plain_typed b)) plain_operand result }
 {
-    let ty = Box::new(alloc, common_type(alloc, &a.ty, &b.ty)?)?;
+    let ty = type_in_box(alloc, common_type(alloc, &a.ty, &b.ty)?)?;
     let left = conversion(alloc, &ty, a.core)?;
     let right = conversion(alloc, &ty, b.core)?;
     choice(alloc, sign, condition, ty, left, right)

@@ -1,20 +1,21 @@
 //! What pointers point to, and elements of arrays (6.5.2.1, 6.5.3.2).
-ghost use Rattle.std.specs.Prelude.{◌≡◌, true, IfOk};
+ghost use Rattle.std.specs.Prelude.{true};
 ghost use Rattle.c_text.specs.Token.{plain_token};
 ghost use Rattle.c_types.specs.Types.{plain_type};
 ghost use Rattle.core_meaning.specs.Program as program;
 ghost use Rattle.core_meaning.specs.Plain.{plain_expression};
+ghost use Rattle.core_meaning.specs.Checking.{give};
 ghost use Rattle.core_meaning.specs.Typing as typing;
 ghost use Rattle.core_meaning.specs.Expressions as spec;
 ghost use Rattle.plain_scope.specs.PlainScope.{plain_scope};
 ghost use Rattle.plain_operands.specs.PlainOperands.{plain_operand, plain_typed};
 ghost use Rattle.plain_scope.specs.Judgements.{Answers};
 
+use crate::boxes::place_in_box;
 use crate::operands::{Operand, Typed, of_object};
 use crate::operators::binary;
 use c_text::Token;
 use c_types::CType;
-use cond_formula::NoMemory;
 use core_meaning::{Expression, Operation, Place, TypeKind};
 use plain_scope::{ElabError, Scope, is_integer, is_pointer, refused, unless};
 use std::alloc::Global;
@@ -25,10 +26,10 @@ pub fn at_target<'t>(
     sign: &'t Token,
     ty: Box<CType>,
     pointer: Box<Expression>,
-) -> Result<Operand<'t>, NoMemory>
-    ensures { IfOk result (λ x. plain_operand x ≡ typing.of_object (plain_token sign.now) (plain_type ty.value) (program.target (plain_expression pointer.value)) true) }
+) -> Result<Operand<'t>, ElabError>
+    ensures { Answers (give (typing.of_object (plain_token sign.now) (plain_type ty.value) (program.target (plain_expression pointer.value)) true)) plain_operand result }
 {
-    let place = Box::new(alloc, Place::Target(pointer))?;
+    let place = place_in_box(alloc, Place::Target(pointer))?;
     Ok(of_object(sign, ty, place, true))
 }
 
@@ -45,8 +46,7 @@ fn element<'t>(
     match Box::into_inner(pointer) {
         CType::Pointer(target) => {
             unless(scope.is_complete(&target), TypeKind::Incomplete, sign)?;
-            let x = at_target(alloc, sign, target, core)?;
-            Ok(x)
+            at_target(alloc, sign, target, core)
         }
         CType::Void
         | CType::Char

@@ -2,6 +2,7 @@
 #![tactic(auto)]
 
 mod assignments;
+mod boxes;
 mod casts;
 mod choices;
 mod elements;

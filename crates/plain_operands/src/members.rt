@@ -11,6 +11,7 @@ ghost use Rattle.plain_operands.specs.PlainOperands.{plain_operand, plain_design
 ghost use Rattle.plain_scope.specs.Judgements.{AnswersBound};
 ghost use Rattle.plain_operands.specs.Operators.{member_of_loaded};
 
+use crate::boxes::place_in_box;
 use crate::operands::{Designation, Operand, loaded, of_object, same};
 use c_text::Token;
 use c_types::CType;
@@ -37,7 +38,7 @@ fn member_at<'t>(
     ensures { IfOk result (λ x. plain_operand x ≡ typing.of_object (plain_token name.now) (plain_type ty.now) (program.member (plain_place base.place.value) number) base.free) }
 {
     let ty = same(alloc, ty)?;
-    let place = Box::new(alloc, Place::Member(base.place, number))?;
+    let place = place_in_box(alloc, Place::Member(base.place, number))?;
     Ok(of_object(name, ty, place, base.free))
 }
 
@@ -99,7 +100,7 @@ fn base_of(alloc: Global, ty: &CType, designates: Designation) -> Result<Base, N
     match designates {
         Designation::Object(place, free) => Ok(Base { place, free }),
         Designation::Value(core) => {
-            let place = Box::new(alloc, Place::Temporary(copied(alloc, ty)?, core))?;
+            let place = place_in_box(alloc, Place::Temporary(copied(alloc, ty)?, core))?;
             Ok(Base { place, free: false })
         }
     }
@@ -110,7 +111,7 @@ fn target_of(alloc: Global, pointer: Box<Expression>) -> Result<Base, NoMemory>
     ensures place { IfOk result (λ base. plain_place base.place.value ≡ program.target (plain_expression pointer.value)) }
     ensures free { IfOk result (λ base. base.free ≡ true) }
 {
-    let place = Box::new(alloc, Place::Target(pointer))?;
+    let place = place_in_box(alloc, Place::Target(pointer))?;
     Ok(Base { place, free: true })
 }
 
@@ -128,8 +129,7 @@ fn member_of_target<'t>(
     match Box::into_inner(ty) {
         CType::Pointer(target) => {
             let base = target_of(alloc, core)?;
-            let x = member_of(alloc, scope, sign, name, &target, base)?;
-            Ok(x)
+            member_of(alloc, scope, sign, name, &target, base)
         }
         CType::Void
         | CType::Char
@@ -154,8 +154,7 @@ fn member_of_operand<'t>(
 {
     let Operand { ty, designates, .. } = operand;
     let base = base_of(alloc, &ty, designates)?;
-    let x = member_of(alloc, scope, sign, name, &ty, base)?;
-    Ok(x)
+    member_of(alloc, scope, sign, name, &ty, base)
 }
 
 fn member_of_loaded<'t>(
@@ -168,8 +167,7 @@ fn member_of_loaded<'t>(
     ensures { AnswersBound (member_of_loaded (plain_scope scope.now) (plain_token sign.now) (plain_token name.now) (plain_operand operand.entry)) plain_operand result }
 {
     let x = loaded(alloc, scope, operand)?;
-    let found = member_of_target(alloc, scope, sign, name, x.ty, x.core)?;
-    Ok(found)
+    member_of_target(alloc, scope, sign, name, x.ty, x.core)
 }
 
 /// `.` and `->`.

@@ -11,6 +11,7 @@ ghost use Rattle.plain_operands.specs.PlainOperands.{plain_operand, plain_typed,
 ghost use Rattle.plain_scope.specs.Judgements.{Answers};
 ghost use Rattle.plain_operands.specs.Values.{load_object, read_object};
 
+use crate::boxes::{expression_in_box, type_in_box};
 use c_text::Token;
 use c_types::CType;
 use cond_formula::NoMemory;
@@ -82,28 +83,28 @@ pub fn typed_value(ty: Box<CType>, core: Box<Expression>) -> Typed
 pub fn same(alloc: Global, ty: &CType) -> Result<Box<CType>, NoMemory>
     ensures { IfOk result (λ c. plain_type c.value ≡ plain_type ty.now) }
 {
-    Ok(Box::new(alloc, copied(alloc, ty)?)?)
+    type_in_box(alloc, copied(alloc, ty)?)
 }
 
 #[tactic(auto, using(c_types::specs::TypeLaws::type_kinds))]
 pub fn int(alloc: Global) -> Result<Box<CType>, NoMemory>
     ensures { IfOk result (λ c. plain_type c.value ≡ int) }
 {
-    Ok(Box::new(alloc, CType::Int)?)
+    type_in_box(alloc, CType::Int)
 }
 
 #[tactic(auto, using(core_meaning::specs::PlainLaws::expression_kinds))]
 fn read_of(alloc: Global, place: Box<Place>) -> Result<Box<Expression>, NoMemory>
     ensures { IfOk result (λ e. plain_expression e.value ≡ program.read (plain_place place.value)) }
 {
-    Ok(Box::new(alloc, Expression::Read(place))?)
+    expression_in_box(alloc, Expression::Read(place))
 }
 
 #[tactic(auto, using(core_meaning::specs::PlainLaws::expression_kinds))]
 fn first_of(alloc: Global, place: Box<Place>) -> Result<Box<Expression>, NoMemory>
     ensures { IfOk result (λ e. plain_expression e.value ≡ program.first_element (plain_place place.value)) }
 {
-    Ok(Box::new(alloc, Expression::FirstElement(place))?)
+    expression_in_box(alloc, Expression::FirstElement(place))
 }
 
 fn read_from(
@@ -132,11 +133,11 @@ fn loaded_object(
     let ty = Box::into_inner(ty);
     match ty {
         CType::Array(element, _) => {
-            let pointer = Box::new(alloc, CType::Pointer(element))?;
+            let pointer = type_in_box(alloc, CType::Pointer(element))?;
             Ok(typed_value(pointer, first_of(alloc, place)?))
         }
         CType::Void => {
-            let nothing = Box::new(alloc, CType::Void)?;
+            let nothing = type_in_box(alloc, CType::Void)?;
             Ok(typed_value(nothing, read_of(alloc, place)?))
         }
         CType::Char
@@ -146,7 +147,7 @@ fn loaded_object(
         | CType::Long
         | CType::ULong
         | CType::Pointer(_)
-        | CType::Struct(_) => read_from(alloc, scope, Box::new(alloc, ty)?, place, at),
+        | CType::Struct(_) => read_from(alloc, scope, type_in_box(alloc, ty)?, place, at),
     }
 }
 
@@ -174,7 +175,7 @@ pub fn conversion(
 ) -> Result<Box<Expression>, NoMemory>
     ensures { IfOk result (λ e. plain_expression e.value ≡ program.convert (spec.integer_type (plain_type ty.now)) (plain_expression core.value)) }
 {
-    Ok(Box::new(alloc, Expression::Convert(integer_type(ty), core))?)
+    expression_in_box(alloc, Expression::Convert(integer_type(ty), core))
 }
 
 /// A number in another type; nothing is written out where the types are the same.
@@ -196,7 +197,7 @@ pub fn fits_into(alloc: Global, ty: &CType, x: Typed) -> Result<Option<Box<Expre
     if is_integer(ty) && is_integer(&x.ty) {
         Ok(Some(number_in_type(alloc, ty, x)?))
     } else if is_pointer(ty) && x.is_null {
-        Ok(Some(Box::new(alloc, Expression::Null)?))
+        Ok(Some(expression_in_box(alloc, Expression::Null)?))
     } else if (is_pointer(ty) || is_struct(ty)) && same_type(ty, &x.ty) {
         Ok(Some(x.core))
     } else {

@@ -4,6 +4,7 @@ ghost use Rattle.c_text.specs.Token.{plain_token};
 ghost use Rattle.c_types.specs.Types.{plain_type};
 ghost use Rattle.core_meaning.specs.Program as program;
 ghost use Rattle.core_meaning.specs.Plain.{plain_expression};
+ghost use Rattle.core_meaning.specs.Checking.{give};
 ghost use Rattle.core_meaning.specs.Typing as typing;
 ghost use Rattle.core_meaning.specs.Expressions as spec;
 ghost use Rattle.plain_scope.specs.PlainScope.{plain_scope};
@@ -11,14 +12,15 @@ ghost use Rattle.plain_operands.specs.PlainOperands.{plain_operand, plain_typed}
 ghost use Rattle.plain_scope.specs.Judgements.{Answers};
 ghost use Rattle.plain_operands.specs.Operators.{joined_by, combined_as, operated};
 
-use crate::operands::{Operand, Typed, int, of_value};
+use crate::boxes::{expression_in_box, type_in_box};
+use crate::operands::{Operand, Typed, int, of_value, same};
 use c_text::Token;
 use c_types::{BinaryOp, CType};
 use cond_formula::NoMemory;
 use core_meaning::{Expression, IntegerType, Operation, TypeKind};
 use plain_scope::{
-    ElabError, Scope, common, common_type, copied, is_any_pointer, is_integer, is_movable,
-    is_scalar, promoted, promoted_type, refused, same_type, unless,
+    ElabError, Scope, common, common_type, is_any_pointer, is_integer, is_movable, is_scalar,
+    promoted, promoted_type, refused, same_type, unless,
 };
 use std::alloc::Global;
 
@@ -152,16 +154,16 @@ pub fn operation_on(scope: &Scope, op: BinaryOp, a: &Typed, b: &Typed) -> Option
 }
 
 #[tactic(auto, using(c_types::specs::TypeLaws::type_kinds))]
-fn operation_type(alloc: Global, o: Operation, a: &CType, b: &CType) -> Result<CType, NoMemory>
-    ensures { IfOk result (λ ty. plain_type ty ≡ spec.operation_type o (plain_type a.now) (plain_type b.now)) }
+fn operation_type(alloc: Global, o: Operation, a: &CType, b: &CType) -> Result<Box<CType>, NoMemory>
+    ensures { IfOk result (λ ty. plain_type ty.value ≡ spec.operation_type o (plain_type a.now) (plain_type b.now)) }
 {
     match o {
-        Operation::Forward => copied(alloc, a),
-        Operation::ForwardBy => copied(alloc, b),
-        Operation::Back => copied(alloc, a),
-        Operation::Distance => Ok(CType::Long),
-        Operation::Pointers(_) => Ok(CType::Int),
-        Operation::Numbers(op, _) => result_type(alloc, op, a, b),
+        Operation::Forward => same(alloc, a),
+        Operation::ForwardBy => same(alloc, b),
+        Operation::Back => same(alloc, a),
+        Operation::Distance => type_in_box(alloc, CType::Long),
+        Operation::Pointers(_) => int(alloc),
+        Operation::Numbers(op, _) => type_in_box(alloc, result_type(alloc, op, a, b)?),
     }
 }
 
@@ -169,7 +171,7 @@ fn operation_type(alloc: Global, o: Operation, a: &CType, b: &CType) -> Result<C
 pub fn null(alloc: Global) -> Result<Box<Expression>, NoMemory>
     ensures { IfOk result (λ e. plain_expression e.value ≡ program.null_constant) }
 {
-    Ok(Box::new(alloc, Expression::Null)?)
+    expression_in_box(alloc, Expression::Null)
 }
 
 #[tactic(auto, using(core_meaning::specs::PlainLaws::expression_kinds))]
@@ -181,7 +183,7 @@ pub fn binary(
 ) -> Result<Box<Expression>, NoMemory>
     ensures { IfOk result (λ e. plain_expression e.value ≡ program.binary o (plain_expression a.value) (plain_expression b.value)) }
 {
-    Ok(Box::new(alloc, Expression::Binary(o, a, b))?)
+    expression_in_box(alloc, Expression::Binary(o, a, b))
 }
 
 /// The null constant is compared as a pointer.
@@ -210,10 +212,10 @@ fn operated<'t>(
     o: Operation,
     a: Typed,
     b: Typed,
-) -> Result<Operand<'t>, NoMemory>
-    ensures { IfOk result (λ x. plain_operand x ≡ operated (plain_token sign.now) o (plain_typed a) (plain_typed b)) }
+) -> Result<Operand<'t>, ElabError>
+    ensures { Answers (give (operated (plain_token sign.now) o (plain_typed a) (plain_typed b))) plain_operand result }
 {
-    let ty = Box::new(alloc, operation_type(alloc, o, &a.ty, &b.ty)?)?;
+    let ty = operation_type(alloc, o, &a.ty, &b.ty)?;
     let left = operand_core(alloc, o, a)?;
     let right = operand_core(alloc, o, b)?;
     let core = binary(alloc, o, left, right)?;
@@ -236,8 +238,7 @@ pub fn combined<'t>(
     let Some(o) = operation_on(scope, op, &a, &b) else {
         return Err(refused(TypeKind::BadOperand, sign));
     };
-    let x = operated(alloc, sign, o, a, b)?;
-    Ok(x)
+    operated(alloc, sign, o, a, b)
 }
 
 #[tactic(auto, using(core_meaning::specs::PlainLaws::expression_kinds))]
@@ -250,9 +251,9 @@ fn joined(
     ensures { IfOk result (λ e. plain_expression e.value ≡ joined_by and (plain_expression a.value) (plain_expression b.value)) }
 {
     if and {
-        Ok(Box::new(alloc, Expression::And(a, b))?)
+        expression_in_box(alloc, Expression::And(a, b))
     } else {
-        Ok(Box::new(alloc, Expression::Or(a, b))?)
+        expression_in_box(alloc, Expression::Or(a, b))
     }
 }
 

@@ -11,6 +11,7 @@ ghost use Rattle.plain_operands.specs.PlainOperands.{plain_operand, plain_typed}
 ghost use Rattle.plain_scope.specs.Judgements.{Answers};
 ghost use Rattle.plain_operands.specs.Operators.{on_value, on_loaded};
 
+use crate::boxes::{expression_in_box, type_in_box};
 use crate::elements::at_target;
 use crate::operands::{Designation, Operand, Typed, conversion, int, loaded, of_value};
 use crate::operators::binary;
@@ -35,8 +36,8 @@ fn pointed_at<'t>(
     let Designation::Object(place, true) = designates else {
         return Err(refused(TypeKind::BadOperand, sign));
     };
-    let pointer = Box::new(alloc, CType::Pointer(ty))?;
-    let address = Box::new(alloc, Expression::Address(place))?;
+    let pointer = type_in_box(alloc, CType::Pointer(ty))?;
+    let address = expression_in_box(alloc, Expression::Address(place))?;
     Ok(of_value(sign, pointer, address))
 }
 
@@ -50,10 +51,7 @@ fn dereferenced<'t>(
     ensures { Answers (spec.dereferenced (plain_token sign.now) (typing.typed (plain_type ty.value) (plain_expression core.value)) (plain_type ty.value)) plain_operand result }
 {
     match Box::into_inner(ty) {
-        CType::Pointer(target) => {
-            let x = at_target(alloc, sign, target, core)?;
-            Ok(x)
-        }
+        CType::Pointer(target) => at_target(alloc, sign, target, core),
         CType::Void
         | CType::Char
         | CType::UChar
@@ -70,15 +68,14 @@ fn dereferenced<'t>(
 fn number(alloc: Global, z: i128) -> Result<Box<Expression>, NoMemory>
     ensures { IfOk result (λ e. plain_expression e.value ≡ program.constant z) }
 {
-    Ok(Box::new(alloc, Expression::Number(z))?)
+    expression_in_box(alloc, Expression::Number(z))
 }
 
 fn minus(alloc: Global, ty: IntegerType, core: Box<Expression>) -> Result<Box<Expression>, NoMemory>
     ensures { IfOk result (λ e. plain_expression e.value ≡ program.binary (Operation.Numbers BinaryOp.Sub ty) (program.constant (pos 0)) (plain_expression core.value)) }
 {
     let zero = number(alloc, 0)?;
-    let e = binary(alloc, Operation::Numbers(BinaryOp::Sub, ty), zero, core)?;
-    Ok(e)
+    binary(alloc, Operation::Numbers(BinaryOp::Sub, ty), zero, core)
 }
 
 fn complement(
@@ -89,8 +86,7 @@ fn complement(
     ensures { IfOk result (λ e. plain_expression e.value ≡ program.binary (Operation.Numbers BinaryOp.BitXor ty) (plain_expression core.value) (program.constant (negsuc 0))) }
 {
     let ones = number(alloc, -1)?;
-    let e = binary(alloc, Operation::Numbers(BinaryOp::BitXor, ty), core, ones)?;
-    Ok(e)
+    binary(alloc, Operation::Numbers(BinaryOp::BitXor, ty), core, ones)
 }
 
 fn signed_core(
@@ -114,7 +110,7 @@ fn signed<'t>(alloc: Global, sign: &'t Token, x: Typed) -> Result<Operand<'t>, E
     ensures { Answers (spec.signed (plain_token sign.now) (plain_typed x)) plain_operand result }
 {
     unless(is_integer(&x.ty), TypeKind::BadOperand, sign)?;
-    let ty = Box::new(alloc, promoted_type(alloc, &x.ty)?)?;
+    let ty = type_in_box(alloc, promoted_type(alloc, &x.ty)?)?;
     let core = signed_core(alloc, sign.text.as_slice(), &ty, x)?;
     Ok(of_value(sign, ty, core))
 }
@@ -124,7 +120,7 @@ fn negated<'t>(alloc: Global, sign: &'t Token, x: Typed) -> Result<Operand<'t>, 
     ensures { Answers (spec.negated (plain_token sign.now) (plain_typed x)) plain_operand result }
 {
     unless(is_scalar(&x.ty), TypeKind::BadOperand, sign)?;
-    let core = Box::new(alloc, Expression::Not(x.core))?;
+    let core = expression_in_box(alloc, Expression::Not(x.core))?;
     Ok(of_value(sign, int(alloc)?, core))
 }
 
@@ -150,8 +146,7 @@ fn on_loaded<'t>(
     ensures { Answers (on_loaded (plain_scope scope.now) (plain_token sign.now) (plain_operand operand.entry)) plain_operand result }
 {
     let x = loaded(alloc, scope, operand)?;
-    let done = on_value(alloc, sign, x)?;
-    Ok(done)
+    on_value(alloc, sign, x)
 }
 
 /// One of `& * + - ~ !` before its operand.
