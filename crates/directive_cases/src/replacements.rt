@@ -1,6 +1,6 @@
 //! What replaces lists of tokens, where the macros' lines stand under conditions: `N` is 1 with the first feature and 2 without it,
 //! and `f`, with the parameter `x`, is `x * N` with the second.
-use crate::expressions::{condition, tokens};
+use crate::lines::{condition, tokens};
 use c_text::{Macro, Token};
 use cond_formula::{Config, NoMemory, PlainOracle};
 use cond_macros::{CondReplacement, replaced};
