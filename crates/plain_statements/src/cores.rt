@@ -1,5 +1,6 @@
 //! Core statements from their parts.
-ghost use Rattle.std.specs.Prelude.{◌≡◌, ◌++◌, map, IfOk};
+ghost use Rattle.std.specs.Prelude.{◌≡◌, ◌∷◌, ◌++◌, [], map, IfOk, OnOk};
+ghost use Rattle.core_meaning.specs.declared.statements.Item.TheVariants as item_kind;
 ghost use Rattle.core_meaning.specs.Plain.{plain_expression, plain_item, plain_items, plain_statement};
 ghost use Rattle.core_meaning.specs.Program.{block, loop, selection, statement_item};
 ghost use Rattle.core_meaning.specs.Statements as spec;
@@ -10,6 +11,13 @@ use cond_formula::NoMemory;
 use core_meaning::{Expression, Item, Statement};
 use plain_declarations::LocalItem;
 use std::alloc::Global;
+
+/// A statement in a box of its own.
+pub fn boxed(alloc: Global, core: Statement) -> Result<Box<Statement>, NoMemory>
+    ensures { IfOk result (λ s. plain_statement s.value ≡ plain_statement core) }
+{
+    Ok(Box::new(alloc, core)?)
+}
 
 /// A selection up to its `else`.
 #[derive(Drop)]
@@ -28,7 +36,7 @@ pub fn selected(
 {
     let Begun { condition, core } = begun;
     let condition = Box::into_inner(condition);
-    Ok(Box::new(alloc, Statement::If(condition, core, second))?)
+    boxed(alloc, Statement::If(condition, core, second))
 }
 
 #[tactic(auto, using(core_meaning::specs::PlainLaws::statement_kinds))]
@@ -47,14 +55,33 @@ pub fn looped(
         step: Box::into_inner(step),
         body,
     };
-    Ok(Box::new(alloc, turns)?)
+    boxed(alloc, turns)
+}
+
+/// A loop whose turns end with nothing to do.
+#[tactic(auto, using(core_meaning::specs::PlainLaws::statement_kinds, core_meaning::specs::PlainLaws::expression_kinds))]
+pub fn plainly_looped(
+    alloc: Global,
+    asks_first: bool,
+    condition: Box<Expression>,
+    body: Box<Statement>,
+) -> Result<Box<Statement>, NoMemory>
+    ensures { IfOk result (λ s. plain_statement s.value ≡ loop asks_first (plain_expression condition.value) spec.nothing_to_do (plain_statement body.value)) }
+{
+    let turns = Statement::Loop {
+        asks_first,
+        condition: Box::into_inner(condition),
+        step: Expression::Number(0),
+        body,
+    };
+    boxed(alloc, turns)
 }
 
 #[tactic(auto, using(core_meaning::specs::PlainLaws::statement_kinds))]
 pub fn as_block(alloc: Global, items: Vec<Item>) -> Result<Box<Statement>, NoMemory>
     ensures { IfOk result (λ s. plain_statement s.value ≡ block (plain_items items.items)) }
 {
-    Ok(Box::new(alloc, Statement::Block(items))?)
+    boxed(alloc, Statement::Block(items))
 }
 
 // ---- items
@@ -78,12 +105,19 @@ pub fn items_of(alloc: Global, declared: Vec<LocalItem>) -> Result<Vec<Item>, No
     Ok(items)
 }
 
+fn push_statement(items: &mut Vec<Item>, core: Box<Statement>) -> Result<(), NoMemory>
+    ensures { OnOk result (items.new.items ≡ items.old.items ++ item_kind.Statement core.value ∷ []) }
+{
+    items.push(Item::Statement(Box::into_inner(core)))?;
+    Ok(())
+}
+
 #[tactic(auto, using(core_meaning::specs::PlainLaws::statement_kinds))]
 pub fn single(alloc: Global, core: Box<Statement>) -> Result<Vec<Item>, NoMemory>
     ensures { IfOk result (λ items. put (map plain_item items.items) ≡ statement_item (plain_statement core.value)) }
 {
     let mut items = Vec::new(alloc);
-    items.push(Item::Statement(Box::into_inner(core)))?;
+    push_statement(&mut items, core)?;
     Ok(items)
 }
 
@@ -97,16 +131,8 @@ pub fn joined(items: Vec<Item>, behind: Vec<Item>) -> Result<Vec<Item>, NoMemory
     Ok(all)
 }
 
-#[tactic(auto, using(core_meaning::specs::PlainLaws::statement_kinds, crate::specs::Blocks::block_behind))]
-fn block_of_turns(items: Vec<Item>, turns: Statement) -> Result<Statement, NoMemory>
-    ensures { IfOk result (λ s. plain_statement s ≡ block (put (map plain_item items.items) (spec.one_item (plain_statement turns)))) }
-{
-    let mut items = items;
-    items.push(Item::Statement(turns))?;
-    Ok(Statement::Block(items))
-}
-
 /// A `for` as the block of what it begins with and its turns.
+#[tactic(auto, using(core_meaning::specs::PlainLaws::statement_kinds, crate::specs::Blocks::block_behind))]
 pub fn behind_items(
     alloc: Global,
     items: Vec<Item>,
@@ -114,6 +140,7 @@ pub fn behind_items(
 ) -> Result<Box<Statement>, NoMemory>
     ensures { IfOk result (λ s. plain_statement s.value ≡ block (put (map plain_item items.items) (spec.one_item (plain_statement turns.value)))) }
 {
-    let whole = block_of_turns(items, Box::into_inner(turns))?;
-    Ok(Box::new(alloc, whole)?)
+    let mut items = items;
+    push_statement(&mut items, turns)?;
+    boxed(alloc, Statement::Block(items))
 }

@@ -14,6 +14,7 @@ ghost use Rattle.plain_operands.specs.PlainOperands.{boxed_expression};
 ghost use Rattle.plain_statements.specs.PlainJudged.{boxed_statement};
 ghost use Rattle.plain_statements.specs.Steps.{around_of, simple_of, unused_value, evaluated, returned_value, returned_as, nothing_returned, expression_in, jump_by, jump_if, jump_in, return_in};
 
+use crate::cores::boxed;
 use c_text::Token;
 use c_tree::{Kind, Tree};
 use c_types::CType;
@@ -47,7 +48,7 @@ fn number(alloc: Global, z: i128) -> Result<Box<Expression>, NoMemory>
 }
 
 /// What stands for the expression of a step, or for one that isn't there.
-pub fn nothing_to_do(alloc: Global) -> Result<Box<Expression>, NoMemory>
+fn nothing_to_do(alloc: Global) -> Result<Box<Expression>, NoMemory>
     ensures { IfOk result (λ e. plain_expression e.value ≡ spec.nothing_to_do) }
 {
     Ok(number(alloc, 0)?)
@@ -106,7 +107,7 @@ pub fn condition_or_true(
 pub fn nothing(alloc: Global) -> Result<Box<Statement>, NoMemory>
     ensures { IfOk result (λ s. plain_statement s.value ≡ block no_item) }
 {
-    Ok(Box::new(alloc, Statement::Block(Vec::new(alloc)))?)
+    boxed(alloc, Statement::Block(Vec::new(alloc)))
 }
 
 #[tactic(auto, using(core_meaning::specs::PlainLaws::statement_kinds))]
@@ -114,7 +115,7 @@ fn evaluation(alloc: Global, core: Box<Expression>) -> Result<Box<Statement>, No
     ensures { IfOk result (λ s. plain_statement s.value ≡ evaluate (expressions.unused (plain_expression core.value))) }
 {
     let e = unused(alloc, core)?;
-    Ok(Box::new(alloc, Statement::Expression(Box::into_inner(e)))?)
+    boxed(alloc, Statement::Expression(Box::into_inner(e)))
 }
 
 fn evaluated(
@@ -177,7 +178,7 @@ fn jump_by(word: &[u8]) -> Statement
 fn jump_of(alloc: Global, word: &[u8]) -> Result<Box<Statement>, NoMemory>
     ensures { IfOk result (λ s. plain_statement s.value ≡ jump_by word.now) }
 {
-    Ok(Box::new(alloc, jump_by(word))?)
+    boxed(alloc, jump_by(word))
 }
 
 /// A `break` or `continue`, which stands in a loop (6.8.6.2, 6.8.6.3).
@@ -202,7 +203,7 @@ fn jump_in(alloc: Global, parts: &[Tree], in_loop: bool) -> Result<Box<Statement
 fn return_without(alloc: Global) -> Result<Box<Statement>, NoMemory>
     ensures { IfOk result (λ s. plain_statement s.value ≡ return_nothing) }
 {
-    Ok(Box::new(alloc, Statement::Return)?)
+    boxed(alloc, Statement::Return)
 }
 
 fn nothing_returned(
@@ -220,7 +221,7 @@ fn nothing_returned(
 fn value_returned(alloc: Global, core: Box<Expression>) -> Result<Box<Statement>, NoMemory>
     ensures { IfOk result (λ s. plain_statement s.value ≡ return_value (plain_expression core.value)) }
 {
-    Ok(Box::new(alloc, Statement::ReturnValue(Box::into_inner(core)))?)
+    boxed(alloc, Statement::ReturnValue(Box::into_inner(core)))
 }
 
 fn returned_value(

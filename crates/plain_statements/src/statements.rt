@@ -10,8 +10,10 @@ ghost use Rattle.plain_scope.specs.Judgements.{Judges};
 ghost use Rattle.plain_statements.specs.PlainJudged.{plain_begun, plain_item_of, plain_judged, plain_judged_items};
 ghost use Rattle.plain_statements.specs.Steps.{around_of, block_of, begun_if, while_of, do_of, for_of, for_by, single_item, item_of};
 
-use crate::cores::{Begun, as_block, behind_items, joined, looped, selected, single};
-use crate::simple::{condition_or_true, discarded, nothing, nothing_to_do, simple};
+use crate::cores::{
+    Begun, as_block, behind_items, joined, looped, plainly_looped, selected, single,
+};
+use crate::simple::{condition_or_true, discarded, nothing, simple};
 use crate::starts::{begun_for, declaration_in, end_for, locals_item};
 use c_text::Token;
 use c_tree::{Kind, Tree};
@@ -41,8 +43,7 @@ fn while_turns(
 {
     let c = condition(alloc, scope, used, test, close)?;
     let s = statement(alloc, scope, used, body, slots, returns, true)?;
-    let nothing = nothing_to_do(alloc)?;
-    Ok(looped(alloc, true, c, nothing, s)?)
+    Ok(plainly_looped(alloc, true, c, s)?)
 }
 
 #[cycle(statements)]
@@ -85,8 +86,7 @@ fn do_turns(
 {
     let s = statement(alloc, scope, used, body, slots, returns, true)?;
     let c = condition(alloc, scope, used, test, close)?;
-    let nothing = nothing_to_do(alloc)?;
-    Ok(looped(alloc, false, c, nothing, s)?)
+    Ok(plainly_looped(alloc, false, c, s)?)
 }
 
 #[cycle(statements)]

@@ -196,7 +196,7 @@ while_turns-returns-clause-judged t c =
     let returns = plain_type c.args.returns.now in
     let slots = map plain_type c.args.slots.now.items in
     let before = uses_of c.args.used.now in
-    while_given scope returns c.args.in_loop slots (plain_tree c.args.test.now) (plain_token c.args.close.now) (plain_tree c.args.body.now) (boxed_expression c.in_ok-c.c) (plain_judged c.statement.new.slots.items c.in_ok-s.s) (boxed_statement c.in_ok-looped.field-0) before (uses_of c.condition.new.used) (uses_of c.statement.new.used) c.in_ok-c.ensures c.in_ok-s.ensures.judged (c.in_ok-looped.ensures ∙ ap (λ (e : PlainExpression). loop true (boxed_expression c.in_ok-c.c) e (boxed_statement c.in_ok-s.s)) c.in_ok-nothing.ensures)
+    while_given scope returns c.args.in_loop slots (plain_tree c.args.test.now) (plain_token c.args.close.now) (plain_tree c.args.body.now) (boxed_expression c.in_ok-c.c) (plain_judged c.statement.new.slots.items c.in_ok-s.s) (boxed_statement c.in_ok-plainly_looped.field-0) before (uses_of c.condition.new.used) (uses_of c.statement.new.used) c.in_ok-c.ensures c.in_ok-s.ensures.judged c.in_ok-plainly_looped.ensures
 
 pub do_turns-returns-in_err-c-clause-judged : goal.do_turns-returns-in_err-c-clause-judged
 do_turns-returns-in_err-c-clause-judged t c =
@@ -213,7 +213,7 @@ do_turns-returns-clause-judged t c =
     let returns = plain_type c.args.returns.now in
     let slots = map plain_type c.args.slots.now.items in
     let before = uses_of c.args.used.now in
-    do_given scope (plain_scope c.statement.new.scope) returns c.args.in_loop slots (plain_tree c.args.test.now) (plain_token c.args.close.now) (plain_tree c.args.body.now) (plain_judged c.statement.new.slots.items c.in_ok-s.s) (boxed_expression c.in_ok-c.c) (boxed_statement c.in_ok-looped.field-0) before (uses_of c.statement.new.used) (uses_of c.condition.new.used) c.in_ok-s.ensures.judged c.in_ok-s.ensures.same c.in_ok-c.ensures (c.in_ok-looped.ensures ∙ ap (λ (e : PlainExpression). loop false (boxed_expression c.in_ok-c.c) e (boxed_statement c.in_ok-s.s)) c.in_ok-nothing.ensures)
+    do_given scope (plain_scope c.statement.new.scope) returns c.args.in_loop slots (plain_tree c.args.test.now) (plain_token c.args.close.now) (plain_tree c.args.body.now) (plain_judged c.statement.new.slots.items c.in_ok-s.s) (boxed_expression c.in_ok-c.c) (boxed_statement c.in_ok-plainly_looped.field-0) before (uses_of c.statement.new.used) (uses_of c.condition.new.used) c.in_ok-s.ensures.judged c.in_ok-s.ensures.same c.in_ok-c.ensures c.in_ok-plainly_looped.ensures
 
 pub for_turns-returns-in_err-step-clause-judged : goal.for_turns-returns-in_err-step-clause-judged
 for_turns-returns-in_err-step-clause-judged t c =
