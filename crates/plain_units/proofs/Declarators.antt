@@ -1,5 +1,5 @@
 -- Laws of the declarators of a declaration at file scope.
-use Rattle.std.proofs.Common.{◌≡◌, ℕ, ◌+◌, ◌<◌, ◌≤◌, Bool, true, false, ◌||◌, List, [], ◌∷◌, length, drop, refl, ap, arith, ◌∙◌, ◌⊎◌, inl, inr}
+use Rattle.std.proofs.Common.{◌≡◌, ℕ, ◌+◌, ◌<◌, ◌≤◌, Bool, true, false, ◌||◌, List, [], ◌∷◌, length, drop, refl, sym, ap, arith, ◌∙◌, ◌⊎◌, inl, inr}
 use Rattle.std.specs.Prelude.{Option, Some, None, if◌then◌else◌}
 use Rattle.std.proofs.lemmas.Bool.{cases_lt}
 use Rattle.std.proofs.lemmas.Cmp.{nat_eq_equiv}
@@ -20,10 +20,10 @@ use Rattle.plain_scope.specs.Parts as parts
 use Rattle.plain_scope.specs.Judgements.{Gives, RefusedAs}
 use Rattle.plain_scope.specs.declared.errors.ElabError.{ElabError}
 use Rattle.plain_scope.specs.JudgementLaws.{refused_first}
-use Rattle.plain_declarations.specs.Locals.{first_size}
+use Rattle.plain_declarations.specs.Locals.{first_size, initialiser_by}
 use Rattle.plain_declarators.specs.Sequences.{bind_nothing, gives_of, refused_of}
 use Rattle.plain_units.specs.Leading.{Leads, leads_with, leads_to, leads_refused}
-use Rattle.plain_units.specs.Declarators.{declared_by_kind, declared_first}
+use Rattle.plain_units.specs.Declarators.{declared_by_kind, declared_first, First, first_as, first_declarator}
 
 one_by_kind : (globals : ℕ) (unit : UnitState) (storage : Storage) (ty : PlainType) (kind : Kind) (parts : PlainTrees) (initialiser : Option PlainTree) (rest : PlainTrees) → declared_one globals unit storage ty (node kind parts) initialiser rest ≡ (or_broken (name_in parts) >>= (λ name. declared_by_kind globals unit storage ty kind parts name initialiser rest))
 one_by_kind globals unit storage ty k.FunctionDeclarator parts initialiser rest = refl
@@ -54,16 +54,37 @@ pub nothing_left : (l : List Tree) → length l ≡ 0 → plain_trees l ≡ none
 nothing_left [] is = refl
 nothing_left (x ∷ rest) is = absurd (omega arith)
 
-pub first_only : (globals : ℕ) (unit : UnitState) (storage : Storage) (ty : PlainType) (tree : PlainTree) (list rest : PlainTrees) → list ≡ more tree none → declared_first globals unit storage ty list rest ≡ declared_one globals unit storage ty tree None rest
-first_only globals unit storage ty tree list rest is = ap (λ l. declared_first globals unit storage ty l rest) is
+pub only_declarator : (list : PlainTrees) (tree : PlainTree) → list ≡ more tree none → first_declarator list ≡ Some (first_as tree None 1)
+only_declarator list tree front = ap first_declarator front
 
-pub first_initialised : (globals : ℕ) (unit : UnitState) (storage : Storage) (ty : PlainType) (tree sign next : PlainTree) (list others rest : PlainTrees) → list ≡ more tree (more sign (more next others)) → parts.is_word t.Assign sign ≡ true → declared_first globals unit storage ty list rest ≡ declared_one globals unit storage ty tree (Some next) rest
-first_initialised globals unit storage ty tree sign next list others rest front is =
-    ap (λ l. declared_first globals unit storage ty l rest) front ∙ ap (λ b. declared_one globals unit storage ty tree (if b then Some next else None) rest) is
+pub initialised_declarator : (list : PlainTrees) (tree sign next : PlainTree) (others : PlainTrees) → list ≡ more tree (more sign (more next others)) → parts.is_word t.Assign sign ≡ true → first_declarator list ≡ Some (first_as tree (Some next) 3)
+initialised_declarator list tree sign next others front is =
+    ap first_declarator front ∙ ap (λ b. Some (first_as tree (if b then Some next else None) (if b then 3 else 1))) is
 
-pub first_alone : (globals : ℕ) (unit : UnitState) (storage : Storage) (ty : PlainType) (tree sign next : PlainTree) (list others rest : PlainTrees) → list ≡ more tree (more sign (more next others)) → parts.is_word t.Assign sign ≡ false → declared_first globals unit storage ty list rest ≡ declared_one globals unit storage ty tree None rest
-first_alone globals unit storage ty tree sign next list others rest front is =
-    ap (λ l. declared_first globals unit storage ty l rest) front ∙ ap (λ b. declared_one globals unit storage ty tree (if b then Some next else None) rest) is
+pub lone_declarator : (list : PlainTrees) (tree sign next : PlainTree) (others : PlainTrees) → list ≡ more tree (more sign (more next others)) → parts.is_word t.Assign sign ≡ false → first_declarator list ≡ Some (first_as tree None 1)
+lone_declarator list tree sign next others front is =
+    ap first_declarator front ∙ ap (λ b. Some (first_as tree (if b then Some next else None) (if b then 3 else 1))) is
+
+nothing_first : {A : Type 0} (f : First) → None ≡ Some f → A
+nothing_first f is = cc
+
+same_first : (f g : First) → Some f ≡ Some g → f ≡ g
+same_first f g is = cc
+
+pub first_is : (globals : ℕ) (unit : UnitState) (storage : Storage) (ty : PlainType) (list rest : PlainTrees) (f : First) → first_declarator list ≡ Some f → declared_first globals unit storage ty list rest ≡ declared_one globals unit storage ty f.tree f.initialiser rest
+first_is globals unit storage ty none rest f is = nothing_first f is
+first_is globals unit storage ty (more tree none) rest f is =
+    ap (λ (g : First). declared_one globals unit storage ty g.tree g.initialiser rest) (same_first (first_as tree None 1) f is)
+first_is globals unit storage ty (more tree (more sign none)) rest f is = nothing_first f is
+first_is globals unit storage ty (more tree (more sign (more next others))) rest f is =
+    ap (λ (g : First). declared_one globals unit storage ty g.tree g.initialiser rest) (same_first (first_as tree (initialiser_by sign next) (if parts.is_word t.Assign sign then 3 else 1)) f is)
+
+pub size_is : (list : PlainTrees) (f : First) → first_declarator list ≡ Some f → f.size ≡ first_size list
+size_is none f is = nothing_first f is
+size_is (more tree none) f is = sym (ap (λ (g : First). g.size) (same_first (first_as tree None 1) f is))
+size_is (more tree (more sign none)) f is = nothing_first f is
+size_is (more tree (more sign (more next others))) f is =
+    sym (ap (λ (g : First). g.size) (same_first (first_as tree (initialiser_by sign next) (if parts.is_word t.Assign sign then 3 else 1)) f is))
 
 -- ---- the first declarator of a list, and those behind it
 

@@ -1,5 +1,5 @@
 //! The declarators of a declaration at file scope (6.7).
-ghost use Rattle.std.specs.Prelude.{◌≡◌, ℕ, IfOk, option_map};
+ghost use Rattle.std.specs.Prelude.{◌≡◌, ℕ, Some, IfOk, MatchResult, option_map};
 ghost use Rattle.c_text.specs.Token.{plain_token};
 ghost use Rattle.c_types.specs.Types.{plain_type};
 ghost use Rattle.c_tree.specs.Trees.{node, plain_tree, plain_trees};
@@ -7,7 +7,7 @@ ghost use Rattle.core_meaning.specs.UnitNames as spec;
 ghost use Rattle.plain_scope.specs.Judgements.{Judges};
 ghost use Rattle.plain_units.specs.PlainStates.{plain_state, plain_storage};
 ghost use Rattle.plain_declarations.specs.Locals.{first_size};
-ghost use Rattle.plain_units.specs.Declarators.{declared_by_kind, declared_first};
+ghost use Rattle.plain_units.specs.Declarators.{declared_by_kind, declared_first, first_as, first_declarator};
 
 use crate::definitions::Unit;
 use crate::functions::declare_function;
@@ -145,8 +145,28 @@ fn declare_one(
     }
 }
 
-/// The first declarator of a list with its initialiser, and what stands behind the declaration in the unit. How many trees
-/// of the list they are.
+/// The first declarator of a list, what initialises it, and how many trees of the list both are.
+fn first_declarator(list: &[Tree]) -> Result<(&Tree, Option<&Tree>, usize), ElabError>
+    ensures { MatchResult result (λ r. first_declarator (plain_trees list.now) ≡ Some (first_as (plain_tree r.0.now) (option_map (λ t. plain_tree t.now) r.1) r.2)) (λ error. error ≡ ElabError.Memory) }
+{
+    let Some((tree, behind)) = list.split_first() else {
+        return Err(ElabError::Memory);
+    };
+    let Some((sign, signed)) = behind.split_first() else {
+        return Ok((tree, None, 1));
+    };
+    let Some((next, _)) = signed.split_first() else {
+        return Err(ElabError::Memory);
+    };
+    if is_word(sign, Terminal::Assign) {
+        Ok((tree, Some(next), 3))
+    } else {
+        Ok((tree, None, 1))
+    }
+}
+
+/// Declares the first declarator of a list, with what stands behind the declaration in the unit. How many trees of the list
+/// it takes with its initialiser.
 fn declare_first(
     alloc: Global,
     unit: &mut Unit,
@@ -159,23 +179,9 @@ fn declare_first(
     ensures judged { (globals : ℕ) → Judges (declared_first globals (plain_state globals unit.old) (plain_storage storage) (plain_type base.now) (plain_trees list.now) (plain_trees rest.now)) (λ u. plain_state globals unit.new) used.old used.new result }
     ensures size { IfOk result (λ size. size ≡ first_size (plain_trees list.now)) }
 {
-    let Some((tree, behind)) = list.split_first() else {
-        return Err(ElabError::Memory);
-    };
-    let Some((sign, signed)) = behind.split_first() else {
-        declare_one(alloc, unit, used, storage, base, tree, None, rest)?;
-        return Ok(1);
-    };
-    let Some((next, _)) = signed.split_first() else {
-        return Err(ElabError::Memory);
-    };
-    if is_word(sign, Terminal::Assign) {
-        declare_one(alloc, unit, used, storage, base, tree, Some(next), rest)?;
-        Ok(3)
-    } else {
-        declare_one(alloc, unit, used, storage, base, tree, None, rest)?;
-        Ok(1)
-    }
+    let (tree, initialiser, size) = first_declarator(list)?;
+    declare_one(alloc, unit, used, storage, base, tree, initialiser, rest)?;
+    Ok(size)
 }
 
 /// The declarators of a declaration, one after the other, with what stands behind it in the unit.
