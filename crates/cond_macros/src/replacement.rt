@@ -39,13 +39,14 @@ const BUILT_IN_LENGTH: u32 = 118;
 fn feature_token(alloc: Global) -> Result<Token, NoMemory>
     ensures { IfOk result (λ token. plain_token token ≡ preprocessing.feature_token) }
 {
+    let text = Vec::from_slice(alloc, b"1")?;
     let span = Span {
         start: BUILT_IN_LENGTH,
         end: BUILT_IN_LENGTH,
     };
     Ok(Token {
         kind: TokenKind::Number,
-        text: Vec::from_slice(alloc, b"1")?,
+        text,
         joined: false,
         origin: Origin {
             file: BUILT_IN_FILE,
@@ -121,6 +122,5 @@ pub fn replaced<O: Oracle>(
     ensures replaces { IfOk result (λ r. (c : List Bool) → IsTrue (value (has c) (O.admits oracle.old)) → IsTrue (value (has c) (condition_of within.now)) → Replaces (has c) (spec.replaced (macros_at (has c) macros.now) (seen (has c) (entries_of (λ t. plain_token t.now) tokens.now))) r) }
 {
     let feature = feature_token(alloc)?;
-    let replaced = outermost_replaced(alloc, *macros, oracle, within, &*tokens, &feature)?;
-    Ok(replaced)
+    outermost_replaced(alloc, *macros, oracle, within, &*tokens, &feature)
 }

@@ -9,7 +9,7 @@ ghost use Rattle.cond_bodies.specs.CondItems.{item_at, items_at};
 ghost use Rattle.cond_bodies.specs.CondMeanings.{Means, plain_function};
 ghost use Rattle.cond_runs.specs.Functions.{is_single, or_function, some_seen, without_params, kept_item};
 ghost use Rattle.cond_runs.specs.CondArguments.{lists_at};
-ghost use Rattle.cond_runs.specs.CondCalls.{call_at, calls_at, held_at};
+ghost use Rattle.cond_runs.specs.CondCalls.{call_at, calls_at, closes, held_at};
 ghost use Rattle.cond_runs.specs.CondFinished.{given_at};
 ghost use Rattle.cond_runs.specs.CondRuns.{run_at};
 ghost use Rattle.cond_macros.specs.CondLevels.{macros_in, active_in, deeper_in, is_within, replaced_at};
@@ -215,13 +215,27 @@ fn called<'t, O: Oracle>(
     )
 }
 
+// Goes on with a call by an item that is present and doesn't end it.
+fn go_on<'t>(
+    alloc: Global,
+    run: &mut Run<'t>,
+    mut call: Call<'t>,
+    item: &Item<'t>,
+) -> Result<(), NoMemory>
+    requires { (on : ℕ → Bool) → closes (call_at on call) (item_at on item.now).token ≡ false }
+    ensures { OnOk result ((exact : Bool) (on : ℕ → Bool) (table : spec.Table) (deeper : spec.Deeper) (active : List (List ℕ)) → run_at exact on run.new ≡ also (run_at exact on run.old) (under_piece (value on (condition_of call.entry.when)) (turn_piece exact table deeper active true (held_at on call.entry) (item_at on item.now) (plain_token item.now.token.now)))) }
+{
+    call.read(alloc, item.try_clone(alloc)?)?;
+    run.push_call(call)
+}
+
 // Reads an item that ends a call or goes on with it, where the call is open and the item is present.
 #[cycle(lists)]
 fn present_turn<'t, O: Oracle>(
     level: &Level<'t, '_>,
     oracle: &mut O,
     run: &mut Run<'t>,
-    mut call: Call<'t>,
+    call: Call<'t>,
     item: &Item<'t>,
 ) -> Result<(), NoMemory>
     ensures kept { O.admits oracle.new ≡ O.admits oracle.old }
@@ -236,12 +250,9 @@ fn present_turn<'t, O: Oracle>(
         let name = call.name.token;
         let when = call.when.try_clone(alloc)?;
         let given = called(level, oracle, call)?;
-        run.take(alloc, &when, &given, name, item.token)?;
-        return Ok(());
+        return run.take(alloc, &when, &given, name, item.token);
     }
-    call.read(alloc, item.try_clone(alloc)?)?;
-    run.push_call(call)?;
-    Ok(())
+    go_on(alloc, run, call, item)
 }
 
 // The call stays open where the condition holds, which implies its own.
@@ -261,8 +272,21 @@ fn push_copy<'t, O: Oracle>(
         return Ok(());
     }
     let copy = call.copied(level.alloc, when)?;
-    run.push_call(copy)?;
-    Ok(())
+    run.push_call(copy)
+}
+
+// An item that only lengthens the last argument of a call, where it is present.
+fn lengthen<'t>(
+    alloc: Global,
+    run: &mut Run<'t>,
+    mut call: Call<'t>,
+    entry: &Guarded<Item<'t>>,
+) -> Result<(), NoMemory>
+    requires { (on : ℕ → Bool) → spec.progress (call_at on call) (item_at on entry.now.what) ≡ spec.goes_on (spec.with_item (call_at on call) (item_at on entry.now.what)) }
+    ensures { OnOk result ((exact : Bool) (on : ℕ → Bool) (table : spec.Table) (deeper : spec.Deeper) (active : List (List ℕ)) → run_at exact on run.new ≡ also (run_at exact on run.old) (under_piece (value on (condition_of call.entry.when)) (turn_piece exact table deeper active (value on (condition_of entry.now.when)) (held_at on call.entry) (item_at on entry.now.what) (plain_token entry.now.what.token.now)))) }
+{
+    call.lengthen(entry.when.try_clone(alloc)?, entry.what.try_clone(alloc)?)?;
+    run.push_call(call)
 }
 
 // Reads an item in an open call.
@@ -271,7 +295,7 @@ fn call_turn<'t, O: Oracle>(
     level: &Level<'t, '_>,
     oracle: &mut O,
     run: &mut Run<'t>,
-    mut call: Call<'t>,
+    call: Call<'t>,
     entry: &Guarded<Item<'t>>,
 ) -> Result<(), NoMemory>
     ensures kept { O.admits oracle.new ≡ O.admits oracle.old }
@@ -279,16 +303,13 @@ fn call_turn<'t, O: Oracle>(
 {
     let alloc = level.alloc;
     if !call.is_split_by(&entry.what) {
-        call.lengthen(entry.when.try_clone(alloc)?, entry.what.try_clone(alloc)?)?;
-        run.push_call(call)?;
-        return Ok(());
+        return lengthen(alloc, run, call, entry);
     }
     let elsewhere = without(alloc, call.when.try_clone(alloc)?, &entry.when)?;
     push_copy(level, oracle, run, &call, elsewhere)?;
     let here = inner(alloc, &call.when, &entry.when)?;
     let call = call.narrowed(here);
-    present_turn(level, oracle, run, call, &entry.what)?;
-    Ok(())
+    present_turn(level, oracle, run, call, &entry.what)
 }
 
 // Reads an item in all calls that are open. The answer is where none is.
@@ -326,8 +347,7 @@ fn feature_turn<'t>(
     }
     let fresh = Item::fresh(level.alloc, level.feature);
     let brought = fresh.brought(level.alloc, item.token, item.token)?;
-    run.push_item(when, brought)?;
-    Ok(())
+    run.push_item(when, brought)
 }
 
 // A name whose definitions have these bodies, where the condition holds.
@@ -351,8 +371,7 @@ fn object_turn<'t, O: Oracle>(
     let body = joined_body(alloc, objects, &[])?;
     let within = inner(alloc, level.within, when)?;
     let given = replacement(level, oracle, item.token, &within, body.as_slice())?;
-    run.take(alloc, when, &given, item.token, item.token)?;
-    Ok(())
+    run.take(alloc, when, &given, item.token, item.token)
 }
 
 // A name of function-like macros before a `(`, where the condition holds.
@@ -374,8 +393,7 @@ fn begin_call<'t, O: Oracle>(
         return Ok(());
     }
     let call = Call::begun(alloc, when, item.try_clone(alloc)?, functions);
-    run.push_call(call)?;
-    Ok(())
+    run.push_call(call)
 }
 
 // A name that stays, where the condition holds.
@@ -393,8 +411,7 @@ fn stay_turn<'t, O: Oracle>(
     if !possible {
         return Ok(());
     }
-    run.push_item(when, item.try_clone(level.alloc)?)?;
-    Ok(())
+    run.push_item(when, item.try_clone(level.alloc)?)
 }
 
 // Where a name of function-like macros begins a call.
@@ -410,8 +427,7 @@ fn when_called<'t>(
     }
     let some = when_some(alloc, functions)?;
     let opens = when_opens(alloc, rest)?;
-    let f = both(alloc, some, opens)?;
-    Ok(f)
+    both(alloc, some, opens)
 }
 
 // Where neither condition holds, nor the third.
@@ -426,8 +442,7 @@ fn when_none(
 {
     let left = without(alloc, when.try_clone(alloc)?, first)?;
     let left = without(alloc, left, second)?;
-    let left = without(alloc, left, third)?;
-    Ok(left)
+    without(alloc, left, third)
 }
 
 // Where a name is treated in each of the ways.
@@ -511,8 +526,21 @@ fn name_turn<'t, O: Oracle>(
     feature_turn(level, run, ways.feature, item)?;
     object_turn(level, oracle, run, &ways.object, item, objects.as_slice())?;
     begin_call(level, oracle, run, ways.call, item, meanings.functions)?;
-    stay_turn(level, oracle, run, ways.stays, item)?;
-    Ok(())
+    stay_turn(level, oracle, run, ways.stays, item)
+}
+
+// A name is kept for good, where both conditions hold.
+fn keep<'t>(
+    alloc: Global,
+    run: &mut Run<'t>,
+    when: &Formula,
+    some: &Formula,
+    item: &Item<'t>,
+) -> Result<(), NoMemory>
+    ensures { OnOk result ((exact : Bool) (on : ℕ → Bool) → run_at exact on run.new ≡ also (run_at exact on run.old) (under_piece (value on (condition_of when.now) && value on (condition_of some.now)) (items_piece exact (record (item_at on item.now) { kept = true } ∷ [])))) }
+{
+    let here = inner(alloc, when, some)?;
+    run.push_item(here, item.kept(alloc)?)
 }
 
 // A name that is active stays, and is kept for good where it is a macro's.
@@ -527,11 +555,9 @@ fn active_turn<'t>(
 {
     let alloc = level.alloc;
     let some = meanings.when_any(alloc)?;
-    let here = inner(alloc, &when, &some)?;
+    keep(alloc, run, &when, &some, item)?;
     let elsewhere = without(alloc, when, &some)?;
-    run.push_item(here, item.kept(alloc)?)?;
-    run.push_item(elsewhere, item.try_clone(alloc)?)?;
-    Ok(())
+    run.push_item(elsewhere, item.try_clone(alloc)?)
 }
 
 // Reads an item where no call is open, by the items behind it.
@@ -552,20 +578,16 @@ fn outside_turn<'t, O: Oracle>(
         return Ok(());
     }
     if !item.is_name() {
-        run.push_item(when, item.try_clone(alloc)?)?;
-        return Ok(());
+        return run.push_item(when, item.try_clone(alloc)?);
     }
     let meanings = meanings_of(alloc, &level.macros, item.token.text.as_slice())?;
     if meanings.is_nothing() {
-        run.push_item(when, item.try_clone(alloc)?)?;
-        return Ok(());
+        return run.push_item(when, item.try_clone(alloc)?);
     }
     if is_active(level.active, item) {
-        active_turn(level, run, when, item, &meanings)?;
-        return Ok(());
+        return active_turn(level, run, when, item, &meanings);
     }
-    name_turn(level, oracle, run, &when, item, meanings, rest)?;
-    Ok(())
+    name_turn(level, oracle, run, &when, item, meanings, rest)
 }
 
 // Reads an item, by the items behind it.
@@ -581,8 +603,7 @@ fn turn<'t, O: Oracle>(
     ensures read { OnOk result ((exact : Bool) (c : List Bool) (becomes : Option (List spec.Item)) → IsTrue (value (has c) (O.admits oracle.old)) → IsTrue (is_within c level.now) → (exact ≡ true → IsOwn entry.now.what) → ListBecomes exact (macros_in c level.now) (deeper_in c level.now) (active_in level.now) (run_at exact (has c) run.old) (if value (has c) (condition_of entry.now.when) then item_at (has c) entry.now.what ∷ items_at (has c) rest.now else items_at (has c) rest.now) becomes → ListBecomes exact (macros_in c level.now) (deeper_in c level.now) (active_in level.now) (run_at exact (has c) run.new) (items_at (has c) rest.now) becomes) }
 {
     let outside = inside_turn(level, oracle, run, entry)?;
-    outside_turn(level, oracle, run, outside, &entry.what, rest)?;
-    Ok(())
+    outside_turn(level, oracle, run, outside, &entry.what, rest)
 }
 
 /// What a list becomes, seen in each configuration that the oracle admits and that is looked at: what the recursion over lists
@@ -601,6 +622,5 @@ pub fn replaced_list<'t, O: Oracle>(
         let (_, rest) = items.split_at(i + 1);
         turn(level, oracle, &mut run, entry, rest)?;
     }
-    let f = run.finished(level.alloc)?;
-    Ok(f)
+    run.finished(level.alloc)
 }

@@ -1,6 +1,6 @@
 use Rattle.std.proofs.Common.{◌≡◌, ℕ, ◌+◌, ◌-◌, Bool, true, false, not, ◌&&◌, List, [], ◌∷◌, ◌++◌, map, drop, Option, Some, None, Bor, Vec, Global, refl, sym, ap, subst, ◌∙◌, arith}
 use Rattle.std.specs.Prelude.{if◌then◌else◌, is_some}
-use Rattle.std.proofs.lemmas.Result.{IfOk-weaker}
+use Rattle.std.proofs.lemmas.Result.{IfOk-weaker, on_ok_weaker}
 use Rattle.c_text.specs.declared.token.Token.{Token}
 use Rattle.c_text.specs.Token.{plain_token}
 use Rattle.c_text.specs.Macros as spec
@@ -100,14 +100,16 @@ arguments_replaced-returns-clause-replaced g t c = λ n admitted within.
 
 pub turn-returns-clause-read : goal.turn-returns-clause-read
 unfolding run_at
-turn-returns-clause-read g t c = λ exact n becomes admitted within own before.
+turn-returns-clause-read g t c =
+    on_ok_weaker c.outside_turn.result (λ h. λ exact n becomes admitted within own before.
     let level = c.args.level.now in
     let entry = c.args.entry.now in
     let old = c.args.run.now in
     step_reads exact (macros_in n level) (deeper_in n level) (active_in level) (value (has n) (condition_of old.refused)) (record { done = map (looked exact) (items_at (has n) old.done.items); open_calls = calls_at (has n) old.calls.items })
     (value (has n) (condition_of entry.when)) (value (has n) (condition_of c.in_ok-outside.outside)) (item_at (has n) entry.what) (plain_token entry.what.token.now) (items_at (has n) c.args.rest.now) becomes
     (run_at exact (has n) c.inside_turn.new.run) (run_at exact (has n) c.outside_turn.new.run)
-    (λ e. sym ((own e).token (has n))) (c.in_ok-outside.ensures.outside (has n)) (c.in_ok-outside.ensures.read exact n admitted within) (c.in_ok-outside_turn.ensures.read exact n (rw c.in_ok-outside.ensures.kept admitted) within) before
+    (λ e. sym ((own e).token (has n))) (c.in_ok-outside.ensures.outside (has n)) (c.in_ok-outside.ensures.read exact n admitted within) (h exact n (rw c.in_ok-outside.ensures.kept admitted) within) before)
+    c.outside_turn.ensures.read
 
 pub replaced_list-loop-i-init : goal.replaced_list-loop-i-init
 replaced_list-loop-i-init g t c = record {
@@ -134,12 +136,14 @@ replaced_list-loop-i-preserved g t c = record {
 }
 
 pub replaced_list-returns-clause-given : goal.replaced_list-returns-clause-given
-replaced_list-returns-clause-given g t c = λ exact n admitted within own.
+replaced_list-returns-clause-given g t c =
+    IfOk-weaker c.finished.result _ _ (λ f h. λ exact n admitted within own.
     let level = c.args.level.now in
     let items = c.args.items.now in
-    c.in_ok-f.ensures exact (has n)
+    h exact (has n)
     ∙ reads_done exact (macros_in n level) (deeper_in n level) (active_in level) (has n) items c.loop-i.i (run_at exact (has n) c.loop-i.run) (look exact (spec.outside (macros_in n level) (deeper_in n level) (active_in level) (items_at (has n) items)))
-    (omega arith) (c.loop-i.invariant.reads exact n admitted within own)
+    (omega arith) (c.loop-i.invariant.reads exact n admitted within own))
+    c.finished.ensures
 
 -- ---- calls
 
@@ -213,7 +217,8 @@ present_turn-returns-then-not-possible-clause-read g t c = λ exact n admitted w
     unseen (run_at exact (has n) c.args.run.now) (value (has n) (condition_of c.args.call.when)) _ (c.in_ok-possible.ensures.no c.if-not-possible.true n admitted within)
 
 pub present_turn-returns-then-is_closed_by-clause-read : goal.present_turn-returns-then-is_closed_by-clause-read
-present_turn-returns-then-is_closed_by-clause-read g t c = λ exact n admitted within.
+present_turn-returns-then-is_closed_by-clause-read g t c =
+    on_ok_weaker c.take.result (λ h. λ exact n admitted within.
     let level = c.args.level.now in
     let item = item_at (has n) c.args.item.now in
     let held = held_at (has n) c.args.call in
@@ -221,48 +226,40 @@ present_turn-returns-then-is_closed_by-clause-read g t c = λ exact n admitted w
     ends_piece exact (macros_in n level) (deeper_in n level) (active_in level) (run_at exact (has n) c.args.run.now) (run_at exact (has n) c.take.new.self) (value (has n) (condition_of c.args.call.when)) held item own (given_at false (has n) c.in_ok-given.given)
     (progress_ends held.call item (sym (c.is_closed_by.ensures (has n)) ∙ c.if-is_closed_by.true))
     (λ opened. c.in_ok-given.ensures.given n item.token (rw c.in_ok-possible.ensures.kept admitted) within opened)
-    (c.in_ok-take.ensures exact (has n) ∙ ap (λ (d : Condition). also (run_at exact (has n) c.args.run.now) (under_piece (value (has n) d) (given_piece exact (brought_again held.first own (given_at false (has n) c.in_ok-given.given))))) c.in_ok-when.ensures)
+    (h exact (has n) ∙ ap (λ (d : Condition). also (run_at exact (has n) c.args.run.now) (under_piece (value (has n) d) (given_piece exact (brought_again held.first own (given_at false (has n) c.in_ok-given.given))))) c.in_ok-when.ensures))
+    c.take.ensures
 
-pub present_turn-read-requires : goal.present_turn-read-requires
-present_turn-read-requires g t c = λ on.
-    ap (λ (i : spec.Item). closes (call_at on c.args.call) i.token) (c.in_ok-try_clone.ensures.item on) ∙ sym (c.is_closed_by.ensures on) ∙ c.if-is_closed_by.false
+pub present_turn-go_on-requires : goal.present_turn-go_on-requires
+present_turn-go_on-requires g t c = λ on. sym (c.is_closed_by.ensures on) ∙ c.if-is_closed_by.false
 
 pub present_turn-returns-clause-read : goal.present_turn-returns-clause-read
-present_turn-returns-clause-read g t c = λ exact n admitted within.
+present_turn-returns-clause-read g t c =
+    on_ok_weaker c.go_on.result (λ h. λ exact n admitted within.
     let level = c.args.level.now in
-    let item = item_at (has n) c.args.item.now in
-    let held = held_at (has n) c.args.call in
-    goes_piece exact (macros_in n level) (deeper_in n level) (active_in level) (run_at exact (has n) c.args.run.now) (run_at exact (has n) c.push_call.new.self) (value (has n) (condition_of c.args.call.when)) (value (has n) (condition_of c.read.new.self.when)) held
-    (call_at (has n) c.read.new.self) (plain_token c.read.new.self.name.token.now) item (plain_token c.args.item.now.token.now)
-    (c.in_ok-read.ensures.call (has n) ∙ ap (λ (i : spec.Item). spec.progress held.call i) (c.in_ok-try_clone.ensures.item (has n)))
-    (ap (λ (i : Item). plain_token i.token.now) c.in_ok-read.ensures.name)
-    (ap (value (has n)) c.in_ok-read.ensures.when) (c.in_ok-push_call.ensures exact (has n))
+    h exact (has n) (macros_in n level) (deeper_in n level) (active_in level))
+    c.go_on.ensures
+
+pub call_turn-lengthen-requires : goal.call_turn-lengthen-requires
+call_turn-lengthen-requires g t c = λ on. c.is_split_by.ensures c.if-not-is_split_by.true on
 
 pub call_turn-returns-then-not-is_split_by-clause-read : goal.call_turn-returns-then-not-is_split_by-clause-read
-call_turn-returns-then-not-is_split_by-clause-read g t c = λ exact n admitted within.
+call_turn-returns-then-not-is_split_by-clause-read g t c =
+    on_ok_weaker c.lengthen.result (λ h. λ exact n admitted within.
     let level = c.args.level.now in
-    let entry = c.args.entry.now in
-    let item = item_at (has n) entry.what in
-    let held = held_at (has n) c.args.call in
-    lengthened exact (macros_in n level) (deeper_in n level) (active_in level) (run_at exact (has n) c.args.run.now) (run_at exact (has n) c.push_call.new.self) (value (has n) (condition_of c.args.call.when)) (value (has n) (condition_of c.lengthen.new.self.when)) (value (has n) (condition_of entry.when)) held
-    (call_at (has n) c.lengthen.new.self) (plain_token c.lengthen.new.self.name.token.now) item (plain_token entry.what.token.now)
-    (c.is_split_by.ensures c.if-not-is_split_by.true (has n))
-    (c.in_ok-lengthen.ensures.call (has n)
-    ∙ ap (λ (d : Condition). if value (has n) d then spec.with_item held.call (item_at (has n) c.in_ok-try_clone-2.field-0) else held.call) c.in_ok-try_clone.ensures
-    ∙ ap (λ (i : spec.Item). if value (has n) (condition_of entry.when) then spec.with_item held.call i else held.call) (c.in_ok-try_clone-2.ensures.item (has n)))
-    (ap (λ (i : Item). plain_token i.token.now) c.in_ok-lengthen.ensures.name)
-    (ap (value (has n)) c.in_ok-lengthen.ensures.when) (c.in_ok-push_call.ensures exact (has n))
+    h exact (has n) (macros_in n level) (deeper_in n level) (active_in level))
+    c.lengthen.ensures
 
 pub call_turn-push_copy-requires : goal.call_turn-push_copy-requires
 call_turn-push_copy-requires g t c = λ n e.
     both_first (value (has n) (condition_of c.args.call.when)) (not (value (has n) (condition_of c.args.entry.now.when)))
-    (sym (c.in_ok-elsewhere.ensures (has n) ∙ ap (λ (d : Condition). value (has n) d && not (value (has n) (condition_of c.args.entry.now.when))) c.in_ok-try_clone-3.ensures) ∙ e)
+    (sym (c.in_ok-elsewhere.ensures (has n) ∙ ap (λ (d : Condition). value (has n) d && not (value (has n) (condition_of c.args.entry.now.when))) c.in_ok-try_clone.ensures) ∙ e)
 
 pub call_turn-narrowed-call-requires : goal.call_turn-narrowed-call-requires
 call_turn-narrowed-call-requires g t c = λ n e. both_first (value (has n) (condition_of c.args.call.when)) (value (has n) (condition_of c.args.entry.now.when)) (sym (c.in_ok-here.ensures (has n)) ∙ e)
 
 pub call_turn-returns-clause-read : goal.call_turn-returns-clause-read
-call_turn-returns-clause-read g t c = λ exact n admitted within.
+call_turn-returns-clause-read g t c =
+    on_ok_weaker c.present_turn.result (λ h. λ exact n admitted within.
     let level = c.args.level.now in
     let entry = c.args.entry.now in
     let item = item_at (has n) entry.what in
@@ -271,10 +268,11 @@ call_turn-returns-clause-read g t c = λ exact n admitted within.
     let another = held_at (has n) c.narrowed-call.result in
     parted exact (macros_in n level) (deeper_in n level) (active_in level) (run_at exact (has n) c.args.run.now) (run_at exact (has n) c.push_copy.new.run) (run_at exact (has n) c.present_turn.new.run) w (value (has n) (condition_of entry.when))
     (value (has n) (condition_of c.in_ok-elsewhere.elsewhere)) (value (has n) (condition_of c.narrowed-call.result.when)) held held another item (plain_token entry.what.token.now)
-    (c.in_ok-elsewhere.ensures (has n) ∙ ap (λ (d : Condition). value (has n) d && not (value (has n) (condition_of entry.when))) c.in_ok-try_clone-3.ensures)
+    (c.in_ok-elsewhere.ensures (has n) ∙ ap (λ (d : Condition). value (has n) d && not (value (has n) (condition_of entry.when))) c.in_ok-try_clone.ensures)
     (ap (value (has n)) c.narrowed-call.ensures.when ∙ c.in_ok-here.ensures (has n)) refl
     (ap (λ (k : spec.Call). record { call = k; first = another.first }) (c.narrowed-call.ensures.call (has n)) ∙ ap (λ (i : Item). record { call = held.call; first = plain_token i.token.now }) c.narrowed-call.ensures.name)
-    (c.in_ok-push_copy.ensures.read exact n admitted within) (c.in_ok-present_turn.ensures.read exact n (rw c.in_ok-push_copy.ensures.kept admitted) within)
+    (c.in_ok-push_copy.ensures.read exact n admitted within) (h exact n (rw c.in_ok-push_copy.ensures.kept admitted) within))
+    c.present_turn.ensures.read
 
 pub inside_turn-loop-call-init : goal.inside_turn-loop-call-init
 inside_turn-loop-call-init g t c = record {
@@ -311,7 +309,8 @@ object_turn-returns-then-not-possible-clause-read g t c = λ exact n body admitt
     unseen (run_at exact (has n) c.args.run.now) (value (has n) (condition_of c.args.when.now)) _ (c.in_ok-possible.ensures.no c.if-not-possible.true n admitted within)
 
 pub object_turn-returns-clause-read : goal.object_turn-returns-clause-read
-object_turn-returns-clause-read g t c = λ exact n body admitted within is.
+object_turn-returns-clause-read g t c =
+    on_ok_weaker c.take.result (λ h. λ exact n body admitted within is.
     let level = c.args.level.now in
     let item = item_at (has n) c.args.item.now in
     let own = plain_token c.args.item.now.token.now in
@@ -323,7 +322,8 @@ object_turn-returns-clause-read g t c = λ exact n body admitted within is.
     (item_text (has n) c.args.item.now)
     ∙ replacement_alike (macros_in n level) (deeper_in n level) (below_alike (macros_in n level) level.left) (active_in level) item.token item.token item.token item.token (items_at (has n) c.as_slice.result.now) (map spec.fresh body) refl
     (ap (λ (l : List (Guarded Item)). cores (items_at (has n) l)) c.as_slice.ensures.value ∙ c.in_ok-body.ensures (has n) (record { params = []; body = body }) (is opened) ∙ ap cores (fresh_substituted [] body)))
-    (c.in_ok-take.ensures exact (has n))
+    (h exact (has n)))
+    c.take.ensures
 
 pub name_turn-begin_call-requires : goal.name_turn-begin_call-requires
 name_turn-begin_call-requires g t c = λ n opened.
@@ -338,7 +338,8 @@ name_turn-begin_call-requires g t c = λ n opened.
     ∙ sym (c.in_ok-ways.ensures.call (has n)) ∙ opened)
 
 pub name_turn-returns-clause-read : goal.name_turn-returns-clause-read
-name_turn-returns-clause-read g t c = λ exact n admitted within.
+name_turn-returns-clause-read g t c =
+    on_ok_weaker c.stay_turn.result (λ h. λ exact n admitted within.
     let level = c.args.level.now in
     let on = has n in
     let item = item_at on c.args.item.now in
@@ -370,28 +371,32 @@ name_turn-returns-clause-read g t c = λ exact n admitted within.
     (c.in_ok-begin_call.ensures.read exact n (rw c.in_ok-object_turn.ensures.kept admitted) within
     ∙ ap (λ (b : Bool). also after_object (under_piece b (open_piece (record { call = spec.begun item.token (or_function (seen on (entries_of plain_function c.args.meanings.functions.items))).params (or_function (seen on (entries_of plain_function c.args.meanings.functions.items))).body; first = own } ∷ [])))) (c.in_ok-ways.ensures.call on)
     ∙ ap (λ (l : List PlainFunction). also after_object (under_piece (w && k) (open_piece (record { call = spec.begun item.token (or_function l).params (or_function l).body; first = own } ∷ [])))) means.functions)
-    (c.in_ok-stay_turn.ensures.read exact n (rw c.in_ok-begin_call.ensures.kept (rw c.in_ok-object_turn.ensures.kept admitted)) within
-    ∙ ap (λ (b : Bool). also after_call (under_piece b (items_piece exact (item ∷ [])))) (c.in_ok-ways.ensures.stays on))
+    (h exact n (rw c.in_ok-begin_call.ensures.kept (rw c.in_ok-object_turn.ensures.kept admitted)) within
+    ∙ ap (λ (b : Bool). also after_call (under_piece b (items_piece exact (item ∷ [])))) (c.in_ok-ways.ensures.stays on)))
+    c.stay_turn.ensures.read
 
 pub outside_turn-returns-then-is_never-clause-read : goal.outside_turn-returns-then-is_never-clause-read
 outside_turn-returns-then-is_never-clause-read g t c = λ exact n admitted within.
     unseen (run_at exact (has n) c.args.run.now) (value (has n) (condition_of c.args.when)) _ (c.is_never.ensures c.if-is_never.true (has n))
 
 pub outside_turn-returns-then-not-is_name-clause-read : goal.outside_turn-returns-then-not-is_name-clause-read
-outside_turn-returns-then-not-is_name-clause-read g t c = λ exact n admitted within.
+outside_turn-returns-then-not-is_name-clause-read g t c =
+    on_ok_weaker c.push_item.result (λ h. λ exact n admitted within.
     let level = c.args.level.now in
     let item = item_at (has n) c.args.item.now in
     let rest = items_at (has n) c.args.rest.now in
     let old = run_at exact (has n) c.args.run.now in
     let w = value (has n) (condition_of c.args.when) in
-    c.in_ok-push_item.ensures exact (has n)
+    h exact (has n)
     ∙ ap (λ (i : spec.Item). also old (under_piece w (items_piece exact (i ∷ [])))) (c.in_ok-try_clone.ensures.item (has n))
     ∙ ap (λ (p : Option Piece). also old (under_piece w p))
     (sym (treated_nothing exact (macros_in n level) (deeper_in n level) (active_in level) item (plain_token c.args.item.now.token.now) (spec.is_named_in (active_in level) item.token) (spec.opens rest) (spec.meaning_of (macros_in n level) item)
-    (unnamed_meaning (macros_in n level) item (sym (c.is_name.ensures (has n)) ∙ c.if-not-is_name.true))))
+    (unnamed_meaning (macros_in n level) item (sym (c.is_name.ensures (has n)) ∙ c.if-not-is_name.true)))))
+    c.push_item.ensures
 
 pub outside_turn-returns-then-is_nothing-clause-read : goal.outside_turn-returns-then-is_nothing-clause-read
-outside_turn-returns-then-is_nothing-clause-read g t c = λ exact n admitted within.
+outside_turn-returns-then-is_nothing-clause-read g t c =
+    on_ok_weaker c.push_item-then-is_nothing.result (λ h. λ exact n admitted within.
     let level = c.args.level.now in
     let item = item_at (has n) c.args.item.now in
     let rest = items_at (has n) c.args.rest.now in
@@ -402,14 +407,16 @@ outside_turn-returns-then-is_nothing-clause-read g t c = λ exact n admitted wit
     let nothing = c.is_nothing.ensures c.if-is_nothing.true (has n) in
     let none : macros_in n level c.as_slice.result.now ≡ None =
     no_meaning (macros_in n level c.as_slice.result.now) (sym means.feature ∙ nothing.feature) (sym means.objects ∙ nothing.objects) (sym means.functions ∙ nothing.functions) in
-    c.in_ok-push_item-2.ensures exact (has n)
+    h exact (has n)
     ∙ ap (λ (i : spec.Item). also old (under_piece w (items_piece exact (i ∷ [])))) (c.in_ok-try_clone-2.ensures.item (has n))
     ∙ ap (λ (p : Option Piece). also old (under_piece w p))
     (sym (treated_nothing exact (macros_in n level) (deeper_in n level) (active_in level) item (plain_token c.args.item.now.token.now) (spec.is_named_in (active_in level) item.token) (spec.opens rest) (spec.meaning_of (macros_in n level) item)
-    (named_meaning (macros_in n level) item c.as_slice.result.now (item_text (has n) c.args.item.now ∙ sym c.as_slice.ensures.value) (sym (c.is_name.ensures (has n)) ∙ c.if-not-is_name.false) ∙ none)))
+    (named_meaning (macros_in n level) item c.as_slice.result.now (item_text (has n) c.args.item.now ∙ sym c.as_slice.ensures.value) (sym (c.is_name.ensures (has n)) ∙ c.if-not-is_name.false) ∙ none))))
+    c.push_item-then-is_nothing.ensures
 
 pub outside_turn-returns-then-is_active-clause-read : goal.outside_turn-returns-then-is_active-clause-read
-outside_turn-returns-then-is_active-clause-read g t c = λ exact n admitted within.
+outside_turn-returns-then-is_active-clause-read g t c =
+    on_ok_weaker c.active_turn.result (λ h. λ exact n admitted within.
     let level = c.args.level.now in
     let item = item_at (has n) c.args.item.now in
     let rest = items_at (has n) c.args.rest.now in
@@ -420,14 +427,16 @@ outside_turn-returns-then-is_active-clause-read g t c = λ exact n admitted with
     let known : spec.meaning_of (macros_in n level) item ≡ meaning =
     named_meaning (macros_in n level) item c.as_slice.result.now (item_text (has n) c.args.item.now ∙ sym c.as_slice.ensures.value) (sym (c.is_name.ensures (has n)) ∙ c.if-not-is_name.false) in
     let is_active : spec.is_named_in (active_in level) item.token ≡ true = sym (c.is_active.ensures (has n)) ∙ c.if-is_active.true in
-    c.in_ok-active_turn.ensures exact (has n) meaning (c.in_ok-meanings.ensures n)
+    h exact (has n) meaning (c.in_ok-meanings.ensures n)
     ∙ ap (λ (p : Option Piece). also old (under_piece w p))
     (sym (ap (λ (b : Bool). outside_piece exact (macros_in n level) (deeper_in n level) (active_in level) item own (spec.treatment item b (spec.opens rest) (spec.meaning_of (macros_in n level) item))) is_active
     ∙ treated_active exact (macros_in n level) (deeper_in n level) (active_in level) item own (spec.opens rest) (spec.meaning_of (macros_in n level) item)
-    ∙ ap (λ (m : Option spec.Meaning). items_piece exact (kept_item (is_some m) item ∷ [])) known))
+    ∙ ap (λ (m : Option spec.Meaning). items_piece exact (kept_item (is_some m) item ∷ [])) known)))
+    c.active_turn.ensures
 
 pub outside_turn-returns-clause-read : goal.outside_turn-returns-clause-read
-outside_turn-returns-clause-read g t c = λ exact n admitted within.
+outside_turn-returns-clause-read g t c =
+    on_ok_weaker c.name_turn.result (λ h. λ exact n admitted within.
     let level = c.args.level.now in
     let item = item_at (has n) c.args.item.now in
     let rest = items_at (has n) c.args.rest.now in
@@ -438,6 +447,126 @@ outside_turn-returns-clause-read g t c = λ exact n admitted within.
     let known : spec.meaning_of (macros_in n level) item ≡ macros_in n level text =
     named_meaning (macros_in n level) item text (item_text (has n) c.args.item.now) (sym (c.is_name.ensures (has n)) ∙ c.if-not-is_name.false) in
     let is_active : spec.is_named_in (active_in level) item.token ≡ false = sym (c.is_active.ensures (has n)) ∙ c.if-is_active.false in
-    c.in_ok-name_turn.ensures.read exact n admitted within
+    h exact n admitted within
     ∙ ap (λ (m : Option spec.Meaning). also old (under_piece w (outside_piece exact (macros_in n level) (deeper_in n level) (active_in level) item own (spec.treatment item false (spec.opens rest) m)))) (sym known)
-    ∙ ap (λ (b : Bool). also old (under_piece w (outside_piece exact (macros_in n level) (deeper_in n level) (active_in level) item own (spec.treatment item b (spec.opens rest) (spec.meaning_of (macros_in n level) item))))) (sym is_active)
+    ∙ ap (λ (b : Bool). also old (under_piece w (outside_piece exact (macros_in n level) (deeper_in n level) (active_in level) item own (spec.treatment item b (spec.opens rest) (spec.meaning_of (macros_in n level) item))))) (sym is_active))
+    c.name_turn.ensures.read
+
+-- ---- what the oracle admits stays
+
+pub deeper-returns-clause-kept : goal.deeper-returns-clause-kept
+deeper-returns-clause-kept g t c = c.replaced_list.ensures.kept
+
+pub replacement-returns-in_err-f-clause-kept : goal.replacement-returns-in_err-f-clause-kept
+replacement-returns-in_err-f-clause-kept g t c = c.in_err-f.ensures.kept
+
+pub replacement-returns-clause-kept : goal.replacement-returns-clause-kept
+replacement-returns-clause-kept g t c = c.in_ok-f.ensures.kept
+
+pub arguments_replaced-returns-in_err-f-clause-kept : goal.arguments_replaced-returns-in_err-f-clause-kept
+arguments_replaced-returns-in_err-f-clause-kept g t c = c.in_err-f.ensures.kept ∙ c.loop-argument.invariant.kept
+
+pub arguments_replaced-returns-in_err-add-clause-kept : goal.arguments_replaced-returns-in_err-add-clause-kept
+arguments_replaced-returns-in_err-add-clause-kept g t c = c.in_ok-f.ensures.kept ∙ c.loop-argument.invariant.kept
+
+pub arguments_replaced-returns-clause-kept : goal.arguments_replaced-returns-clause-kept
+arguments_replaced-returns-clause-kept g t c = c.loop-argument.invariant.kept
+
+pub fitting_brought-returns-in_err-replaced-clause-kept : goal.fitting_brought-returns-in_err-replaced-clause-kept
+fitting_brought-returns-in_err-replaced-clause-kept g t c = c.in_err-replaced.ensures.kept
+
+pub fitting_brought-returns-in_err-body-clause-kept : goal.fitting_brought-returns-in_err-body-clause-kept
+fitting_brought-returns-in_err-body-clause-kept g t c = c.in_ok-replaced.ensures.kept
+
+pub fitting_brought-returns-in_err-f-clause-kept : goal.fitting_brought-returns-in_err-f-clause-kept
+fitting_brought-returns-in_err-f-clause-kept g t c = c.in_err-f.ensures.kept ∙ c.in_ok-replaced.ensures.kept
+
+pub fitting_brought-returns-clause-kept : goal.fitting_brought-returns-clause-kept
+fitting_brought-returns-clause-kept g t c = c.in_ok-f.ensures.kept ∙ c.in_ok-replaced.ensures.kept
+
+pub brought-returns-in_err-f-clause-kept : goal.brought-returns-in_err-f-clause-kept
+brought-returns-in_err-f-clause-kept g t c = c.in_err-f.ensures.kept
+
+pub brought-returns-clause-kept : goal.brought-returns-clause-kept
+brought-returns-clause-kept g t c = c.in_ok-f.ensures.kept
+
+pub called-returns-clause-kept : goal.called-returns-clause-kept
+called-returns-clause-kept g t c = c.brought.ensures.kept
+
+pub present_turn-returns-in_err-possible-clause-kept : goal.present_turn-returns-in_err-possible-clause-kept
+present_turn-returns-in_err-possible-clause-kept g t c = c.in_err-possible.ensures.kept
+
+pub present_turn-returns-then-not-possible-clause-kept : goal.present_turn-returns-then-not-possible-clause-kept
+present_turn-returns-then-not-possible-clause-kept g t c = c.in_ok-possible.ensures.kept
+
+pub present_turn-returns-in_err-when-clause-kept : goal.present_turn-returns-in_err-when-clause-kept
+present_turn-returns-in_err-when-clause-kept g t c = c.in_ok-possible.ensures.kept
+
+pub present_turn-returns-in_err-given-clause-kept : goal.present_turn-returns-in_err-given-clause-kept
+present_turn-returns-in_err-given-clause-kept g t c = c.in_err-given.ensures.kept ∙ c.in_ok-possible.ensures.kept
+
+pub present_turn-returns-then-is_closed_by-clause-kept : goal.present_turn-returns-then-is_closed_by-clause-kept
+present_turn-returns-then-is_closed_by-clause-kept g t c = c.in_ok-given.ensures.kept ∙ c.in_ok-possible.ensures.kept
+
+pub present_turn-returns-clause-kept : goal.present_turn-returns-clause-kept
+present_turn-returns-clause-kept g t c = c.in_ok-possible.ensures.kept
+
+pub call_turn-returns-in_err-push_copy-clause-kept : goal.call_turn-returns-in_err-push_copy-clause-kept
+call_turn-returns-in_err-push_copy-clause-kept g t c = c.in_err-push_copy.ensures.kept
+
+pub call_turn-returns-in_err-here-clause-kept : goal.call_turn-returns-in_err-here-clause-kept
+call_turn-returns-in_err-here-clause-kept g t c = c.in_ok-push_copy.ensures.kept
+
+pub call_turn-returns-clause-kept : goal.call_turn-returns-clause-kept
+call_turn-returns-clause-kept g t c = c.present_turn.ensures.kept ∙ c.in_ok-push_copy.ensures.kept
+
+pub inside_turn-returns-in_err-outside-2-clause-kept : goal.inside_turn-returns-in_err-outside-2-clause-kept
+inside_turn-returns-in_err-outside-2-clause-kept g t c = c.loop-call.invariant.kept
+
+pub inside_turn-returns-in_err-call_turn-clause-kept : goal.inside_turn-returns-in_err-call_turn-clause-kept
+inside_turn-returns-in_err-call_turn-clause-kept g t c = c.in_err-call_turn.ensures.kept ∙ c.loop-call.invariant.kept
+
+pub inside_turn-returns-clause-kept : goal.inside_turn-returns-clause-kept
+inside_turn-returns-clause-kept g t c = c.loop-call.invariant.kept
+
+pub object_turn-returns-in_err-possible-clause-kept : goal.object_turn-returns-in_err-possible-clause-kept
+object_turn-returns-in_err-possible-clause-kept g t c = c.in_err-possible.ensures.kept
+
+pub object_turn-returns-then-not-possible-clause-kept : goal.object_turn-returns-then-not-possible-clause-kept
+object_turn-returns-then-not-possible-clause-kept g t c = c.in_ok-possible.ensures.kept
+
+pub object_turn-returns-in_err-body-clause-kept : goal.object_turn-returns-in_err-body-clause-kept
+object_turn-returns-in_err-body-clause-kept g t c = c.in_ok-possible.ensures.kept
+
+pub object_turn-returns-in_err-within-clause-kept : goal.object_turn-returns-in_err-within-clause-kept
+object_turn-returns-in_err-within-clause-kept g t c = c.in_ok-possible.ensures.kept
+
+pub object_turn-returns-in_err-given-clause-kept : goal.object_turn-returns-in_err-given-clause-kept
+object_turn-returns-in_err-given-clause-kept g t c = c.in_err-given.ensures.kept ∙ c.in_ok-possible.ensures.kept
+
+pub object_turn-returns-clause-kept : goal.object_turn-returns-clause-kept
+object_turn-returns-clause-kept g t c = c.in_ok-given.ensures.kept ∙ c.in_ok-possible.ensures.kept
+
+pub name_turn-returns-in_err-object_turn-clause-kept : goal.name_turn-returns-in_err-object_turn-clause-kept
+name_turn-returns-in_err-object_turn-clause-kept g t c = c.in_err-object_turn.ensures.kept
+
+pub name_turn-returns-in_err-begin_call-clause-kept : goal.name_turn-returns-in_err-begin_call-clause-kept
+name_turn-returns-in_err-begin_call-clause-kept g t c = c.in_err-begin_call.ensures.kept ∙ c.in_ok-object_turn.ensures.kept
+
+pub name_turn-returns-clause-kept : goal.name_turn-returns-clause-kept
+name_turn-returns-clause-kept g t c = c.stay_turn.ensures.kept ∙ c.in_ok-begin_call.ensures.kept ∙ c.in_ok-object_turn.ensures.kept
+
+pub outside_turn-returns-clause-kept : goal.outside_turn-returns-clause-kept
+outside_turn-returns-clause-kept g t c = c.name_turn.ensures.kept
+
+pub turn-returns-in_err-outside-clause-kept : goal.turn-returns-in_err-outside-clause-kept
+turn-returns-in_err-outside-clause-kept g t c = c.in_err-outside.ensures.kept
+
+pub turn-returns-clause-kept : goal.turn-returns-clause-kept
+turn-returns-clause-kept g t c = c.outside_turn.ensures.kept ∙ c.in_ok-outside.ensures.kept
+
+pub replaced_list-returns-in_err-turn-clause-kept : goal.replaced_list-returns-in_err-turn-clause-kept
+replaced_list-returns-in_err-turn-clause-kept g t c = c.in_err-turn.ensures.kept ∙ c.loop-i.invariant.kept
+
+pub replaced_list-returns-clause-kept : goal.replaced_list-returns-clause-kept
+replaced_list-returns-clause-kept g t c = c.loop-i.invariant.kept

@@ -1,4 +1,5 @@
 use Rattle.std.proofs.Common.{[], ◌∷◌, ap, ◌∙◌}
+use Rattle.std.proofs.lemmas.Result.{on_ok_weaker}
 use Rattle.c_text.specs.declared.token.Token.{Token}
 use Rattle.c_text.specs.Token.{plain_token}
 use Rattle.c_text.specs.Macros as spec
@@ -21,14 +22,16 @@ returns-then-not-possible-clause-read g c = λ exact n admitted within.
     unseen (run_at exact (has n) c.args.run.now) (value (has n) (condition_of c.args.when)) (open_piece (record { call = spec.begun (item_at (has n) c.args.item.now).token f.params f.body; first = plain_token c.args.item.now.token.now } ∷ [])) (c.in_ok-possible.ensures.no c.if-not-possible.true n admitted within)
 
 pub returns-clause-read : goal.returns-clause-read
-returns-clause-read g c = λ exact n admitted within.
+returns-clause-read g c =
+    on_ok_weaker c.push_call.result (λ h. λ exact n admitted within.
     let old = run_at exact (has n) c.args.run.now in
     let call = c.begun-call.result in
     let w = value (has n) (condition_of c.args.when) in
     let f = or_function (seen (has n) (entries_of plain_function c.args.functions.items)) in
-    c.in_ok-push_call.ensures exact (has n)
+    h exact (has n)
     ∙ ap (λ (d : Condition). also old (under_piece (value (has n) d) (open_piece (held_at (has n) call ∷ [])))) c.begun-call.ensures.when
     ∙ ap (λ (i : Item). also old (under_piece w (open_piece (record { call = call_at (has n) call; first = plain_token i.token.now } ∷ [])))) c.begun-call.ensures.name
     ∙ ap (λ (t : Token). also old (under_piece w (open_piece (record { call = call_at (has n) call; first = plain_token t } ∷ [])))) c.in_ok-try_clone.ensures.token
     ∙ ap (λ (k : spec.Call). also old (under_piece w (open_piece (record { call = k; first = plain_token c.args.item.now.token.now } ∷ [])))) (c.begun-call.ensures.call (has n))
-    ∙ ap (λ (i : spec.Item). also old (under_piece w (open_piece (record { call = spec.begun i.token f.params f.body; first = plain_token c.args.item.now.token.now } ∷ [])))) (c.in_ok-try_clone.ensures.item (has n))
+    ∙ ap (λ (i : spec.Item). also old (under_piece w (open_piece (record { call = spec.begun i.token f.params f.body; first = plain_token c.args.item.now.token.now } ∷ [])))) (c.in_ok-try_clone.ensures.item (has n)))
+    c.push_call.ensures

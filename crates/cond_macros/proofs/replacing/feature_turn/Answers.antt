@@ -1,4 +1,5 @@
 use Rattle.std.proofs.Common.{[], ◌∷◌, ap, ◌∙◌}
+use Rattle.std.proofs.lemmas.Result.{on_ok_weaker}
 use Rattle.c_text.specs.Token.{plain_token}
 use Rattle.c_text.specs.Macros as spec
 use Rattle.cond_formula.specs.Conditions.{condition_of, value}
@@ -13,8 +14,10 @@ returns-then-is_never c = λ exact on.
     unseen (run_at exact on c.args.run.now) (value on (condition_of c.args.when)) (items_piece exact (spec.brought own own (spec.fresh (plain_token c.args.level.now.feature.now)) ∷ [])) (c.is_never.ensures c.if-is_never.true on)
 
 pub returns : goal.returns
-returns c = λ exact on.
+returns c =
+    on_ok_weaker c.push_item.result (λ h. λ exact on.
     let own = plain_token c.args.item.now.token.now in
-    c.in_ok-push_item.ensures exact on
+    h exact on
     ∙ ap (λ (i : spec.Item). also (run_at exact on c.args.run.now) (under_piece (value on (condition_of c.args.when)) (items_piece exact (i ∷ []))))
-    (c.in_ok-brought.ensures on ∙ ap (spec.brought own own) (c.fresh-fresh.ensures.item on))
+    (c.in_ok-brought.ensures on ∙ ap (spec.brought own own) (c.fresh-fresh.ensures.item on)))
+    c.push_item.ensures

@@ -1,4 +1,5 @@
 use Rattle.std.proofs.Common.{[], ◌∷◌, ap, ◌∙◌}
+use Rattle.std.proofs.lemmas.Result.{on_ok_weaker}
 use Rattle.c_text.specs.declared.token.Token.{Token}
 use Rattle.c_text.specs.Token.{plain_token}
 use Rattle.c_text.specs.Macros as spec
@@ -15,10 +16,12 @@ returns-then-not-possible-clause-read g c = λ exact n admitted within.
     unseen (run_at exact (has n) c.args.run.now) (value (has n) (condition_of c.args.when)) (open_piece (held_at (has n) c.args.call.now ∷ [])) (c.in_ok-possible.ensures.no c.if-not-possible.true n admitted within)
 
 pub returns-clause-read : goal.returns-clause-read
-returns-clause-read g c = λ exact n admitted within.
+returns-clause-read g c =
+    on_ok_weaker c.push_call.result (λ h. λ exact n admitted within.
     let old = run_at exact (has n) c.args.run.now in
     let copy = c.in_ok-copy.copy in
-    c.in_ok-push_call.ensures exact (has n)
+    h exact (has n)
     ∙ ap (λ (d : Condition). also old (under_piece (value (has n) d) (open_piece (held_at (has n) copy ∷ [])))) c.in_ok-copy.ensures.when
     ∙ ap (λ (t : Token). also old (under_piece (value (has n) (condition_of c.args.when)) (open_piece (record { call = call_at (has n) copy; first = plain_token t } ∷ [])))) c.in_ok-copy.ensures.name
-    ∙ ap (λ (k : spec.Call). also old (under_piece (value (has n) (condition_of c.args.when)) (open_piece (record { call = k; first = plain_token c.args.call.now.name.token.now } ∷ [])))) (c.in_ok-copy.ensures.call (has n))
+    ∙ ap (λ (k : spec.Call). also old (under_piece (value (has n) (condition_of c.args.when)) (open_piece (record { call = k; first = plain_token c.args.call.now.name.token.now } ∷ [])))) (c.in_ok-copy.ensures.call (has n)))
+    c.push_call.ensures
