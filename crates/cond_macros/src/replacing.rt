@@ -257,7 +257,8 @@ fn present_turn<'t, O: Oracle>(
 
 // The call stays open where the condition holds, which implies its own.
 fn push_copy<'t, O: Oracle>(
-    level: &Level<'t, '_>,
+    alloc: Global,
+    within: &Formula,
     oracle: &mut O,
     run: &mut Run<'t>,
     call: &Call<'t>,
@@ -265,13 +266,13 @@ fn push_copy<'t, O: Oracle>(
 ) -> Result<(), NoMemory>
     requires { (c : List Bool) → value (has c) (condition_of when) ≡ true → value (has c) (condition_of call.now.when) ≡ true }
     ensures kept { O.admits oracle.new ≡ O.admits oracle.old }
-    ensures read { OnOk result ((exact : Bool) (c : List Bool) → IsTrue (value (has c) (O.admits oracle.old)) → IsTrue (is_within c level.now) → run_at exact (has c) run.new ≡ also (run_at exact (has c) run.old) (under_piece (value (has c) (condition_of when)) (open_piece (held_at (has c) call.now ∷ [])))) }
+    ensures read { OnOk result ((exact : Bool) (c : List Bool) → IsTrue (value (has c) (O.admits oracle.old)) → IsTrue (value (has c) (condition_of within.now)) → run_at exact (has c) run.new ≡ also (run_at exact (has c) run.old) (under_piece (value (has c) (condition_of when)) (open_piece (held_at (has c) call.now ∷ [])))) }
 {
-    let possible = may(level.alloc, oracle, level.within, &when)?;
+    let possible = may(alloc, oracle, within, &when)?;
     if !possible {
         return Ok(());
     }
-    let copy = call.copied(level.alloc, when)?;
+    let copy = call.copied(alloc, when)?;
     run.push_call(copy)
 }
 
@@ -306,7 +307,7 @@ fn call_turn<'t, O: Oracle>(
         return lengthen(alloc, run, call, entry);
     }
     let elsewhere = without(alloc, call.when.try_clone(alloc)?, &entry.when)?;
-    push_copy(level, oracle, run, &call, elsewhere)?;
+    push_copy(alloc, level.within, oracle, run, &call, elsewhere)?;
     let here = inner(alloc, &call.when, &entry.when)?;
     let call = call.narrowed(here);
     present_turn(level, oracle, run, call, &entry.what)
@@ -335,18 +336,19 @@ fn inside_turn<'t, O: Oracle>(
 
 // A name that is a feature, where the condition holds.
 fn feature_turn<'t>(
-    level: &Level<'t, '_>,
+    alloc: Global,
+    feature: &'t Token,
     run: &mut Run<'t>,
     when: Formula,
     item: &Item<'t>,
 ) -> Result<(), NoMemory>
-    ensures { OnOk result ((exact : Bool) (on : ℕ → Bool) → run_at exact on run.new ≡ also (run_at exact on run.old) (under_piece (value on (condition_of when)) (items_piece exact (spec.brought (plain_token item.now.token.now) (plain_token item.now.token.now) (spec.fresh (plain_token level.now.feature.now)) ∷ [])))) }
+    ensures { OnOk result ((exact : Bool) (on : ℕ → Bool) → run_at exact on run.new ≡ also (run_at exact on run.old) (under_piece (value on (condition_of when)) (items_piece exact (spec.brought (plain_token item.now.token.now) (plain_token item.now.token.now) (spec.fresh (plain_token feature.now)) ∷ [])))) }
 {
     if is_never(&when) {
         return Ok(());
     }
-    let fresh = Item::fresh(level.alloc, level.feature);
-    let brought = fresh.brought(level.alloc, item.token, item.token)?;
+    let fresh = Item::fresh(alloc, feature);
+    let brought = fresh.brought(alloc, item.token, item.token)?;
     run.push_item(when, brought)
 }
 
@@ -376,7 +378,8 @@ fn object_turn<'t, O: Oracle>(
 
 // A name of function-like macros before a `(`, where the condition holds.
 fn begin_call<'t, O: Oracle>(
-    level: &Level<'t, '_>,
+    alloc: Global,
+    within: &Formula,
     oracle: &mut O,
     run: &mut Run<'t>,
     when: Formula,
@@ -385,10 +388,9 @@ fn begin_call<'t, O: Oracle>(
 ) -> Result<(), NoMemory>
     requires { (c : List Bool) → value (has c) (condition_of when) ≡ true → is_single (seen (has c) (entries_of plain_function functions.items)) ≡ true }
     ensures kept { O.admits oracle.new ≡ O.admits oracle.old }
-    ensures read { OnOk result ((exact : Bool) (c : List Bool) → IsTrue (value (has c) (O.admits oracle.old)) → IsTrue (is_within c level.now) → run_at exact (has c) run.new ≡ also (run_at exact (has c) run.old) (under_piece (value (has c) (condition_of when)) (open_piece (record { call = spec.begun (item_at (has c) item.now).token (or_function (seen (has c) (entries_of plain_function functions.entry.items))).params (or_function (seen (has c) (entries_of plain_function functions.entry.items))).body; first = plain_token item.now.token.now } ∷ [])))) }
+    ensures read { OnOk result ((exact : Bool) (c : List Bool) → IsTrue (value (has c) (O.admits oracle.old)) → IsTrue (value (has c) (condition_of within.now)) → run_at exact (has c) run.new ≡ also (run_at exact (has c) run.old) (under_piece (value (has c) (condition_of when)) (open_piece (record { call = spec.begun (item_at (has c) item.now).token (or_function (seen (has c) (entries_of plain_function functions.entry.items))).params (or_function (seen (has c) (entries_of plain_function functions.entry.items))).body; first = plain_token item.now.token.now } ∷ [])))) }
 {
-    let alloc = level.alloc;
-    let possible = may(alloc, oracle, level.within, &when)?;
+    let possible = may(alloc, oracle, within, &when)?;
     if !possible {
         return Ok(());
     }
@@ -398,20 +400,21 @@ fn begin_call<'t, O: Oracle>(
 
 // A name that stays, where the condition holds.
 fn stay_turn<'t, O: Oracle>(
-    level: &Level<'t, '_>,
+    alloc: Global,
+    within: &Formula,
     oracle: &mut O,
     run: &mut Run<'t>,
     when: Formula,
     item: &Item<'t>,
 ) -> Result<(), NoMemory>
     ensures kept { O.admits oracle.new ≡ O.admits oracle.old }
-    ensures read { OnOk result ((exact : Bool) (c : List Bool) → IsTrue (value (has c) (O.admits oracle.old)) → IsTrue (is_within c level.now) → run_at exact (has c) run.new ≡ also (run_at exact (has c) run.old) (under_piece (value (has c) (condition_of when)) (items_piece exact (item_at (has c) item.now ∷ [])))) }
+    ensures read { OnOk result ((exact : Bool) (c : List Bool) → IsTrue (value (has c) (O.admits oracle.old)) → IsTrue (value (has c) (condition_of within.now)) → run_at exact (has c) run.new ≡ also (run_at exact (has c) run.old) (under_piece (value (has c) (condition_of when)) (items_piece exact (item_at (has c) item.now ∷ [])))) }
 {
-    let possible = may(level.alloc, oracle, level.within, &when)?;
+    let possible = may(alloc, oracle, within, &when)?;
     if !possible {
         return Ok(());
     }
-    run.push_item(when, item.try_clone(level.alloc)?)
+    run.push_item(when, item.try_clone(alloc)?)
 }
 
 // Where a name of function-like macros begins a call.
@@ -523,10 +526,18 @@ fn name_turn<'t, O: Oracle>(
         meanings.functions.as_slice(),
         rest,
     )?;
-    feature_turn(level, run, ways.feature, item)?;
+    feature_turn(level.alloc, level.feature, run, ways.feature, item)?;
     object_turn(level, oracle, run, &ways.object, item, objects.as_slice())?;
-    begin_call(level, oracle, run, ways.call, item, meanings.functions)?;
-    stay_turn(level, oracle, run, ways.stays, item)
+    begin_call(
+        level.alloc,
+        level.within,
+        oracle,
+        run,
+        ways.call,
+        item,
+        meanings.functions,
+    )?;
+    stay_turn(level.alloc, level.within, oracle, run, ways.stays, item)
 }
 
 // A name is kept for good, where both conditions hold.
@@ -545,7 +556,7 @@ fn keep<'t>(
 
 // A name that is active stays, and is kept for good where it is a macro's.
 fn active_turn<'t>(
-    level: &Level<'t, '_>,
+    alloc: Global,
     run: &mut Run<'t>,
     when: Formula,
     item: &Item<'t>,
@@ -553,7 +564,6 @@ fn active_turn<'t>(
 ) -> Result<(), NoMemory>
     ensures { OnOk result ((exact : Bool) (on : ℕ → Bool) (meaning : Option spec.Meaning) → Means on meaning meanings.now → run_at exact on run.new ≡ also (run_at exact on run.old) (under_piece (value on (condition_of when)) (items_piece exact (kept_item (is_some meaning) (item_at on item.now) ∷ [])))) }
 {
-    let alloc = level.alloc;
     let some = meanings.when_any(alloc)?;
     keep(alloc, run, &when, &some, item)?;
     let elsewhere = without(alloc, when, &some)?;
@@ -585,7 +595,7 @@ fn outside_turn<'t, O: Oracle>(
         return run.push_item(when, item.try_clone(alloc)?);
     }
     if is_active(level.active, item) {
-        return active_turn(level, run, when, item, &meanings);
+        return active_turn(alloc, run, when, item, &meanings);
     }
     name_turn(level, oracle, run, &when, item, meanings, rest)
 }

@@ -11,7 +11,7 @@ use Rattle.cond_macros.proofs.replacing.feature_turn.Goals as goal
 pub returns-then-is_never : goal.returns-then-is_never
 returns-then-is_never c = λ exact on.
     let own = plain_token c.args.item.now.token.now in
-    unseen (run_at exact on c.args.run.now) (value on (condition_of c.args.when)) (items_piece exact (spec.brought own own (spec.fresh (plain_token c.args.level.now.feature.now)) ∷ [])) (c.is_never.ensures c.if-is_never.true on)
+    unseen (run_at exact on c.args.run.now) (value on (condition_of c.args.when)) (items_piece exact (spec.brought own own (spec.fresh (plain_token c.args.feature.now)) ∷ [])) (c.is_never.ensures c.if-is_never.true on)
 
 pub returns : goal.returns
 returns c =
