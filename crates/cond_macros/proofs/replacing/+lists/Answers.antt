@@ -1,5 +1,5 @@
 use Rattle.std.proofs.Common.{◌≡◌, ℕ, ◌+◌, ◌-◌, Bool, true, false, not, ◌&&◌, List, [], ◌∷◌, ◌++◌, map, drop, Option, Some, None, Bor, Vec, Global, refl, sym, ap, subst, ◌∙◌, arith}
-use Rattle.std.specs.Prelude.{if◌then◌else◌, is_some}
+use Rattle.std.specs.Prelude.{is_some}
 use Rattle.std.proofs.lemmas.Result.{IfOk-weaker, on_ok_weaker}
 use Rattle.c_text.specs.declared.token.Token.{Token}
 use Rattle.c_text.specs.Token.{plain_token}
@@ -19,7 +19,7 @@ use Rattle.cond_macros.specs.Below.{cores_of, all_cores_of, unless_any, behind_l
 use Rattle.cond_runs.specs.Looked.{looked, unless}
 use Rattle.cond_runs.specs.Functions.{is_single, or_function, some_seen, without_params, kept_item}
 use Rattle.cond_runs.specs.CondArguments.{lists_at}
-use Rattle.cond_runs.specs.CondCalls.{call_at, closes, held_at, calls_at}
+use Rattle.cond_runs.specs.CondCalls.{call_at, held_at, calls_at}
 use Rattle.cond_runs.specs.CondFinished.{given_at}
 use Rattle.cond_runs.specs.CondRuns.{run_at}
 use Rattle.cond_macros.specs.CondLevels.{macros_in, active_in, deeper_in, is_within, replaced_at}
@@ -30,7 +30,7 @@ use Rattle.cond_macros.proofs.CallLemmas.{below_none, below_is, below_alike, lef
 use Rattle.cond_runs.proofs.ArgumentLemmas.{fit_alone, unfit_alone, unfit_if_none, single_is}
 use Rattle.cond_runs.proofs.OpenLemmas.{calls_pushed}
 use Rattle.cond_macros.proofs.ArgumentLemmas.{replaced_step, replaced_end, replaced_init}
-use Rattle.cond_macros.proofs.TurnLemmas.{and_true, both_first, unseen, given_turn, ends_piece, goes_piece, progress_ends, lengthened, parted, turned_more, open_more}
+use Rattle.cond_macros.proofs.TurnLemmas.{and_true, both_first, unseen, given_turn, ends_piece, progress_ends, parted, turned_more, open_more}
 use Rattle.cond_macros.proofs.PieceLemmas.{step_reads, begin_reads, also-nothing}
 use Rattle.cond_macros.proofs.NameLemmas.{some_body, bodies_seen, named, treated_active, treated_nothing, single_if, one_object, no_meaning, named_meaning, unnamed_meaning, fresh_substituted}
 use Rattle.cond_macros.proofs.CondRunLemmas.{reads_next, reads_moved, reads_done, own_at, feature_is_built_in}
