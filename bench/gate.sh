@@ -1,17 +1,20 @@
 #!/usr/bin/env bash
 # Runs the whole gate from nothing on a clone of what is committed, and prints what it costs: by
 # crate the processor seconds of its proof, of the second proof that its must-fail edits begin with,
-# of the edits and of its tests, and the sums for 1,000 lines of src. Ends with 1 where the gate is
-# not green or a bar is missed. Takes as long as the gate; nothing else should run meanwhile. What is
-# shown by crate is sampled each second, and leaves out what copies of the prover took that lived for
-# less; the sum of all is exact.
+# of the edits and of its tests, and the sums for 1,000 lines of src; then, for the dearest libraries, the
+# base of a check: of one that proves no function. Ends with 1 where the gate is not green or a bar is
+# missed. Takes as long as the gate; nothing else should run meanwhile. What is shown by crate is
+# sampled each second, and leaves out what copies of the prover took that lived for less; the sum of all
+# is exact.
 #
 #   bench/gate.sh           the gate from nothing
 #   bench/gate.sh --kept    with what earlier runs on this machine have passed taken over
 set -u
 
 readonly MOST_MINUTES=80 MOST_PROCESSOR_MINUTES=300 MOST_PROOF=180
-readonly MOST_FOR_1000_LINES=5
+readonly MOST_FOR_1000_LINES=5 MOST_BASE=15
+# the bases of crates whose proofs take less than these processor seconds aren't measured
+readonly LEAST_PROOF=60
 
 home=$(dirname -- "$(dirname -- "$(readlink -f -- "$0")")")
 room=$(mktemp -d)
@@ -19,6 +22,7 @@ trap 'rm -rf "$room"' EXIT
 ticks=$(getconf CLK_TCK)
 
 git clone -q "$home" "$room/clone" || exit 1
+mkdir "$room/calls"
 words=(--anew)
 [ "${1-}" = --kept ] && words=()
 
@@ -45,6 +49,30 @@ is_begun_by_gate() {
   return 1
 }
 
+# Notes how a crate is proved.
+note_call() {
+  printf '%s\0' "${words[@]}" >"$room/calls/$1"
+}
+
+# Prints the processor seconds of a check of a crate that proves no function.
+base_of() {
+  local words word checked=() is_place=0
+  mapfile -d '' -t words <"$room/calls/$1"
+  for word in "${words[@]:2}"; do
+    case $is_place$word in
+      0-o) is_place=1 ;;
+      0--statements | 0--empty-contracts) ;;
+      0*) checked+=("$word") ;;
+      *) is_place=0 ;;
+    esac
+  done
+  (
+    cd "$room/clone/crates/$1" && "${words[0]}" check "${checked[@]}" --only '' >"$room/base" 2>&1
+    times >"$room/base_times"
+  )
+  awk 'NR == 2 { for (i = 1; i <= 2; i++) { split($i, t, /[ms]/); s += 60 * t[1] + t[2] } } END { printf "%.1f", s }' "$room/base_times"
+}
+
 # Adds up the processor time of each process of the prover, as often as it can be read.
 declare -A spent task
 sample() {
@@ -58,6 +86,7 @@ sample() {
       crate=$(printf '%s\n' "${words[@]}" | sed -n '/^--crate-name$/{n;p;q}')
       [ -n "$crate" ] || continue
       task[$pid]="$crate $(stage "${words[*]}" "$folder")"
+      [ "${task[$pid]}" = "$crate proof" ] && [ "${words[1]}" = build ] && note_call "$crate"
     fi
     rest=(${stat##*) })
     spent[$pid]=$((rest[11] + rest[12]))
@@ -100,6 +129,15 @@ awk -v ticks="$ticks" -v dearest="$MOST_PROOF" -v bar="$MOST_FOR_1000_LINES" '
     exit missed || all / 60 / all_lines * 1000 > bar
   }' "$room/spent"
 missed=$?
+
+# the dearest proofs first
+printf '\n| Crate | base, s |\n|---|---|\n'
+for crate in $(awk -v ticks="$ticks" -v least="$LEAST_PROOF" '$2 == "proof" { s[$1] += $3 / ticks } END { for (c in s) if (s[c] >= least) printf "%d %s\n", s[c], c }' "$room/spent" | sort -nr | cut -d ' ' -f 2); do
+  [ -e "$room/calls/$crate" ] || continue
+  base=$(base_of "$crate")
+  printf '| `%s` | %s |\n' "$crate" "$base"
+  awk -v base="$base" -v most="$MOST_BASE" 'BEGIN { exit base > most }' || missed=1
+done
 
 tail -n 1 "$room/log"
 printf 'The gate took %d min (at most %d) and %d processor minutes (at most %d) on %d processors.\n' \
