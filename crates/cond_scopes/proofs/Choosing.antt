@@ -9,7 +9,7 @@ use Rattle.choice_trees.specs.ChoiceTrees.{PlainItem, PlainBranches, no_branch, 
 use Rattle.choice_trees.specs.Leaves.{Leaf, item_leaves, branch_leaves}
 use Rattle.cond_bindings.specs.Names.{PlainNames}
 use Rattle.cond_scopes.specs.declared.parts.Progress.{Progress}
-use Rattle.cond_scopes.specs.Progress.{part_read, perhaps_read, numbers, seen_so_far, Reads}
+use Rattle.cond_scopes.specs.Progress.{part_read, perhaps_read, numbers, seen_so_far, MovesOn}
 
 module _ (on : ℕ → Bool) (around kind : Kind) (needed : Bool) (all : PlainBranches) (on_path : Bool) (old_names : PlainNames) (old : Progress) where
   -- the same is seen, whatever stands behind
@@ -45,7 +45,7 @@ module _ (on : ℕ → Bool) (around kind : Kind) (needed : Bool) (all : PlainBr
       abbrev pub ReadsHere : Bool → Type 0
       ReadsHere here =
           (behind : List Leaf)
-          → Reads on here (numbers (item_leaves on item behind)) (part_read around kind (item_at on item)) (numbers behind) names now new_names new
+          → MovesOn on here (numbers (item_leaves on item behind)) (part_read around kind (item_at on item)) (numbers behind) names now new_names new
 
       first_branch : (w : Bool) → value on when ≡ w → (if w then Some (item_at on item) else branch_at on rest) ≡ branch_at on (branch when item rest)
       first_branch w is = ap (λ b. if b then Some (item_at on item) else branch_at on rest) (sym is)
@@ -123,12 +123,12 @@ module _ (on : ℕ → Bool) (around kind : Kind) (needed : Bool) (all : PlainBr
         (left here after : Bool) (new_names : PlainNames) (new : Progress) → place < length list → b ≡ get_or list place b
         → here ≡ (left && value on (condition_of b.0)) → after ≡ (left && not (value on (condition_of b.0)))
         → ChoiceSoFar left (plain_branches (drop place list)) names now
-        → ((behind : List Leaf) → Reads on here (numbers (item_leaves on (plain_item b.1) behind)) (part_read around kind (item_at on (plain_item b.1))) (numbers behind) names now new_names new)
+        → ((behind : List Leaf) → MovesOn on here (numbers (item_leaves on (plain_item b.1) behind)) (part_read around kind (item_at on (plain_item b.1))) (numbers behind) names now new_names new)
         → ChoiceSoFar after (plain_branches (drop (place + 1) list)) new_names new
     one_read left here after new_names new within is here_is after_is so_far reads =
         subst (λ a. ChoiceSoFar a (plain_branches (drop (place + 1) list)) new_names new) (sym after_is)
         (here_read (condition_of b.0) (plain_item b.1) (plain_branches (drop (place + 1) list)) names now new_names new left (value on (condition_of b.0)) refl (opened left within is so_far)
-        (λ behind. subst (λ h. Reads on h (numbers (item_leaves on (plain_item b.1) behind)) (part_read around kind (item_at on (plain_item b.1))) (numbers behind) names now new_names new) here_is (reads behind)))
+        (λ behind. subst (λ h. MovesOn on h (numbers (item_leaves on (plain_item b.1) behind)) (part_read around kind (item_at on (plain_item b.1))) (numbers behind) names now new_names new) here_is (reads behind)))
 
     pub one_passed :
         (left : Bool) → place < length list → b ≡ get_or list place b → false ≡ (left && value on (condition_of b.0))
@@ -156,16 +156,16 @@ module _ (on : ℕ → Bool) (around kind : Kind) (needed : Bool) (all : PlainBr
 
     by_path :
         (p : Bool) → on_path ≡ p
-        → Reads on p (numbers (branch_leaves on needed all behind)) (perhaps_read around kind needed (branch_at on all)) (numbers behind) old_names old names now
+        → MovesOn on p (numbers (branch_leaves on needed all behind)) (perhaps_read around kind needed (branch_at on all)) (numbers behind) old_names old names now
     by_path true is = at_end left refl is
     by_path false is = so_far.off is behind
 
-    pub all_read : Reads on on_path (numbers (branch_leaves on needed all behind)) (perhaps_read around kind needed (branch_at on all)) (numbers behind) old_names old names now
+    pub all_read : MovesOn on on_path (numbers (branch_leaves on needed all behind)) (perhaps_read around kind needed (branch_at on all)) (numbers behind) old_names old names now
     all_read = by_path on_path refl
 
   pub list_read :
       (list : List (Formula × Item)) (place : ℕ) (left : Bool) (names : PlainNames) (now : Progress) → length list ≤ place
       → ChoiceSoFar left (plain_branches (drop place list)) names now → (behind : List Leaf)
-      → Reads on on_path (numbers (branch_leaves on needed all behind)) (perhaps_read around kind needed (branch_at on all)) (numbers behind) old_names old names now
+      → MovesOn on on_path (numbers (branch_leaves on needed all behind)) (perhaps_read around kind needed (branch_at on all)) (numbers behind) old_names old names now
   list_read list place left names now past so_far behind =
       all_read left names now (subst (λ rest. ChoiceSoFar left (plain_branches rest) names now) (drop_all place list past) so_far) behind

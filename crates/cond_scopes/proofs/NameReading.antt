@@ -11,7 +11,7 @@ use Rattle.scope_readings.specs.Walks.{declared_name, role, turns, scope_of}
 use Rattle.cond_bindings.specs.Names.{PlainNames, seen, Steps}
 use Rattle.cond_scopes.specs.declared.parts.Pending.{Pending}
 use Rattle.cond_scopes.specs.declared.parts.Progress.{Progress}
-use Rattle.cond_scopes.specs.Progress.{Hidden, SoFar, name_read, part_read, hidden_at, seen_so_far, Reads}
+use Rattle.cond_scopes.specs.Progress.{Hidden, SoFar, name_read, part_read, hidden_at, seen_so_far, MovesOn}
 
 module _ (on : ℕ → Bool) (behind : List ℕ) (old new : PlainNames) where
   -- a step of what is seen, with what has been read of the node beside it
@@ -20,7 +20,7 @@ module _ (on : ℕ → Bool) (behind : List ℕ) (old new : PlainNames) where
 
   pub step_read :
       (b : Bool) (before : List ℕ) (step : Scopes → Scopes) (p : Progress) → Steps on b before step behind old new
-      → Reads on b before (λ s. record s { scopes = step s.scopes }) behind old p new p
+      → MovesOn on b before (λ s. record s { scopes = step s.scopes }) behind old p new p
   step_read true before step p h = ap (beside p) h
   step_read false before step p h = ap (beside p) h
 
@@ -37,7 +37,7 @@ module _ (on : ℕ → Bool) (behind : List ℕ) (old new : PlainNames) where
       → q.turned ≡ p.turned → q.pending.items ≡ p.pending.items ++ item ∷ [] → item.name.now ≡ name → item.number ≡ number
       → all_true on (conditions_of item.path.items) ≡ b
       → Steps on b (number ∷ behind) (named (scope_of around) name) behind old new
-      → Reads on b (number ∷ behind) (name_read around declared_name name) behind old p new q
+      → MovesOn on b (number ∷ behind) (name_read around declared_name name) behind old p new q
   declared_read around name number true p q item same more is_name is_number is h =
       ap₂ (λ (s : Scopes) (hidden : List Hidden). record { scopes = s; turned = value on (condition_of q.turned); hidden = hidden }) h
       (ap (λ items. hidden_at on (reverse items)) more ∙ (one_hidden p.pending.items item true is ∙
@@ -61,9 +61,9 @@ pub either_read :
     (on : ℕ → Bool) (path turned : Bool) (number : ℕ) (behind : List ℕ) (step : Bool → SoFar → SoFar)
     (first_names mid_names last_names : PlainNames) (first mid last : Progress)
     → value on (condition_of first.turned) ≡ turned
-    → ((coming : List ℕ) → Reads on (path && not turned) (number ∷ coming) (step false) coming first_names first mid_names mid)
-    → Reads on (path && turned) (number ∷ behind) (step true) behind mid_names mid last_names last
-    → Reads on path (number ∷ behind) (λ p. step p.turned p) behind first_names first last_names last
+    → ((coming : List ℕ) → MovesOn on (path && not turned) (number ∷ coming) (step false) coming first_names first mid_names mid)
+    → MovesOn on (path && turned) (number ∷ behind) (step true) behind mid_names mid last_names last
+    → MovesOn on path (number ∷ behind) (λ p. step p.turned p) behind first_names first last_names last
 either_read on true true number behind step first_names mid_names last_names first mid last is one other =
     other ∙ (ap (step true) (one (number ∷ behind)) ∙ ap (λ t. step t (seen_so_far on (number ∷ behind) first_names first)) (sym is))
 either_read on true false number behind step first_names mid_names last_names first mid last is one other =
@@ -73,7 +73,7 @@ either_read on false turned number behind step first_names mid_names last_names 
 -- a name among the tokens of a node, and another token
 module _ (on : ℕ → Bool) (around kind : Kind) (token : PlainToken) (b : Bool) (number : ℕ) (behind : List ℕ) (old new : PlainNames) (p q : Progress) where
   abbrev reads_as : (SoFar → SoFar) → Type 0
-  reads_as step = Reads on b (number ∷ behind) step behind old p new q
+  reads_as step = MovesOn on b (number ∷ behind) step behind old p new q
 
   pub name_token :
       (name : List ℕ) → name ≡ token.text → is_name token ≡ true → reads_as (λ s. name_read around (role kind s.turned) name s)
@@ -85,7 +85,7 @@ module _ (on : ℕ → Bool) (around kind : Kind) (token : PlainToken) (b : Bool
 module _ (on : ℕ → Bool) (around kind : Kind) (token : PlainToken) (number : ℕ) (behind : List ℕ) (names : PlainNames) (p q : Progress) where
   pub other_token :
       (b : Bool) → is_name token ≡ false → q.pending ≡ p.pending → value on (condition_of q.turned) ≡ (value on (condition_of p.turned) || (b && turns kind token))
-      → Reads on b (number ∷ behind) (part_read around kind (leaf token)) behind names p names q
+      → MovesOn on b (number ∷ behind) (part_read around kind (leaf token)) behind names p names q
   other_token true is same turned =
       ap₂ (λ (t : Bool) (pending : Vec Pending Global). record { scopes = seen on behind names; turned = t; hidden = hidden_at on (reverse pending.items) }) turned same ∙
       ap (λ t. if t then name_read around (role kind (value on (condition_of p.turned))) token.text (seen_so_far on (number ∷ behind) names p)

@@ -12,7 +12,7 @@ use Rattle.scope_readings.specs.Walks.{walk_parts, scope_of}
 use Rattle.cond_bindings.specs.Names.{PlainNames, seen, Steps}
 use Rattle.cond_scopes.specs.declared.parts.Pending.{Pending}
 use Rattle.cond_scopes.specs.declared.parts.Progress.{Progress}
-use Rattle.cond_scopes.specs.Progress.{showing, parts_read, perhaps_read, numbers, hidden_at, seen_so_far, Reads}
+use Rattle.cond_scopes.specs.Progress.{showing, parts_read, perhaps_read, numbers, hidden_at, seen_so_far, MovesOn}
 use Rattle.cond_scopes.proofs.Walked.{ended, walked_by_parts, part_then}
 
 module _ (on : ℕ → Bool) (around kind : Kind) where
@@ -54,7 +54,7 @@ module _ (on : ℕ → Bool) (around kind : Kind) where
     module _ (old : PlainNames) (place : ℕ) (part : Choice Item) (rest : List (Choice Item)) (names : PlainNames) (p : Progress) (new_names : PlainNames) (q : Progress) where
       next_on :
           (path : Bool) → drop place parts ≡ part ∷ rest → drop (suc place) parts ≡ rest
-          → ((behind : List Leaf) (needed : Bool) → Reads on path (numbers (branch_leaves on needed (plain_branches part.branches.items) behind))
+          → ((behind : List Leaf) (needed : Bool) → MovesOn on path (numbers (branch_leaves on needed (plain_branches part.branches.items) behind))
           (perhaps_read around kind needed (branch_at on (plain_branches part.branches.items))) (numbers behind) names p new_names q)
           → SoFarOn path old place names p → SoFarOn path old (suc place) new_names q
       next_on true here there reads before = λ behind.
@@ -72,7 +72,7 @@ module _ (on : ℕ → Bool) (around kind : Kind) where
     pub next :
         (path : Bool) (old : PlainNames) (place : ℕ) (part : Choice Item) (names : PlainNames) (p : Progress) (new_names : PlainNames) (q : Progress)
         → place < length parts → part ≡ get_or parts place part
-        → ((behind : List Leaf) (needed : Bool) → Reads on path (numbers (branch_leaves on needed (plain_branches part.branches.items) behind))
+        → ((behind : List Leaf) (needed : Bool) → MovesOn on path (numbers (branch_leaves on needed (plain_branches part.branches.items) behind))
         (perhaps_read around kind needed (branch_at on (plain_branches part.branches.items))) (numbers behind) names p new_names q)
         → PartsSoFar path old place names p → PartsSoFar path old (place + 1) new_names q
     next path old place part names p new_names q within is reads before =

@@ -84,6 +84,6 @@ module _ (on : ℕ → Bool) where
   }
 
   -- on a path what is seen becomes what a step makes of it, and elsewhere it stays
-  abbrev pub Reads : Bool → List ℕ → (SoFar → SoFar) → List ℕ → PlainNames → Progress → PlainNames → Progress → Type 0
-  Reads true before step behind names progress new_names new = seen_so_far behind new_names new ≡ step (seen_so_far before names progress)
-  Reads false before step behind names progress new_names new = seen_so_far behind new_names new ≡ seen_so_far behind names progress
+  abbrev pub MovesOn : Bool → List ℕ → (SoFar → SoFar) → List ℕ → PlainNames → Progress → PlainNames → Progress → Type 0
+  MovesOn true before step behind names progress new_names new = seen_so_far behind new_names new ≡ step (seen_so_far before names progress)
+  MovesOn false before step behind names progress new_names new = seen_so_far behind new_names new ≡ seen_so_far behind names progress

@@ -7,7 +7,7 @@ ghost use Rattle.scope_readings.specs.Walks as walks;
 ghost use Rattle.cond_bindings.specs.Names.{TellsUndeclared};
 ghost use Rattle.cond_bindings.specs.PlainNames.{plain_names};
 ghost use Rattle.cond_scopes.specs.Roles.{plain_role};
-ghost use Rattle.cond_scopes.specs.Progress.{name_read, Reads};
+ghost use Rattle.cond_scopes.specs.Progress.{name_read, MovesOn};
 
 use crate::parts::{Around, Pending, Progress};
 use crate::paths::chosen;
@@ -33,7 +33,7 @@ fn read_declared<'a>(
     progress: &mut Progress<'a>,
 ) -> Result<(), NoMemory>
     ensures reads { OnOk result ((on : ℕ → Bool) (behind : List ℕ)
-        → Reads on (all_true on (conditions_of path.now)) (name.entry.number ∷ behind) (name_read around.declaration walks.declared_name name.entry.text.now) behind (plain_names names.old) progress.old (plain_names names.new) progress.new) }
+        → MovesOn on (all_true on (conditions_of path.now)) (name.entry.number ∷ behind) (name_read around.declaration walks.declared_name name.entry.text.now) behind (plain_names names.old) progress.old (plain_names names.new) progress.new) }
     ensures blocks { OnOk result ((plain_names names.new).blocks ≡ (plain_names names.old).blocks) }
     ensures tells { OnOk result ((on : ℕ → Bool) → TellsUndeclared on (plain_names names.old) → TellsUndeclared on (plain_names names.new)) }
 {
@@ -63,7 +63,7 @@ fn read_as<'a, O: Oracle>(
 ) -> Result<(), NoMemory>
     ensures kept { O.admits oracle.new ≡ O.admits oracle.old }
     ensures reads { OnOk result ((c : List Bool) (behind : List ℕ) → IsTrue (value (has c) (O.admits oracle.old))
-        → Reads (has c) (all_true (has c) (conditions_of path.now)) (name.entry.number ∷ behind) (name_read around.declaration (plain_role role) name.entry.text.now) behind (plain_names names.old) progress.old (plain_names names.new) progress.new) }
+        → MovesOn (has c) (all_true (has c) (conditions_of path.now)) (name.entry.number ∷ behind) (name_read around.declaration (plain_role role) name.entry.text.now) behind (plain_names names.old) progress.old (plain_names names.new) progress.new) }
     ensures blocks { OnOk result ((plain_names names.new).blocks ≡ (plain_names names.old).blocks) }
     ensures tells { OnOk result ((c : List Bool) → IsTrue (value (has c) (O.admits oracle.old)) → TellsUndeclared (has c) (plain_names names.old) → TellsUndeclared (has c) (plain_names names.new)) }
 {
@@ -97,7 +97,7 @@ fn read_where<'a, O: Oracle>(
 ) -> Result<(), NoMemory>
     ensures kept { O.admits oracle.new ≡ O.admits oracle.old }
     ensures reads { OnOk result ((c : List Bool) (behind : List ℕ) → IsTrue (value (has c) (O.admits oracle.old))
-        → Reads (has c) (all_true (has c) (conditions_of path.now) && value (has c) (condition_of when.now)) (name.entry.number ∷ behind)
+        → MovesOn (has c) (all_true (has c) (conditions_of path.now) && value (has c) (condition_of when.now)) (name.entry.number ∷ behind)
         (name_read around.declaration (walks.role around.kind turned) name.entry.text.now) behind (plain_names names.old) progress.old (plain_names names.new) progress.new) }
     ensures blocks { OnOk result ((plain_names names.new).blocks ≡ (plain_names names.old).blocks) }
     ensures tells { OnOk result ((c : List Bool) → IsTrue (value (has c) (O.admits oracle.old)) → TellsUndeclared (has c) (plain_names names.old) → TellsUndeclared (has c) (plain_names names.new)) }
@@ -121,7 +121,7 @@ pub(crate) fn read_name<'a, O: Oracle>(
 ) -> Result<(), NoMemory>
     ensures kept { O.admits oracle.new ≡ O.admits oracle.old }
     ensures reads { OnOk result ((c : List Bool) (behind : List ℕ) → IsTrue (value (has c) (O.admits oracle.old))
-        → Reads (has c) (all_true (has c) (conditions_of path.now)) (name.entry.number ∷ behind) (λ p. name_read around.declaration (walks.role around.kind p.turned) name.entry.text.now p) behind (plain_names names.old) progress.old (plain_names names.new) progress.new) }
+        → MovesOn (has c) (all_true (has c) (conditions_of path.now)) (name.entry.number ∷ behind) (λ p. name_read around.declaration (walks.role around.kind p.turned) name.entry.text.now p) behind (plain_names names.old) progress.old (plain_names names.new) progress.new) }
     ensures blocks { OnOk result ((plain_names names.new).blocks ≡ (plain_names names.old).blocks) }
     ensures tells { OnOk result ((c : List Bool) → IsTrue (value (has c) (O.admits oracle.old)) → TellsUndeclared (has c) (plain_names names.old) → TellsUndeclared (has c) (plain_names names.new)) }
 {

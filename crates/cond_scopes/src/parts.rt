@@ -11,7 +11,7 @@ ghost use Rattle.scope_readings.specs.Walks.{walk_node, walk_parts};
 ghost use Rattle.cond_bindings.specs.Names.{seen, Steps, Grows, TellsUndeclared};
 ghost use Rattle.cond_bindings.specs.PlainNames.{plain_names};
 ghost use Rattle.cond_bindings.specs.Scopes.{plain_scope};
-ghost use Rattle.cond_scopes.specs.Progress.{Hidden, showing, part_read, perhaps_read, numbers, hidden_at, Reads};
+ghost use Rattle.cond_scopes.specs.Progress.{Hidden, showing, part_read, perhaps_read, numbers, hidden_at, MovesOn};
 
 use crate::names_read::{Name, read_name};
 use crate::paths::chosen;
@@ -90,7 +90,7 @@ fn read_token<'a, O: Oracle>(
 ) -> Result<(), NoMemory>
     ensures kept { O.admits oracle.new ≡ O.admits oracle.old }
     ensures reads { OnOk result ((c : List Bool) (behind : List Leaf) → IsTrue (value (has c) (O.admits oracle.old))
-        → Reads (has c) (all_true (has c) (conditions_of path.now)) (number ∷ numbers behind) (part_read around.declaration around.kind (leaf (plain_token token.now))) (numbers behind) (plain_names names.old) progress.old (plain_names names.new) progress.new) }
+        → MovesOn (has c) (all_true (has c) (conditions_of path.now)) (number ∷ numbers behind) (part_read around.declaration around.kind (leaf (plain_token token.now))) (numbers behind) (plain_names names.old) progress.old (plain_names names.new) progress.new) }
     ensures grows { OnOk result (Grows (plain_names names.old) (plain_names names.new)) }
     ensures tells { OnOk result ((c : List Bool) → IsTrue (value (has c) (O.admits oracle.old)) → TellsUndeclared (has c) (plain_names names.old) → TellsUndeclared (has c) (plain_names names.new)) }
 {
@@ -121,7 +121,7 @@ fn read_item<'a, O: Oracle>(
 ) -> Result<(), NoMemory>
     ensures kept { O.admits oracle.new ≡ O.admits oracle.old }
     ensures reads { OnOk result ((c : List Bool) (behind : List Leaf) → IsTrue (value (has c) (O.admits oracle.old))
-        → Reads (has c) (all_true (has c) (conditions_of path.now)) (numbers (item_leaves (has c) (plain_item item.now) behind)) (part_read around.declaration around.kind (item_at (has c) (plain_item item.now))) (numbers behind) (plain_names names.old) progress.old (plain_names names.new) progress.new) }
+        → MovesOn (has c) (all_true (has c) (conditions_of path.now)) (numbers (item_leaves (has c) (plain_item item.now) behind)) (part_read around.declaration around.kind (item_at (has c) (plain_item item.now))) (numbers behind) (plain_names names.old) progress.old (plain_names names.new) progress.new) }
     ensures grows { OnOk result (Grows (plain_names names.old) (plain_names names.new)) }
     ensures tells { OnOk result ((c : List Bool) → IsTrue (value (has c) (O.admits oracle.old)) → TellsUndeclared (has c) (plain_names names.old) → TellsUndeclared (has c) (plain_names names.new)) }
 {
@@ -156,7 +156,7 @@ fn read_choice<'a, O: Oracle>(
 ) -> Result<(), NoMemory>
     ensures kept { O.admits oracle.new ≡ O.admits oracle.old }
     ensures reads { OnOk result ((c : List Bool) (behind : List Leaf) (needed : Bool) → IsTrue (value (has c) (O.admits oracle.old))
-        → Reads (has c) (all_true (has c) (conditions_of path.now)) (numbers (branch_leaves (has c) needed (plain_branches choice.now.branches.items) behind)) (perhaps_read around.declaration around.kind needed (branch_at (has c) (plain_branches choice.now.branches.items))) (numbers behind) (plain_names names.old) progress.old (plain_names names.new) progress.new) }
+        → MovesOn (has c) (all_true (has c) (conditions_of path.now)) (numbers (branch_leaves (has c) needed (plain_branches choice.now.branches.items) behind)) (perhaps_read around.declaration around.kind needed (branch_at (has c) (plain_branches choice.now.branches.items))) (numbers behind) (plain_names names.old) progress.old (plain_names names.new) progress.new) }
     ensures grows { OnOk result (Grows (plain_names names.old) (plain_names names.new)) }
     ensures tells { OnOk result ((c : List Bool) → IsTrue (value (has c) (O.admits oracle.old)) → TellsUndeclared (has c) (plain_names names.old) → TellsUndeclared (has c) (plain_names names.new)) }
 {

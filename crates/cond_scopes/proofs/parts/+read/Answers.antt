@@ -11,7 +11,7 @@ use Rattle.scope_readings.specs.Walks.{declaration_in, ends_scope, walk_node, wa
 use Rattle.cond_bindings.specs.Names.{seen, Steps}
 use Rattle.cond_bindings.specs.PlainNames.{plain_names}
 use Rattle.cond_bindings.specs.Scopes.{plain_scope}
-use Rattle.cond_scopes.specs.Progress.{showing, hidden_at, on_it, part_read, perhaps_read, numbers, Reads}
+use Rattle.cond_scopes.specs.Progress.{showing, hidden_at, on_it, part_read, perhaps_read, numbers, MovesOn}
 use Rattle.cond_scopes.proofs.Choosing.{one_read, one_passed, list_read}
 use Rattle.cond_scopes.proofs.Growing.{stays, grows_on}
 use Rattle.cond_scopes.proofs.Leaving.{leaves}
@@ -64,7 +64,7 @@ read_choice-loop-when-preserved g t c =
 
 pub read_choice-returns-clause-reads : goal.read_choice-returns-clause-reads
 read_choice-returns-clause-reads g t c = λ c' behind needed admitted.
-    subst (λ list. Reads (has c') (all_true (has c') (conditions_of c.args.path.now)) (numbers (branch_leaves (has c') needed (plain_branches list) behind))
+    subst (λ list. MovesOn (has c') (all_true (has c') (conditions_of c.args.path.now)) (numbers (branch_leaves (has c') needed (plain_branches list) behind))
     (perhaps_read c.args.around.declaration c.args.around.kind needed (branch_at (has c') (plain_branches list))) (numbers behind)
     (plain_names c.args.names.now) c.args.progress.now (plain_names c.loop-when.names) c.loop-when.progress) c.deref-when-items.ensures.value
     (list_read (has c') c.args.around.declaration c.args.around.kind needed (plain_branches c.deref-when-items.result.now) (all_true (has c') (conditions_of c.args.path.now))
@@ -81,7 +81,7 @@ read_item-read_node-requires g t c κs within =
 pub read_item-returns-in_ok-read_token-in-Leaf-clause-reads :
     goal.read_item-returns-in_ok-read_token-in-Leaf-clause-reads
 read_item-returns-in_ok-read_token-in-Leaf-clause-reads g t c = λ c' behind admitted.
-    subst (λ item. Reads (has c') (all_true (has c') (conditions_of c.args.path.now)) (numbers (item_leaves (has c') item behind))
+    subst (λ item. MovesOn (has c') (all_true (has c') (conditions_of c.args.path.now)) (numbers (item_leaves (has c') item behind))
     (part_read c.args.around.declaration c.args.around.kind (item_at (has c') item)) (numbers behind)
     (plain_names c.args.names.now) c.args.progress.now (plain_names c.read_token.new.names) c.read_token.new.progress)
     (sym (ap plain_item c.in-Leaf.is ∙ plain_item-Leaf c.in-Leaf.number c.in-Leaf.token))
@@ -90,7 +90,7 @@ read_item-returns-in_ok-read_token-in-Leaf-clause-reads g t c = λ c' behind adm
 pub read_item-returns-in_ok-read_node-in-Node-clause-reads :
     goal.read_item-returns-in_ok-read_node-in-Node-clause-reads
 read_item-returns-in_ok-read_node-in-Node-clause-reads g t c = λ c' behind admitted.
-    subst (λ item. Reads (has c') (all_true (has c') (conditions_of c.args.path.now)) (numbers (item_leaves (has c') item behind))
+    subst (λ item. MovesOn (has c') (all_true (has c') (conditions_of c.args.path.now)) (numbers (item_leaves (has c') item behind))
     (part_read c.args.around.declaration c.args.around.kind (item_at (has c') item)) (numbers behind)
     (plain_names c.args.names.now) c.args.progress.now (plain_names c.read_node.new.names) c.args.progress.now)
     (ap (λ list. inner c.in-Node.kind (plain_choices list)) c.deref.ensures.value ∙ sym (ap plain_item c.in-Node.is ∙ plain_item-Node c.in-Node.kind c.in-Node.parts))
