@@ -3,7 +3,7 @@ use Rattle.std.proofs.Common.{◌≡◌, ℕ, Bool, true, false, not, if◌then�
 use Rattle.cond_formula.specs.Conditions.{Condition, value}
 use Rattle.conditional.specs.declared.lists.CondList.{CondList}
 use Rattle.conditional.specs.declared.outcomes.Outcomes.{Outcomes}
-use Rattle.conditional.specs.Entries.{listed, alternatives, seen, under, first, some_holds, Places, PlacesUnder}
+use Rattle.conditional.specs.Entries.{Entry, listed, alternatives, seen, under, first, some_holds, Stands, Places, PlacesUnder}
 use Rattle.conditional.specs.Judgements.{Checked, fine, refused, Shows, Judges, JudgesUnder}
 use Rattle.conditional.proofs.ValueLaws.{none_carry, never, or_right}
 
@@ -206,3 +206,21 @@ judgement_chosen {T} {R} {P} {Q} form reason on when elsewhere chosen otherwise 
       weaken form reason on _ true p new (λ t. covered (value on when) (value on elsewhere) opposite) (shown p (λ t. sp) (never (value on elsewhere) (opposite ∙ ap not is)))
   by_test false off =
       weaken form reason on _ true q new (λ t. covered (value on when) (value on elsewhere) opposite) (shown q (never (value on when) off) (λ t. sq))
+
+-- ---- a value that stands where nothing else does
+
+none_holds : {P : Type 0} (on : ℕ → Bool) (xs : List (Entry P)) → seen on xs ≡ [] → some_holds on xs ≡ false
+none_holds on [] none = refl
+none_holds {P} on (x ∷ xs) none = by_test (value on x.when) none (none_holds on xs) where
+  by_test : (t : Bool) → (if t then x.what ∷ seen on xs else seen on xs) ≡ [] → (seen on xs ≡ [] → some_holds on xs ≡ false) → (t || some_holds on xs) ≡ false
+  by_test true none later = cc
+  by_test false none later = later none
+
+pub condensed_shows : {T R P Q : Type 0} (form : T → P) (reason : R → Q) (on : ℕ → Bool) (old new : Outcomes T R) → new.refused ≡ old.refused →
+    ((v : P) → some_holds on (listed reason old.refused) ≡ false → Stands on v (alternatives form old.fine) → Stands on v (alternatives form new.fine)) →
+    (v : Checked P Q) → Shows form reason on true v old → Shows form reason on true v new
+condensed_shows form reason on old new kept elsewhere (fine v) s =
+    let stands = elsewhere v (none_holds on (listed reason old.refused) s.shown.not_refused) (record { held = s.shown.held refl; carry = s.shown.carry }) in
+    record { shown = record { not_refused = rw kept s.shown.not_refused; held = λ t. stands.held; carry = stands.carry } }
+condensed_shows form reason on old new kept elsewhere (refused why) s =
+    record { shown = record { only = rw kept s.shown.only; held = rw kept s.shown.held } }

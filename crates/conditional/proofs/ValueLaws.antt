@@ -71,6 +71,26 @@ placed_joined form on v a x when old new i found is_v is_x either is =
           (λ s. carry_at form on w old i a found carry s) (λ s. sym is_v ∙ also s));
     }
 
+-- an alternative that stands where no other and no refusal does
+pub stands_elsewhere : {T P : Type 0} (form : T → P) (on : ℕ → Bool) (v : P) (a x : Guarded T) (others refusals : Bool) (old new : List (Guarded T)) (i : ℕ) →
+    slice_get old i ≡ Some a → x.what ≡ a.what → others ≡ some_holds on (entries_of form (remove old i)) → value on (condition_of x.when) ≡ not (others || refusals) → refusals ≡ false →
+    new ≡ remove old i ++ x ∷ [] → Stands on v (entries_of form old) → Stands on v (entries_of form new)
+stands_elsewhere form on v a x others refusals old new i found same is_others elsewhere unrefused is stands =
+    let pushed = placed_new form on x (remove old i) new is in
+    let held = held_without form on old i a found in
+    record {
+      held = rw (pushed.held, ← is_others, elsewhere, unrefused) (some_or_none others);
+      carry = pushed.carry v (carry_without form on v old i stands.carry)
+          (λ t. ap form same ∙ carry_at form on v old i a found stands.carry (last_one others (value on (condition_of a.when)) (rw (is_others, ← held) stands.held) (rw (← elsewhere) t)));
+    } where
+      some_or_none : (others : Bool) → IsTrue (others || not (others || false))
+      some_or_none true = refl
+      some_or_none false = refl
+
+      last_one : (others own : Bool) → IsTrue (others || own) → IsTrue (not (others || refusals)) → IsTrue own
+      last_one true own held t = cc
+      last_one false own held t = held
+
 -- ---- what is seen
 
 pub none_carry : {P : Type 0} (on : ℕ → Bool) (v : P) (xs : List (Entry P)) → some_holds on xs ≡ false → Carry on v xs

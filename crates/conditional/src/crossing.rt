@@ -187,6 +187,7 @@ pub fn crossed<A: Plain, B: Plain, C: Plain, R: Plain, F: Operator<A, B, C, R>, 
         &x.fine.alternatives,
         &y.fine.alternatives,
     )?;
+    let all = all.condensed(alloc)?;
     let Outcomes {
         fine: _,
         refused: first,

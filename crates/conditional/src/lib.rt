@@ -2,6 +2,7 @@
 //! in a configuration; a stage that looks at all configurations at once is a composition of these.
 #![tactic(auto)]
 
+mod condensing;
 mod crossing;
 mod entries;
 mod judging;

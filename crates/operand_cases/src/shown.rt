@@ -25,7 +25,7 @@ fn is_refused(all: &Operands, c: Config) -> bool {
     all.refused.entries.iter().any(|entry| entry.when.value(c))
 }
 
-fn seen(alloc: Global, all: &Operands, c: Config) -> Result<String, AllocError> {
+pub(crate) fn seen(alloc: Global, all: &Operands, c: Config) -> Result<String, AllocError> {
     let mut text = String::new(alloc);
     for entry in &all.fine.alternatives {
         if entry.when.value(c) {

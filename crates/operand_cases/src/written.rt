@@ -50,7 +50,7 @@ pub(crate) fn type_named(alloc: Global, text: &str) -> Result<CType, NoMemory> {
 
 /// The operand that is written so: `0`, or a type, which may have `object` before it, and `part` before a type whose struct is
 /// incomplete.
-fn operand(alloc: Global, text: &str) -> Result<OperandType, NoMemory> {
+pub(crate) fn operand(alloc: Global, text: &str) -> Result<OperandType, NoMemory> {
     let (category, text) = match text.strip_prefix("object ") {
         Some(rest) => (Category::Object(true), rest),
         None => (Category::Value, text),
