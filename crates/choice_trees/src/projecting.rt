@@ -13,8 +13,8 @@ use cond_formula::{Config, NoMemory};
 use std::alloc::Global;
 use text_edits::Span;
 
-/// Whether the part of a node with this place, from 0, is a statement that the grammar doesn't leave out.
-fn needs_statement(kind: Kind, place: usize) -> bool
+/// Whether the part of a node with this place, from 0, is a statement that the grammar doesn't leave out (ISO/IEC 9899:2011, 6.8.4, 6.8.5).
+pub fn needs_statement(kind: Kind, place: usize) -> bool
     ensures { result ≡ spec.needs_statement kind place }
 {
     match kind {
