@@ -6,3 +6,4 @@ pub mod Expressions
 pub mod Printed
 pub mod Cubes
 pub mod Readings
+pub mod Sizes

@@ -9,6 +9,7 @@ mod formulas;
 mod laws;
 mod oracles;
 mod print;
+mod sizes;
 
 pub use configuration::Config;
 pub use cubes::Cube;

@@ -11,28 +11,6 @@ use crate::plain::Plain;
 use cond_formula::{Formula, NoMemory};
 use std::alloc::Global;
 
-/// How many nodes a condition has.
-#[cycle(size)]
-fn size(f: &Formula) -> usize {
-    match f {
-        Formula::True => 1,
-        Formula::False => 1,
-        Formula::Var(_) => 1,
-        Formula::Not(inner) => size(inner).saturating_add(1),
-        Formula::And(parts) => size_of_all(parts),
-        Formula::Or(parts) => size_of_all(parts),
-    }
-}
-
-#[cycle(size)]
-fn size_of_all(parts: &[Formula]) -> usize {
-    let mut all: usize = 1;
-    for part in parts {
-        all = all.saturating_add(size(part));
-    }
-    all
-}
-
 /// The alternative whose condition is longer than those of all others together, if there are any three.
 fn overlong<T>(alternatives: &[Guarded<T>]) -> Option<usize>
     ensures { IfSome result (λ i. i < length alternatives.now) }
@@ -41,10 +19,10 @@ fn overlong<T>(alternatives: &[Guarded<T>]) -> Option<usize>
         return None;
     }
     let mut longest = 0;
-    let mut most: usize = 0;
-    let mut all: usize = 0;
+    let mut most: u64 = 0;
+    let mut all: u64 = 0;
     for (i, alternative) in alternatives.iter().enumerate() {
-        let size = size(&alternative.when);
+        let size = alternative.when.size();
         all = all.saturating_add(size);
         if size > most {
             most = size;

@@ -54,25 +54,6 @@ pub(crate) fn show_expressions<R: Print + AllocGlobal>(rt: &R) -> anyhow::Result
     Ok(())
 }
 
-/// The number of the formula's nodes.
-#[cycle(nodes)]
-fn nodes(f: &Formula) -> u64 {
-    match f {
-        Formula::Not(inner) => nodes(inner).saturating_add(1),
-        Formula::And(parts) | Formula::Or(parts) => nodes_of(parts),
-        _ => 1,
-    }
-}
-
-#[cycle(nodes)]
-fn nodes_of(parts: &[Formula]) -> u64 {
-    let mut count: u64 = 1;
-    for part in parts {
-        count = count.saturating_add(nodes(part));
-    }
-    count
-}
-
 /// `defined(F0) && defined(F1) && ..` for so many features, its tests replaced.
 fn chain(alloc: Global, features: u8) -> Result<Vec<CondToken>, NoMemory> {
     let mut tokens = Vec::new(alloc);
@@ -105,7 +86,7 @@ pub(crate) fn show_chain<R: Print + AllocGlobal>(rt: &R) -> anyhow::Result<()> {
     );
     let mut count: u64 = 0;
     for (when, _) in &values {
-        count = count.saturating_add(nodes(when));
+        count = count.saturating_add(when.size());
     }
     let is_small = count < 64 * 64 * 4;
     let all = shown(alloc, all)?;

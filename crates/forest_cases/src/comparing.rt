@@ -8,20 +8,6 @@ use cond_tokens::CondStream;
 use std::alloc::{AllocError, Global};
 use tree_comparisons::Comparison;
 
-pub fn nodes(f: &Formula) -> u64 {
-    match f {
-        Formula::Not(inner) => nodes(inner).saturating_add(1),
-        Formula::And(parts) | Formula::Or(parts) => {
-            let mut all: u64 = 1;
-            for part in parts {
-                all = all.saturating_add(nodes(part));
-            }
-            all
-        }
-        _ => 1,
-    }
-}
-
 #[derive(Clone, Copy, Debug)]
 pub struct Size {
     pub leaves: u64,
@@ -34,7 +20,7 @@ pub fn size_of(parts: &[Choice<Item>], size: Size) -> Size {
     for part in parts {
         for (when, item) in &part.branches {
             size.items = size.items.saturating_add(1);
-            size.formulas = size.formulas.saturating_add(nodes(when));
+            size.formulas = size.formulas.saturating_add(when.size());
             match item {
                 Item::Leaf(..) => size.leaves = size.leaves.saturating_add(1),
                 Item::Node(_, parts) => size = size_of(parts, size),

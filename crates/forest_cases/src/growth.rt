@@ -1,6 +1,6 @@
 //! How large forests become with the number of features.
 
-use crate::comparing::{Size, compared, nodes, read, size_of};
+use crate::comparing::{Size, compared, read, size_of};
 use cond_formula::{Config, NoMemory};
 use std::alloc::Global;
 
@@ -92,7 +92,7 @@ pub fn measure_family<R: Print>(
     let tokens = stream.tokens.len();
     let leaves = size.leaves;
     let items = size.items;
-    let formulas = size.formulas.saturating_add(nodes(&parsed.refused));
+    let formulas = size.formulas.saturating_add(parsed.refused.size());
     println!(rt; "{tokens} {leaves} {items} {formulas}")?;
     Ok(())
 }
