@@ -22,7 +22,7 @@ use Rattle.plain_scope.specs.declared.errors.ElabError.{ElabError}
 use Rattle.plain_scope.specs.JudgementLaws.{refused_first}
 use Rattle.plain_declarations.specs.Locals.{first_size, initialiser_by}
 use Rattle.plain_declarators.specs.Sequences.{bind_nothing, gives_of, refused_of}
-use Rattle.plain_units.specs.Leading.{Leads, leads_with, leads_to, leads_refused}
+use Rattle.plain_structs.specs.Leading.{Leads, leads_with, leads_to, leads_refused}
 use Rattle.plain_units.specs.Declarators.{declared_by_kind, declared_first, First, first_as, first_declarator}
 
 one_by_kind : (globals : ℕ) (unit : UnitState) (storage : Storage) (ty : PlainType) (kind : Kind) (parts : PlainTrees) (initialiser : Option PlainTree) (rest : PlainTrees) → declared_one globals unit storage ty (node kind parts) initialiser rest ≡ (or_broken (name_in parts) >>= (λ name. declared_by_kind globals unit storage ty kind parts name initialiser rest))

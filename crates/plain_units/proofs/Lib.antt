@@ -1,3 +1,1 @@
-pub mod NameLaws
-pub mod TypeLists
 pub mod Declarators

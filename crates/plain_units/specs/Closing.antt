@@ -18,7 +18,7 @@ use Rattle.plain_scope.specs.declared.errors.ElabError.{ElabError}
 use Rattle.plain_scope.specs.declared.errors.ElabError.TheVariants.{BadType, Link, Memory}
 use Rattle.plain_link.specs.PlainUnits.{plain_unit}
 use Rattle.plain_link.specs.declared.left.Left.{Left}
-use Rattle.plain_units.specs.UnitShapes.{no_parts, same_parts}
+use Rattle.plain_structs.specs.PartLists.{no_parts, same_parts}
 
 abbrev pub plain_numbers : {S : Type 0} → Numbers → HashMap (Vec ℕ Global) ℕ S → spec.Numbers
 plain_numbers numbers texts = record {

@@ -22,10 +22,10 @@ use Rattle.plain_scope.specs.declared.errors.ElabError.{ElabError}
 use Rattle.plain_scope.specs.declared.errors.ElabError.TheVariants.{BadType, Link, Memory}
 use Rattle.plain_scope.specs.JudgementLaws.{refused_first, gives_then}
 use Rattle.plain_declarators.specs.Sequences.{gives_of, refused_of, next_of, gives_next, refused_next, gives_as, refused_behind}
-use Rattle.plain_units.specs.UnitShapes.{no_parts, same_parts}
-use Rattle.plain_units.specs.Members.{member_bound, member_refused}
-use Rattle.plain_units.specs.Binding.{bind_assoc, regrouped, then_same}
-use Rattle.plain_units.specs.Structs.{in_scope, in_scope_gives, in_scope_refused}
+use Rattle.plain_structs.specs.PartLists.{no_parts, same_parts}
+use Rattle.plain_structs.specs.Members.{member_bound, member_refused}
+use Rattle.plain_structs.specs.Binding.{bind_assoc, regrouped, then_same}
+use Rattle.plain_structs.specs.Structs.{in_scope, in_scope_gives, in_scope_refused}
 
 -- ---- declarations
 

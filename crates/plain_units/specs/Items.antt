@@ -18,8 +18,8 @@ use Rattle.plain_scope.specs.JudgementLaws.{gives_nothing_used, refused_first}
 use Rattle.plain_scope.specs.declared.errors.ElabError.{ElabError}
 use Rattle.plain_declarators.specs.Sequences.{bind_nothing, gives_as, gives_of, refused_of}
 use Rattle.plain_declarators.specs.Bound.{base_gives, base_refused}
-use Rattle.plain_units.specs.UnitShapes.{no_parts, same_parts}
-use Rattle.plain_units.specs.Leading.{front, Leads, leads_with, leads_to, leads_refused}
+use Rattle.plain_structs.specs.PartLists.{no_parts, same_parts}
+use Rattle.plain_structs.specs.Leading.{front, Leads, leads_with, leads_to, leads_refused}
 use Rattle.plain_units.specs.Functions.{in_function_gives, in_function_refused}
 
 -- `struct NAME ;`

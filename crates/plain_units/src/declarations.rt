@@ -5,18 +5,16 @@ ghost use Rattle.c_types.specs.Types.{plain_type};
 ghost use Rattle.c_tree.specs.Trees.{node, plain_tree, plain_trees};
 ghost use Rattle.core_meaning.specs.UnitNames as spec;
 ghost use Rattle.plain_scope.specs.Judgements.{Judges};
-ghost use Rattle.plain_units.specs.PlainStates.{plain_state, plain_storage};
+ghost use Rattle.plain_objects.specs.PlainStates.{plain_state, plain_storage};
 ghost use Rattle.plain_declarations.specs.Locals.{first_size};
 ghost use Rattle.plain_units.specs.Declarators.{declared_by_kind, declared_first, first_as, first_declarator};
 
-use crate::definitions::Unit;
 use crate::functions::declare_function;
-use crate::names::Storage;
-use crate::objects::declare_object;
 use c_text::Token;
 use c_tree::{Kind, Terminal, Tree};
 use c_types::CType;
 use plain_declarators::name_in;
+use plain_objects::{Storage, Unit, declare_object};
 use plain_scope::{ElabError, Used, is_word};
 use std::alloc::Global;
 

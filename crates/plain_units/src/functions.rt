@@ -10,16 +10,16 @@ ghost use Rattle.plain_scope.specs.PlainScope.{plain_scope, plain_sort};
 ghost use Rattle.plain_scope.specs.Judgements.{Answers, Judges, RefusedAs};
 ghost use Rattle.plain_parameters.specs.PlainParameters.{plain_parameter};
 ghost use Rattle.plain_statements.specs.PlainJudged.{plain_judged_items};
-ghost use Rattle.plain_units.specs.PlainStates.{plain_storage};
+ghost use Rattle.plain_objects.specs.PlainStates.{plain_storage};
 ghost use Rattle.plain_units.specs.Functions.{placed_function, function_declared, function_items, items_in, found_as, named_function, function_with_result, kind_of_result, complete_function, function_found, refusal_at};
 
-use crate::names::{Storage, declare_name, may_be_function};
 use c_text::Token;
 use c_tree::{Kind, Tree};
 use c_types::CType;
 use cond_formula::NoMemory;
 use core_meaning::{Definition, Item, TypeKind};
 use plain_declarators::{node_parts, starred, three_parts};
+use plain_objects::{Storage, declare_name, may_be_function};
 use plain_parameters::{Parameter, declared_parameters, enter_parameter};
 use plain_scope::{
     ElabError, Scope, Signature, Sort, Used, copied, first_token, is_void, refused, unless,

@@ -5,20 +5,19 @@ ghost use Rattle.c_types.specs.Types.{plain_type};
 ghost use Rattle.c_tree.specs.Trees.{node, none, more, plain_tree, plain_trees};
 ghost use Rattle.core_meaning.specs.UnitNames as spec;
 ghost use Rattle.plain_scope.specs.Judgements.{Judges};
-ghost use Rattle.plain_units.specs.PlainStates.{plain_state, plain_storage};
+ghost use Rattle.plain_objects.specs.PlainStates.{plain_state, plain_storage};
 ghost use Rattle.plain_units.specs.Items.{tag_item, declaration_item, function_named, function_item, only_declarator};
 
 use crate::declarations::declare_from;
-use crate::definitions::{Unit, define};
 use crate::functions::judge_function;
-use crate::names::{Storage, storage_of};
-use crate::structs::define_struct;
 use c_text::Token;
 use c_tree::{Kind, Tree};
 use c_types::CType;
 use plain_declarators::{base_of, declared_base, name_in, node_parts, three_parts, two_parts};
 use plain_link::Definite;
+use plain_objects::{Storage, Unit, define, storage_of};
 use plain_scope::{ElabError, Used};
+use plain_structs::define_struct;
 use std::alloc::Global;
 
 // ---- structs

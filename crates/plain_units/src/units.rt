@@ -5,16 +5,15 @@ ghost use Rattle.core_meaning.specs.Linking.{closed};
 ghost use Rattle.core_meaning.specs.UnitNames as spec;
 ghost use Rattle.plain_scope.specs.PlainScope.{plain_struct, uses_of};
 ghost use Rattle.plain_scope.specs.Judgements.{Answers, Judges};
-ghost use Rattle.plain_units.specs.PlainStates.{plain_state};
+ghost use Rattle.plain_objects.specs.PlainStates.{plain_state};
 ghost use Rattle.plain_units.specs.Closing.{plain_numbers, one_judged, closed_with};
 
-use crate::definitions::Unit;
 use crate::items::judge_items;
-use crate::sizes::judge_sizes;
 use c_tree::Tree;
 use cond_formula::NoMemory;
 use plain_declarators::node_parts;
 use plain_link::{Definitions, Left};
+use plain_objects::{Unit, judge_sizes};
 use plain_scope::{ElabError, Numbers, Scope, Struct, Used};
 use std::alloc::Global;
 use std::collections::HashMap;

@@ -3,8 +3,8 @@ use Rattle.c_text.specs.Token.{PlainToken, plain_token}
 use Rattle.c_types.specs.Types.{PlainType, plain_type}
 use Rattle.c_tree.specs.Trees.{PlainTree, PlainTrees, plain_tree, plain_trees}
 use Rattle.core_meaning.specs.UnitNames.{UnitState, Storage, declared_function, declared_object}
-use Rattle.plain_statements.specs.Answers.{judges_as}
-use Rattle.plain_units.specs.PlainStates.{plain_state, plain_storage}
+use Rattle.plain_expressions.proofs.Answering.{judges_as}
+use Rattle.plain_objects.specs.PlainStates.{plain_state, plain_storage}
 use Rattle.plain_units.specs.Declarators.{declared_by_kind}
 use Rattle.plain_units.proofs.Declarators.{for_function, for_object}
 use Rattle.plain_units.proofs.declarations.declare_by_kind.Goals as goal

@@ -6,7 +6,7 @@ use Rattle.core_meaning.specs.UnitNames.{UnitState, Storage, declared_one}
 use Rattle.plain_scope.specs.PlainScope.{uses_of}
 use Rattle.plain_scope.specs.Judgements.{Gives, RefusedAs}
 use Rattle.plain_declarators.specs.Sequences.{gives_of, refused_of}
-use Rattle.plain_units.specs.PlainStates.{plain_state, plain_storage}
+use Rattle.plain_objects.specs.PlainStates.{plain_state, plain_storage}
 use Rattle.plain_units.specs.Declarators.{First, first_as, declared_first}
 use Rattle.plain_units.proofs.Declarators.{first_is, size_is}
 use Rattle.plain_units.proofs.declarations.declare_first.Goals as goal

@@ -7,8 +7,8 @@ use Rattle.core_meaning.specs.UnitNames.{UnitState, Storage, declared_from}
 use Rattle.plain_scope.specs.PlainScope.{uses_of}
 use Rattle.plain_scope.specs.Judgements.{RefusedAs}
 use Rattle.plain_declarations.specs.Locals.{first_size}
-use Rattle.plain_units.specs.PlainStates.{plain_state, plain_storage}
-use Rattle.plain_units.specs.Leading.{Leads, leads_from}
+use Rattle.plain_objects.specs.PlainStates.{plain_state, plain_storage}
+use Rattle.plain_structs.specs.Leading.{Leads, leads_from}
 use Rattle.plain_units.proofs.Declarators.{declared_continue, declared_end, declared_refused}
 use Rattle.plain_units.proofs.declarations.declare_from.Goals as goal
 

@@ -3,8 +3,8 @@ use Rattle.c_types.specs.Types.{plain_type}
 use Rattle.c_tree.specs.Trees.{plain_trees}
 use Rattle.core_meaning.specs.UnitNames.{declared_from}
 use Rattle.plain_scope.specs.PlainScope.{uses_of}
-use Rattle.plain_units.specs.PlainStates.{plain_state, plain_storage}
-use Rattle.plain_units.specs.Leading.{Leads}
+use Rattle.plain_objects.specs.PlainStates.{plain_state, plain_storage}
+use Rattle.plain_structs.specs.Leading.{Leads}
 use Rattle.plain_units.proofs.declarations.declare_from.Given as goal
 
 abbrev pub invariant-loop-place : goal.invariant-loop-place

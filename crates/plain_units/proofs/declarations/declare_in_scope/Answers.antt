@@ -5,7 +5,7 @@ use Rattle.c_types.specs.Types.{PlainType, plain_type}
 use Rattle.c_tree.specs.Trees.{PlainTree, PlainTrees, plain_tree, plain_trees}
 use Rattle.core_meaning.specs.UnitNames.{UnitState, Storage}
 use Rattle.plain_scope.specs.PlainScope.{plain_scope, uses_of}
-use Rattle.plain_units.specs.PlainStates.{plain_state, plain_storage}
+use Rattle.plain_objects.specs.PlainStates.{plain_state, plain_storage}
 use Rattle.plain_units.specs.Functions.{function_gives, function_refused}
 use Rattle.plain_units.proofs.declarations.declare_in_scope.Goals as goal
 

@@ -5,8 +5,8 @@ use Rattle.c_types.specs.Types.{PlainType, plain_type}
 use Rattle.c_tree.specs.Trees.{PlainTree, PlainTrees, node, plain_tree, plain_trees}
 use Rattle.core_meaning.specs.Declarations.{name_in}
 use Rattle.core_meaning.specs.UnitNames.{UnitState, Storage, declared_one}
-use Rattle.plain_statements.specs.Answers.{judges_as}
-use Rattle.plain_units.specs.PlainStates.{plain_state, plain_storage}
+use Rattle.plain_expressions.proofs.Answering.{judges_as}
+use Rattle.plain_objects.specs.PlainStates.{plain_state, plain_storage}
 use Rattle.plain_units.specs.Declarators.{declared_by_kind}
 use Rattle.plain_units.proofs.Declarators.{named_one}
 use Rattle.plain_units.proofs.declarations.declare_named.Goals as goal

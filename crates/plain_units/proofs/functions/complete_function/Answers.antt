@@ -10,7 +10,7 @@ use Rattle.core_meaning.specs.UnitNames.{Storage, is_result}
 use Rattle.plain_scope.specs.PlainScope.{plain_scope, uses_of}
 use Rattle.plain_declarators.specs.Sequences.{passed_gives, passed_refused}
 use Rattle.plain_statements.specs.PlainJudged.{plain_judged_items}
-use Rattle.plain_units.specs.PlainStates.{plain_storage}
+use Rattle.plain_objects.specs.PlainStates.{plain_storage}
 use Rattle.plain_units.specs.Functions.{FoundFunction, found_as, function_with_result, kind_of_result}
 use Rattle.plain_units.proofs.functions.complete_function.Goals as goal
 

@@ -11,7 +11,7 @@ use Rattle.plain_scope.specs.PlainScope.{plain_scope, uses_of}
 use Rattle.plain_scope.specs.Judgements.{Answers}
 use Rattle.plain_parameters.specs.PlainParameters.{plain_parameter}
 use Rattle.plain_parameters.specs.declared.parameters.Parameter.{Parameter as RustParameter}
-use Rattle.plain_units.specs.PlainStates.{plain_storage}
+use Rattle.plain_objects.specs.PlainStates.{plain_storage}
 use Rattle.plain_units.specs.Functions.{placed_function, placing_refused, declared_gives}
 use Rattle.plain_units.proofs.functions.declare_function.Goals as goal
 

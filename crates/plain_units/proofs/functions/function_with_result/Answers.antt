@@ -12,7 +12,7 @@ use Rattle.plain_scope.specs.Judgements.{Judges}
 use Rattle.plain_parameters.specs.PlainParameters.{plain_parameter}
 use Rattle.plain_parameters.specs.declared.parameters.Parameter.{Parameter as RustParameter}
 use Rattle.plain_statements.specs.PlainJudged.{plain_judged_items}
-use Rattle.plain_units.specs.PlainStates.{plain_storage}
+use Rattle.plain_objects.specs.PlainStates.{plain_storage}
 use Rattle.plain_units.specs.Functions.{FoundFunction, found_as, named_function, with_result_gives, with_result_refused}
 use Rattle.plain_units.proofs.functions.function_with_result.Goals as goal
 

@@ -8,7 +8,7 @@ use Rattle.c_tree.specs.Trees.{PlainTrees, node, plain_tree, plain_trees}
 use Rattle.c_tree.specs.TreeLaws.{plain_tree-Node}
 use Rattle.core_meaning.specs.declared.statements.Item.{Item}
 use Rattle.plain_scope.specs.PlainScope.{plain_scope}
-use Rattle.plain_statements.specs.Answers.{judges_as}
+use Rattle.plain_expressions.proofs.Answering.{judges_as}
 use Rattle.plain_statements.specs.PlainJudged.{plain_judged_items}
 use Rattle.plain_units.specs.Functions.{items_in}
 use Rattle.plain_units.proofs.functions.items_in.Goals as goal

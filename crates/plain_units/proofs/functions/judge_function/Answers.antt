@@ -6,7 +6,7 @@ use Rattle.core_meaning.specs.Entities.{Scope}
 use Rattle.core_meaning.specs.UnitNames.{Storage}
 use Rattle.plain_scope.specs.PlainScope.{plain_scope, uses_of}
 use Rattle.plain_statements.specs.PlainJudged.{plain_judged_items}
-use Rattle.plain_units.specs.PlainStates.{plain_storage}
+use Rattle.plain_objects.specs.PlainStates.{plain_storage}
 use Rattle.plain_units.specs.Functions.{found_as, found_gives, found_refused}
 use Rattle.plain_units.proofs.functions.judge_function.Goals as goal
 

@@ -11,7 +11,7 @@ use Rattle.plain_scope.specs.PlainScope.{plain_scope, uses_of}
 use Rattle.plain_scope.specs.declared.errors.ElabError.TheVariants.{Memory}
 use Rattle.plain_parameters.specs.PlainParameters.{plain_parameter}
 use Rattle.plain_parameters.specs.declared.parameters.Parameter.{Parameter as RustParameter}
-use Rattle.plain_units.specs.PlainStates.{plain_storage}
+use Rattle.plain_objects.specs.PlainStates.{plain_storage}
 use Rattle.plain_units.specs.Functions.{kind_behind}
 use Rattle.plain_units.proofs.functions.kind_of_result.Goals as goal
 

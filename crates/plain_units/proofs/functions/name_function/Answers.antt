@@ -4,7 +4,7 @@ use Rattle.core_meaning.specs.Entities.{Sort}
 use Rattle.core_meaning.specs.UnitNames.{with_name}
 use Rattle.plain_scope.specs.PlainScope.{plain_scope}
 use Rattle.plain_scope.specs.Judgements.{Answers}
-use Rattle.plain_units.specs.PlainStates.{plain_storage}
+use Rattle.plain_objects.specs.PlainStates.{plain_storage}
 use Rattle.plain_units.proofs.functions.name_function.Goals as goal
 
 pub returns : goal.returns

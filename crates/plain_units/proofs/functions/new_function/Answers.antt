@@ -12,7 +12,7 @@ use Rattle.core_meaning.specs.UnitNames.{Storage, may_be_function}
 use Rattle.plain_scope.specs.PlainScope.{plain_scope, uses_of}
 use Rattle.plain_declarators.specs.Sequences.{passed_gives, passed_refused}
 use Rattle.plain_parameters.specs.PlainParameters.{plain_parameter}
-use Rattle.plain_units.specs.PlainStates.{plain_storage}
+use Rattle.plain_objects.specs.PlainStates.{plain_storage}
 use Rattle.plain_units.proofs.functions.new_function.Goals as goal
 
 pub returns-clause-judged : goal.returns-clause-judged

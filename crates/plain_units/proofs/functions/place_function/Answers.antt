@@ -8,7 +8,7 @@ use Rattle.core_meaning.specs.Entities.{Scope, Signature}
 use Rattle.core_meaning.specs.UnitNames.{Storage, signature_of}
 use Rattle.plain_scope.specs.PlainScope.{plain_scope}
 use Rattle.plain_parameters.specs.PlainParameters.{plain_parameter}
-use Rattle.plain_units.specs.PlainStates.{plain_storage}
+use Rattle.plain_objects.specs.PlainStates.{plain_storage}
 use Rattle.plain_units.specs.Functions.{placed_is, initialiser_refused}
 use Rattle.plain_units.proofs.functions.place_function.Goals as goal
 

@@ -6,7 +6,7 @@ use Rattle.core_meaning.specs.UnitNames.{UnitState, Storage}
 use Rattle.plain_scope.specs.PlainScope.{uses_of}
 use Rattle.plain_scope.specs.Judgements.{RefusedAs}
 use Rattle.plain_declarators.specs.PlainBased.{plain_based}
-use Rattle.plain_units.specs.PlainStates.{plain_state, plain_storage}
+use Rattle.plain_objects.specs.PlainStates.{plain_state, plain_storage}
 use Rattle.plain_units.specs.Items.{declaration_item, declaration_gives, words_refused, declarators_refused}
 use Rattle.plain_units.proofs.items.declare_by_words.Goals as goal
 

@@ -3,7 +3,7 @@ use Rattle.c_tree.specs.Trees.{plain_trees}
 use Rattle.plain_scope.specs.PlainScope.{uses_of}
 use Rattle.plain_scope.specs.Judgements.{RefusedAs}
 use Rattle.plain_declarators.specs.PlainBased.{plain_based}
-use Rattle.plain_units.specs.PlainStates.{plain_state}
+use Rattle.plain_objects.specs.PlainStates.{plain_state}
 use Rattle.plain_units.specs.Items.{tag_item, tag_gives, tag_refused}
 use Rattle.plain_units.proofs.items.declare_tag.Goals as goal
 

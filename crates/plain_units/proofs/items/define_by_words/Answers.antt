@@ -6,7 +6,7 @@ use Rattle.core_meaning.specs.UnitNames.{UnitState}
 use Rattle.plain_scope.specs.PlainScope.{uses_of}
 use Rattle.plain_scope.specs.Judgements.{RefusedAs}
 use Rattle.plain_declarators.specs.PlainBased.{plain_based}
-use Rattle.plain_units.specs.PlainStates.{plain_state}
+use Rattle.plain_objects.specs.PlainStates.{plain_state}
 use Rattle.plain_units.specs.Items.{function_item, function_item_gives, function_words_refused, function_item_refused}
 use Rattle.plain_units.proofs.items.define_by_words.Goals as goal
 

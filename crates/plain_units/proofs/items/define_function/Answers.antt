@@ -6,7 +6,7 @@ use Rattle.core_meaning.specs.UnitNames.{defined_function}
 use Rattle.plain_scope.specs.PlainScope.{plain_scope, uses_of}
 use Rattle.plain_scope.specs.Judgements.{RefusedAs}
 use Rattle.plain_statements.specs.PlainJudged.{plain_judged_items}
-use Rattle.plain_units.specs.PlainStates.{plain_state, plain_storage}
+use Rattle.plain_objects.specs.PlainStates.{plain_state, plain_storage}
 use Rattle.plain_units.specs.Functions.{found_as, definition_gives, definition_refused}
 use Rattle.plain_units.proofs.items.define_function.Goals as goal
 

@@ -2,8 +2,8 @@ use Rattle.std.proofs.lemmas.Result.{MatchResult-weaker}
 use Rattle.c_tree.specs.Trees.{PlainTrees, plain_trees}
 use Rattle.core_meaning.specs.UnitNames.{UnitState}
 use Rattle.plain_scope.specs.PlainScope.{plain_scope, uses_of}
-use Rattle.plain_units.specs.PlainStates.{plain_state}
-use Rattle.plain_units.specs.Structs.{struct_gives, struct_refused}
+use Rattle.plain_objects.specs.PlainStates.{plain_state}
+use Rattle.plain_structs.specs.Structs.{struct_gives, struct_refused}
 use Rattle.plain_units.proofs.items.define_in_scope.Goals as goal
 
 pub returns : goal.returns

@@ -7,7 +7,7 @@ use Rattle.c_tree.specs.Trees.{PlainTree, PlainTrees, plain_tree, plain_trees}
 use Rattle.core_meaning.specs.Declarations.{name_in}
 use Rattle.core_meaning.specs.UnitNames.{UnitState, Storage}
 use Rattle.plain_scope.specs.PlainScope.{uses_of}
-use Rattle.plain_units.specs.PlainStates.{plain_state, plain_storage}
+use Rattle.plain_objects.specs.PlainStates.{plain_state, plain_storage}
 use Rattle.plain_units.specs.Items.{name_gives, name_refused}
 use Rattle.plain_units.proofs.items.define_named.Goals as goal
 

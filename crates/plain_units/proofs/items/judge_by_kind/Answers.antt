@@ -3,8 +3,8 @@ use Rattle.c_tree.specs.declared.kinds.Kind.{Kind}
 use Rattle.c_tree.specs.declared.kinds.Kind.TheVariants as k
 use Rattle.c_tree.specs.Trees.{PlainTrees, node, plain_trees}
 use Rattle.core_meaning.specs.UnitNames.{UnitState, judged_item}
-use Rattle.plain_statements.specs.Answers.{judges_as}
-use Rattle.plain_units.specs.PlainStates.{plain_state}
+use Rattle.plain_expressions.proofs.Answering.{judges_as}
+use Rattle.plain_objects.specs.PlainStates.{plain_state}
 use Rattle.plain_units.proofs.items.judge_by_kind.Goals as goal
 
 pub returns-in-StructDefinition : goal.returns-in-StructDefinition

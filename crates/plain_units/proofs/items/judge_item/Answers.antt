@@ -2,8 +2,8 @@ use Rattle.std.proofs.Common.{◌≡◌, ap, sym, ◌∙◌}
 use Rattle.c_tree.specs.Trees.{PlainTree, PlainTrees, node, plain_tree, plain_trees}
 use Rattle.c_tree.specs.TreeLaws.{plain_tree-Node}
 use Rattle.core_meaning.specs.UnitNames.{UnitState, judged_item}
-use Rattle.plain_statements.specs.Answers.{judges_as}
-use Rattle.plain_units.specs.PlainStates.{plain_state}
+use Rattle.plain_expressions.proofs.Answering.{judges_as}
+use Rattle.plain_objects.specs.PlainStates.{plain_state}
 use Rattle.plain_units.proofs.items.judge_item.Goals as goal
 
 pub returns-in-Node : goal.returns-in-Node

@@ -4,7 +4,7 @@ use Rattle.core_meaning.specs.Checking.{Checked}
 use Rattle.core_meaning.specs.UnitNames.{UnitState, judged_file_items}
 use Rattle.plain_scope.specs.PlainScope.{uses_of}
 use Rattle.plain_scope.specs.Judgements.{RefusedAs}
-use Rattle.plain_units.specs.PlainStates.{plain_state}
+use Rattle.plain_objects.specs.PlainStates.{plain_state}
 use Rattle.plain_units.specs.Items.{items_continue, items_refused, items_done}
 use Rattle.plain_units.proofs.items.judge_items.Goals as goal
 

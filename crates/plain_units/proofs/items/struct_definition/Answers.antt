@@ -1,8 +1,8 @@
 use Rattle.c_tree.specs.declared.kinds.Kind.TheVariants as k
 use Rattle.c_tree.specs.Trees.{PlainTrees, node, plain_tree, plain_trees}
 use Rattle.core_meaning.specs.UnitNames.{UnitState, judged_item, defined_struct}
-use Rattle.plain_statements.specs.Answers.{judges_as}
-use Rattle.plain_units.specs.PlainStates.{plain_state}
+use Rattle.plain_expressions.proofs.Answering.{judges_as}
+use Rattle.plain_objects.specs.PlainStates.{plain_state}
 use Rattle.plain_units.specs.Items.{struct_item_is}
 use Rattle.plain_units.proofs.items.struct_definition.Goals as goal
 

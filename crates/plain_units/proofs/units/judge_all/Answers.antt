@@ -5,7 +5,7 @@ use Rattle.core_meaning.specs.UnitNames.{UnitState, judged_unit, judged_to_end}
 use Rattle.plain_scope.specs.PlainScope.{plain_struct, uses_of}
 use Rattle.plain_scope.specs.Judgements.{RefusedAs}
 use Rattle.plain_declarators.specs.Sequences.{gives_of, refused_of}
-use Rattle.plain_units.specs.PlainStates.{plain_state}
+use Rattle.plain_objects.specs.PlainStates.{plain_state}
 use Rattle.plain_units.specs.Closing.{plain_numbers, unit_items}
 use Rattle.plain_units.proofs.units.judge_all.Goals as goal
 

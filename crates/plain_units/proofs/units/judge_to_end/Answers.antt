@@ -4,8 +4,8 @@ use Rattle.c_tree.specs.Trees.{PlainTrees, plain_trees}
 use Rattle.core_meaning.specs.UnitNames.{UnitState, judged_to_end}
 use Rattle.plain_scope.specs.PlainScope.{uses_of}
 use Rattle.plain_scope.specs.Judgements.{RefusedAs}
-use Rattle.plain_units.specs.PlainStates.{plain_state}
-use Rattle.plain_units.specs.Sizes.{to_end_gives, to_end_refused, items_refused}
+use Rattle.plain_objects.specs.PlainStates.{plain_state}
+use Rattle.plain_units.specs.Ends.{to_end_gives, to_end_refused, items_refused}
 use Rattle.plain_units.proofs.units.judge_to_end.Goals as goal
 
 pub returns-in_err-judge_items : goal.returns-in_err-judge_items

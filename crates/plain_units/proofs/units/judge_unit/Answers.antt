@@ -5,7 +5,7 @@ use Rattle.core_meaning.specs.Linking.{closed}
 use Rattle.core_meaning.specs.UnitNames.{UnitState, judged_unit}
 use Rattle.plain_scope.specs.PlainScope.{plain_struct, uses_of}
 use Rattle.plain_scope.specs.Judgements.{RefusedAs}
-use Rattle.plain_units.specs.PlainStates.{plain_state}
+use Rattle.plain_objects.specs.PlainStates.{plain_state}
 use Rattle.plain_units.specs.Closing.{plain_numbers, one_judged, closed_gives, closed_refused}
 use Rattle.plain_units.proofs.units.judge_unit.Goals as goal
 

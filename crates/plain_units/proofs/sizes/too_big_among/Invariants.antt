@@ -1,8 +1,0 @@
-use Rattle.std.proofs.Common.{◌≡◌, drop}
-use Rattle.c_tree.specs.Trees.{plain_trees}
-use Rattle.core_meaning.specs.UnitNames.{too_big_among}
-use Rattle.plain_scope.specs.PlainScope.{plain_scope}
-use Rattle.plain_units.proofs.sizes.too_big_among.Given as goal
-
-abbrev pub invariant-loop-tree : goal.invariant-loop-tree
-invariant-loop-tree l = too_big_among (plain_scope l.scope) (plain_trees (drop l.tree-index l.list)) ≡ too_big_among (plain_scope l.scope) (plain_trees l.list)
