@@ -1,0 +1,65 @@
+//! Parts of nodes, and lists of them that go on.
+ghost use Rattle.std.specs.Prelude.{◌≡◌, ℕ, Bool, None, IfOk};
+ghost use Rattle.c_tree.specs.Trees.{PlainTrees};
+ghost use Rattle.choice_trees.specs.ChoiceTrees.{needs_statement, with_part};
+ghost use Rattle.choice_variants.specs.Variants.{before, perhaps_before, AreLow, IsLowIfAny};
+
+use c_tree::Kind;
+use choice_trees::Item;
+use cond_formula::{Formula, NoMemory};
+use std::alloc::Global;
+
+/// A part of a node where one alternative is taken.
+#[derive(Clone, Copy)]
+pub enum Part<'a> {
+    Item(&'a Item),
+    /// The `;` that stands for a statement where there is none.
+    NoStatement,
+}
+
+/// A node's parts where a condition is true.
+#[derive(Drop)]
+pub struct Variant<'a> {
+    pub when: Formula,
+    pub parts: Vec<Part<'a>>,
+}
+
+/// Whether the part of a node with this place, from 0, is a statement that the grammar doesn't leave out.
+pub(crate) fn is_needed(kind: Kind, place: usize) -> bool
+    ensures { result ≡ needs_statement kind place }
+{
+    match kind {
+        Kind::If | Kind::While => place == 4,
+        Kind::Else | Kind::Do => place == 1,
+        Kind::For => place == 7,
+        _ => false,
+    }
+}
+
+/// What stands for a part of which no alternative holds.
+pub(crate) fn part_left_out<'a>(needed: bool) -> Option<Part<'a>>
+    ensures shows { (on : ℕ → Bool) (rest : PlainTrees) → perhaps_before on result rest ≡ with_part needed None rest }
+    ensures low { (n : ℕ) → IsLowIfAny n result }
+{
+    if needed {
+        Some(Part::NoStatement)
+    } else {
+        None
+    }
+}
+
+/// The parts, and one more behind them if there is one.
+pub(crate) fn longer<'a>(
+    alloc: Global,
+    parts: &[Part<'a>],
+    part: Option<Part<'a>>,
+) -> Result<Vec<Part<'a>>, NoMemory>
+    ensures shows { IfOk result (λ all. (on : ℕ → Bool) (rest : PlainTrees) → before on all.items rest ≡ before on parts.now (perhaps_before on part.entry rest)) }
+    ensures low { IfOk result (λ all. (n : ℕ) → AreLow n parts.now → IsLowIfAny n part.entry → AreLow n all.items) }
+{
+    let mut all = Vec::from_slice(alloc, parts)?;
+    if let Some(part) = part {
+        all.push(part)?;
+    }
+    Ok(all)
+}
