@@ -15,7 +15,7 @@ ghost use Rattle.choice_parser.specs.Units.{Nodes, StandsBehind, StaysBehind, Ha
 use crate::refusals::buried;
 use crate::units::{end_of_text, refused_in, still_in_unit};
 use c_tree::{Kind, terminal, what_is_read_is_spelt, what_is_spelt_is_read};
-use choice_reading::{Reading, read};
+use choice_reading::{Reading, Setting, read};
 use choice_settling::{Ahead, settled};
 use choice_states::{State, leaves_are_the_tokens, trees_are_read, units_are_seen};
 use choice_trees::{Choice, Forest, Item};
@@ -61,7 +61,12 @@ fn read_next<O: Oracle>(
 {
     let path = Vec::new(ahead.alloc);
     let state = settled(state, parts, None, &path, &path, ahead)?;
-    read(state, parts, None, &path, &path, reading, oracle)
+    let setting = Setting {
+        outer: None,
+        path: &path,
+        here: &path,
+    };
+    read(state, parts, setting, reading, oracle)
 }
 
 /// Whether some alternative lies deeper than so many levels, of nodes within each other or of alternatives.

@@ -16,7 +16,7 @@ use Rattle.grammar_moves.specs.PlainPlaces.{plain_place}
 use Rattle.choice_states.specs.declared.states.State.{State, Dead, In}
 use Rattle.choice_states.specs.declared.states.After.{After}
 use Rattle.choice_states.specs.declared.states.After.TheVariants as after_variant
-use Rattle.choice_states.specs.Seen.{Seen, of_seen, choice_seen, seen_in}
+use Rattle.choice_states.specs.Seen.{Seen, Parts, of_seen, choice_seen, seen_in}
 use Rattle.choice_states.specs.Parts.{values, parts_fit_within, Pushed}
 use Rattle.choice_states.specs.Lists.{frames_at}
 use Rattle.choice_states.specs.States.{Standing, at_place, within, arriving, arrived, unbegun, standing, becoming}
@@ -40,22 +40,29 @@ left_reads there outer kind token path when on a b c p is left reads =
     reads_finished there outer kind token a b c found.0 (λ t l. found.2 p (sym is ∙ t) l) (λ fits. found.1) reads
 
 -- in a part of the node
-pub reads_in : (admits admits_behind : Condition) (when : Formula) (path here nowhere : List Formula) (outer : Option Spot) (place : Spot) (kind : Terminal) (token : Seen)
-    (inner : Vec (Choice Item) Global) (rest : Box State Global) (state rest_at inside_new new : State) (parts inner_new parts_new : List (Choice Item)) (after : (ℕ → Bool) → Standing)
-    → state ≡ In place inner rest → nowhere ≡ [] → admits_behind ≡ admits → rest_at ≡ rest.value
-    → ReadsSo admits path nowhere (condition_of when) (Some place) kind token (stood rest_at inner.items) (stood inside_new inner_new)
-    → ((on : ℕ → Bool) → IsLeft path when on (stood inside_new inner_new on) (after on))
-    → ReadsAfter admits_behind path here (condition_of when) outer place kind token after (λ on. seen_in on parts) (stood new parts_new)
-    → ReadsSo admits path here (condition_of when) outer kind token (stood state parts) (stood new parts_new)
-reads_in admits admits_behind when path here nowhere outer place kind token inner rest state rest_at inside_new new parts inner_new parts_new after state_is none kept rest_is inside left behind = λ c admitted p h sound.
+pub reads_in : (admits admits_behind : Condition) (when : Condition) (path here path_inside nowhere : List Formula) (outer outer_inside : Option Spot) (place : Spot) (kind : Terminal) (token : Seen)
+    (inner : Vec (Choice Item) Global) (rest : Box State Global) (state rest_at inside_new new : State) (parts inner_new parts_new : List (Choice Item))
+    → state ≡ In place inner rest → path_inside ≡ path → nowhere ≡ [] → outer_inside ≡ Some place → admits_behind ≡ admits → rest_at ≡ rest.value
+    → ReadsSo admits path_inside nowhere when outer_inside kind token (stood rest_at inner.items) (stood inside_new inner_new)
+    → ReadsAfter admits_behind path here when outer place kind token (stood inside_new inner_new) (λ on. seen_in on parts) (stood new parts_new)
+    → ReadsSo admits path here when outer kind token (stood state parts) (stood new parts_new)
+reads_in admits admits_behind when path here path_inside nowhere outer outer_inside place kind token inner rest state rest_at inside_new new parts inner_new parts_new state_is same none around kept rest_is inside behind = λ c admitted p h sound.
     let is : stood state parts (has c) ≡ within (plain_place place) (stood rest.value inner.items (has c)) (seen_in (has c) parts) =
     ap (λ s. standing s (has c) (seen_in (has c) parts)) state_is ∙ standing-In place inner rest (has c) (seen_in (has c) parts) in
     let is_sound : IsSound (within (plain_place place) (stood rest.value inner.items (has c)) (seen_in (has c) parts)) = subst IsSound is sound in
-    subst (λ s. Reads (value (has c) (condition_of when)) outer kind token s (stood new parts_new (has c))) (sym is)
+    subst (λ s. Reads (value (has c) when) outer kind token s (stood new parts_new (has c))) (sym is)
     (behind c (ap (value (has c)) kept ∙ admitted) p h (stood rest.value inner.items (has c)) is_sound
-    (left_reads (value (has c) (condition_of when)) (Some place) kind token path when (has c) (stood rest.value inner.items (has c)) (stood inside_new inner_new (has c)) (after (has c)) p refl (left (has c))
-    (subst (λ s. Reads (value (has c) (condition_of when)) (Some place) kind token (stood s inner.items (has c)) (stood inside_new inner_new (has c))) rest_is
-    (inside c admitted p (ap (λ fs. all_true (has c) (conditions_of fs)) none) (subst (λ s. IsSound (stood s inner.items (has c))) (sym rest_is) (sound_in (plain_place place) (stood rest.value inner.items (has c)) (seen_in (has c) parts) is_sound))))))
+    (subst (λ s. Reads (value (has c) when) (Some place) kind token (stood s inner.items (has c)) (stood inside_new inner_new (has c))) rest_is
+    (subst (λ o. Reads (value (has c) when) o kind token (stood rest_at inner.items (has c)) (stood inside_new inner_new (has c))) around
+    (inside c admitted (ap (λ fs. all_true (has c) (conditions_of fs)) same ∙ p) (ap (λ fs. all_true (has c) (conditions_of fs)) none) (subst (λ s. IsSound (stood s inner.items (has c))) (sym rest_is) (sound_in (plain_place place) (stood rest.value inner.items (has c)) (seen_in (has c) parts) is_sound))))))
+
+-- what has become of the part is read behind it
+pub reads_behind : (admits : Condition) (when : Formula) (path here : List Formula) (outer : Option Spot) (place : Spot) (kind : Terminal) (token : Seen)
+    (inside after : (ℕ → Bool) → Standing) (parts : (ℕ → Bool) → Parts) (new : (ℕ → Bool) → Standing)
+    → ((on : ℕ → Bool) → IsLeft path when on (inside on) (after on))
+    → ReadsAfter admits path here (condition_of when) outer place kind token after parts new → ReadsAfter admits path here (condition_of when) outer place kind token inside parts new
+reads_behind admits when path here outer place kind token inside after parts new left behind = λ c admitted p h inner sound reads.
+    behind c admitted p h inner sound (left_reads (value (has c) (condition_of when)) (Some place) kind token path when (has c) inner (inside (has c)) (after (has c)) p refl (left (has c)) reads)
 
 -- ---- behind a part
 
@@ -111,12 +118,12 @@ module _
 -- one of two alternatives became of the part
 pub after_split :
     (admits admits_behind when : Condition) (path here first_path first_here second_path second_here : List Formula) (f : Formula) (outer : Option Spot) (place : Spot) (kind : Terminal) (token : Seen) (old mid new : List (Choice Item))
-    (after : After) (first second : Box After Global) (first_at second_at : After) (first_new second_new state : State) → after ≡ after_variant.Split f first second → first_at ≡ first.value → second_at ≡ second.value → admits_behind ≡ admits
+    (after : After) (first second : Box After Global) (first_at second_at : After) (first_new second_new state : State) (outer_first outer_second : Option Spot) → outer_first ≡ outer → outer_second ≡ outer → after ≡ after_variant.Split f first second → first_at ≡ first.value → second_at ≡ second.value → admits_behind ≡ admits
     → Divides path f first_path second_path → Divides here f first_here second_here → SameElsewhere first_here old mid → SameElsewhere second_here mid new → StandsAsSplit f first_new second_new state
-    → ReadsAfter admits first_path first_here when outer place kind token (becoming first_at) (λ on. seen_in on old) (stood first_new mid)
-    → ReadsAfter admits_behind second_path second_here when outer place kind token (becoming second_at) (λ on. seen_in on mid) (stood second_new new)
+    → ReadsAfter admits first_path first_here when outer_first place kind token (becoming first_at) (λ on. seen_in on old) (stood first_new mid)
+    → ReadsAfter admits_behind second_path second_here when outer_second place kind token (becoming second_at) (λ on. seen_in on mid) (stood second_new new)
     → ReadsAfter admits path here when outer place kind token (becoming after) (λ on. seen_in on old) (stood state new)
-after_split admits admits_behind when path here first_path first_here second_path second_here f outer place kind token old mid new after first second first_at second_at first_new second_new state after_is first_is second_is kept paths heres one other is a b = λ c admitted p h inner sound reads.
+after_split admits admits_behind when path here first_path first_here second_path second_here f outer place kind token old mid new after first second first_at second_at first_new second_new state outer_first outer_second around around_too after_is first_is second_is kept paths heres one other is a b = λ c admitted p h inner sound reads.
     each_becomes (λ became parts now. IsSound (within (plain_place place) inner parts) → Reads (value (has c) when) (Some place) kind token inner became → Reads (value (has c) when) outer kind token (within (plain_place place) inner parts) now)
     (value (has c) (condition_of f)) (all_true (has c) (conditions_of path)) (all_true (has c) (conditions_of here)) (all_true (has c) (conditions_of first_path)) (all_true (has c) (conditions_of first_here))
     (all_true (has c) (conditions_of second_path)) (all_true (has c) (conditions_of second_here)) (seen_in (has c) old) (seen_in (has c) mid) (seen_in (has c) new)
@@ -125,4 +132,5 @@ after_split admits admits_behind when path here first_path first_here second_pat
     (ap (λ x. becoming x (has c)) after_is ∙ becoming-Split f first second (has c)
     ∙ ap (λ x. if value (has c) (condition_of f) then becoming x (has c) else becoming second.value (has c)) (sym first_is)
     ∙ ap (λ x. if value (has c) (condition_of f) then becoming first_at (has c) else becoming x (has c)) (sym second_is)) (is (has c) (seen_in (has c) new))
-    (λ fp fh s r. a c admitted fp fh inner s r) (λ sp sh s r. b c (ap (value (has c)) kept ∙ admitted) sp sh inner s r) p h sound reads
+    (λ fp fh s r. subst (λ o. ReadsAfter admits first_path first_here when o place kind token (becoming first_at) (λ on. seen_in on old) (stood first_new mid)) around a c admitted fp fh inner s r)
+    (λ sp sh s r. subst (λ o. ReadsAfter admits_behind second_path second_here when o place kind token (becoming second_at) (λ on. seen_in on mid) (stood second_new new)) around_too b c (ap (value (has c)) kept ∙ admitted) sp sh inner s r) p h sound reads

@@ -42,23 +42,28 @@ module _
     (one : SameElsewhere first_here old mid) (other : SameElsewhere second_here mid new)
   where
     -- two alternatives
-    pub split_so : (admits admits_first admits_second when : Condition) → admits_first ≡ admits → admits_second ≡ admits → StandsAsSplit f first_new second_new result
-        → ReadsSo admits_first first_path first_here when outer kind token (stood first_at old) (stood first_new mid)
-        → ReadsSo admits_second second_path second_here when outer kind token (stood second_at mid) (stood second_new new) → ReadsSo admits path here when outer kind token (stood state old) (stood result new)
-    split_so admits admits_first admits_second when kept kept_too is a b =
+    pub split_so : (admits admits_first admits_second when : Condition) (outer_first outer_second : Option Spot) → admits_first ≡ admits → admits_second ≡ admits → outer_first ≡ outer → outer_second ≡ outer
+        → StandsAsSplit f first_new second_new result
+        → ReadsSo admits_first first_path first_here when outer_first kind token (stood first_at old) (stood first_new mid)
+        → ReadsSo admits_second second_path second_here when outer_second kind token (stood second_at mid) (stood second_new new) → ReadsSo admits path here when outer kind token (stood state old) (stood result new)
+    split_so admits admits_first admits_second when outer_first outer_second kept kept_too around around_too is a b =
         reads_so_split path here first_path first_here second_path second_here f old mid new outer kind token state first_at second_at first_new second_new result paths heres one other
-        (stands_split f first second state first_at second_at state_is first_is second_is) is admits when (λ c admitted. a c (ap (value (has c)) kept ∙ admitted)) (λ c admitted. b c (ap (value (has c)) kept_too ∙ admitted))
+        (stands_split f first second state first_at second_at state_is first_is second_is) is admits when
+        (λ c admitted. subst (λ o. ReadsSo admits_first first_path first_here when o kind token (stood first_at old) (stood first_new mid)) around a c (ap (value (has c)) kept ∙ admitted))
+        (λ c admitted. subst (λ o. ReadsSo admits_second second_path second_here when o kind token (stood second_at mid) (stood second_new new)) around_too b c (ap (value (has c)) kept_too ∙ admitted))
 
     -- two alternatives, each at places
-    pub split_places : (copy : Formula) → condition_of copy ≡ condition_of f → StandsAsSplit copy first_new second_new result
-        → ReadsPlaces first_at first_path first_here outer kind token (stood first_at old) (stood first_new mid)
-        → ReadsPlaces second_at second_path second_here outer kind token (stood second_at mid) (stood second_new new) → ReadsPlaces state path here outer kind token (stood state old) (stood result new)
-    split_places copy same is a b =
+    pub split_places : (copy : Formula) (outer_first outer_second : Option Spot) → condition_of copy ≡ condition_of f → outer_first ≡ outer → outer_second ≡ outer → StandsAsSplit copy first_new second_new result
+        → ReadsPlaces first_at first_path first_here outer_first kind token (stood first_at old) (stood first_new mid)
+        → ReadsPlaces second_at second_path second_here outer_second kind token (stood second_at mid) (stood second_new new) → ReadsPlaces state path here outer kind token (stood state old) (stood result new)
+    split_places copy outer_first outer_second same around around_too is a b =
         reads_places_split path here first_path first_here second_path second_here f old mid new outer kind token state first_at second_at first_new second_new result paths heres one other
         (stands_split f first second state first_at second_at state_is first_is second_is) (split_by f copy first_new second_new result same is)
         (λ on. ap (λ s. spot_at s on) state_is ∙ spot_at-Split f first second on
         ∙ ap (λ s. if value on (condition_of f) then spot_at s on else spot_at second.value on) (sym first_is)
-        ∙ ap (λ s. if value on (condition_of f) then spot_at first_at on else spot_at s on) (sym second_is)) a b
+        ∙ ap (λ s. if value on (condition_of f) then spot_at first_at on else spot_at s on) (sym second_is))
+        (subst (λ o. ReadsPlaces first_at first_path first_here o kind token (stood first_at old) (stood first_new mid)) around a)
+        (subst (λ o. ReadsPlaces second_at second_path second_here o kind token (stood second_at mid) (stood second_new new)) around_too b)
 
 module _
     (admits when : Condition) (path here : List Formula) (outer : Option Spot) (kind : Terminal) (token : Seen) (old : List (Choice Item)) (state : State)

@@ -3,4 +3,4 @@
 
 mod reading;
 
-pub use reading::{Reading, read};
+pub use reading::{Reading, Setting, read};

@@ -1,6 +1,6 @@
 //! A token is read where it is there.
 
-ghost use Rattle.std.specs.Prelude.{◌≡◌, ℕ, Bool, true, false, List, [], ◌∷◌, ◌++◌, Option, Some, None, IsTrue, IfOk, OnOk, IfSome, if◌then◌else◌};
+ghost use Rattle.std.specs.Prelude.{◌≡◌, ℕ, Bool, true, false, not, ◌&&◌, List, [], ◌∷◌, ◌++◌, Option, Some, None, IsTrue, IfOk, OnOk, IfSome, if◌then◌else◌};
 ghost use Rattle.cond_formula.specs.Conditions.{Condition, condition_of, conditions_of, value, all_true};
 ghost use Rattle.path_conditions.specs.Presences.{IsPresence};
 ghost use Rattle.c_tree.specs.Places.{Place as PlainPlace, shifts, move};
@@ -37,6 +37,70 @@ pub struct Reading<'a> {
     pub token: &'a CondToken,
     pub number: u32,
     pub terminal: Terminal,
+}
+
+/// Where a token is read: the place in the node around behind the one in which it is, if there is one; the path of conditions to it, and those
+/// under which the parts are pushed.
+#[derive(Clone, Copy)]
+pub struct Setting<'a> {
+    pub outer: Option<Place>,
+    pub path: &'a [Formula],
+    pub here: &'a [Formula],
+}
+
+/// The conditions of one of two alternatives.
+#[derive(Drop)]
+struct Side {
+    path: Vec<Formula>,
+    here: Vec<Formula>,
+}
+
+impl<'a> Setting<'a> {
+    /// The same node, in one of two alternatives.
+    fn on(self, side: &'a Side) -> Setting<'a>
+        ensures outer { result.outer ≡ self.entry.outer }
+        ensures path { result.path.now ≡ side.now.path.items }
+        ensures here { result.here.now ≡ side.now.here.items }
+    {
+        Setting {
+            outer: self.outer,
+            path: &side.path,
+            here: &side.here,
+        }
+    }
+
+    /// In a part of the node, behind which is this place.
+    fn inside(self, place: Place, nowhere: &'a [Formula]) -> Setting<'a>
+        ensures outer { result.outer ≡ Some place }
+        ensures path { result.path.now ≡ self.entry.path.now }
+        ensures here { result.here.now ≡ nowhere.now }
+    {
+        Setting {
+            outer: Some(place),
+            path: self.path,
+            here: nowhere,
+        }
+    }
+
+    /// The alternative where the formula is true.
+    fn side_with(self, alloc: Global, f: &Formula) -> Result<Side, NoMemory>
+        ensures path { IfOk result (λ side. (on : ℕ → Bool) → all_true on (conditions_of side.path.items) ≡ (all_true on (conditions_of self.entry.path.now) && value on (condition_of f.now))) }
+        ensures here { IfOk result (λ side. (on : ℕ → Bool) → all_true on (conditions_of side.here.items) ≡ (all_true on (conditions_of self.entry.here.now) && value on (condition_of f.now))) }
+    {
+        let path = with(alloc, self.path, f)?;
+        let here = with(alloc, self.here, f)?;
+        Ok(Side { path, here })
+    }
+
+    /// The alternative where it isn't.
+    fn side_without(self, alloc: Global, f: &Formula) -> Result<Side, NoMemory>
+        ensures path { IfOk result (λ side. (on : ℕ → Bool) → all_true on (conditions_of side.path.items) ≡ (all_true on (conditions_of self.entry.path.now) && not (value on (condition_of f.now)))) }
+        ensures here { IfOk result (λ side. (on : ℕ → Bool) → all_true on (conditions_of side.here.items) ≡ (all_true on (conditions_of self.entry.here.now) && not (value on (condition_of f.now)))) }
+    {
+        let path = without(alloc, self.path, f)?;
+        let here = without(alloc, self.here, f)?;
+        Ok(Side { path, here })
+    }
 }
 
 fn push_token(
@@ -211,23 +275,21 @@ fn read_behind_list(
 fn read_there(
     place: Place,
     parts: &mut Vec<Choice<Item>>,
-    outer: Option<Place>,
-    path: &[Formula],
-    here: &[Formula],
+    setting: Setting,
     reading: Reading,
 ) -> Result<State, NoMemory>
-    ensures elsewhere { IfOk result (λ new. SameElsewhere here.now parts.old.items parts.new.items) }
-    ensures reads { IfOk result (λ new. ReadsAll path.now here.now outer reading.entry.terminal (seen_of reading.entry.number reading.entry.token.now) (λ on. at_place (plain_place place) (seen_in on parts.old.items)) (stood new parts.new.items)) }
+    ensures elsewhere { IfOk result (λ new. SameElsewhere setting.entry.here.now parts.old.items parts.new.items) }
+    ensures reads { IfOk result (λ new. ReadsAll setting.entry.path.now setting.entry.here.now setting.entry.outer reading.entry.terminal (seen_of reading.entry.number reading.entry.token.now) (λ on. at_place (plain_place place) (seen_in on parts.old.items)) (stood new parts.new.items)) }
 {
-    match around_here(place, outer) {
+    match around_here(place, setting.outer) {
         Some(around) => {
             if enters(place, reading.terminal) {
-                read_in_node(place, parts, here, reading)
+                read_in_node(place, parts, setting.here, reading)
             } else {
-                read_behind_list(place, around, parts, path, here, reading)
+                read_behind_list(place, around, parts, setting.path, setting.here, reading)
             }
         }
-        None => read_in_node(place, parts, here, reading),
+        None => read_in_node(place, parts, setting.here, reading),
     }
 }
 
@@ -236,25 +298,22 @@ fn read_at<O: Oracle>(
     place: Place,
     new: bool,
     parts: &mut Vec<Choice<Item>>,
-    outer: Option<Place>,
-    path: &[Formula],
-    here: &[Formula],
+    setting: Setting,
     reading: Reading,
     oracle: &mut O,
 ) -> Result<State, NoMemory>
     ensures kept { O.admits oracle.new ≡ O.admits oracle.old }
-    ensures elsewhere { IfOk result (λ new. SameElsewhere here.now parts.old.items parts.new.items) }
-    ensures reads { IfOk result (λ new. ReadsSo (O.admits oracle.old) path.now here.now (condition_of reading.entry.token.now.when) outer reading.entry.terminal (seen_of reading.entry.number reading.entry.token.now) (λ on. at_place (plain_place place) (seen_in on parts.old.items)) (stood new parts.new.items)) }
+    ensures elsewhere { IfOk result (λ new. SameElsewhere setting.entry.here.now parts.old.items parts.new.items) }
+    ensures reads { IfOk result (λ new. ReadsSo (O.admits oracle.old) setting.entry.path.now setting.entry.here.now (condition_of reading.entry.token.now.when) setting.entry.outer reading.entry.terminal (seen_of reading.entry.number reading.entry.token.now) (λ on. at_place (plain_place place) (seen_in on parts.old.items)) (stood new parts.new.items)) }
 {
     let alloc = reading.alloc;
-    match presence_on(alloc, path, &reading.token.when, oracle)? {
-        Presence::Present => read_there(place, parts, outer, path, here, reading),
+    match presence_on(alloc, setting.path, &reading.token.when, oracle)? {
+        Presence::Present => read_there(place, parts, setting, reading),
         Presence::Absent => Ok(State::At(place, new)),
         Presence::Unsure => {
-            let when = left_of(alloc, &reading.token.when, path)?;
-            let path_there = with(alloc, path, &when)?;
-            let here_there = with(alloc, here, &when)?;
-            let there = read_there(place, parts, outer, &path_there, &here_there, reading)?;
+            let when = left_of(alloc, &reading.token.when, setting.path)?;
+            let side = setting.side_with(alloc, &when)?;
+            let there = read_there(place, parts, setting.on(&side), reading)?;
             joined(alloc, when, there, State::At(place, true))
         }
     }
@@ -264,64 +323,34 @@ fn read_at<O: Oracle>(
 pub fn read<O: Oracle>(
     state: State,
     parts: &mut Vec<Choice<Item>>,
-    outer: Option<Place>,
-    path: &[Formula],
-    here: &[Formula],
+    setting: Setting,
     reading: Reading,
     oracle: &mut O,
 ) -> Result<State, NoMemory>
     ensures kept { O.admits oracle.new ≡ O.admits oracle.old }
-    ensures elsewhere { IfOk result (λ new. SameElsewhere here.now parts.old.items parts.new.items) }
-    ensures reads { IfOk result (λ new. ReadsSo (O.admits oracle.old) path.now here.now (condition_of reading.entry.token.now.when) outer reading.entry.terminal (seen_of reading.entry.number reading.entry.token.now) (stood state parts.old.items) (stood new parts.new.items)) }
+    ensures elsewhere { IfOk result (λ new. SameElsewhere setting.entry.here.now parts.old.items parts.new.items) }
+    ensures reads { IfOk result (λ new. ReadsSo (O.admits oracle.old) setting.entry.path.now setting.entry.here.now (condition_of reading.entry.token.now.when) setting.entry.outer reading.entry.terminal (seen_of reading.entry.number reading.entry.token.now) (stood state parts.old.items) (stood new parts.new.items)) }
 {
     let alloc = reading.alloc;
     match state {
-        State::At(place, new) => read_at(place, new, parts, outer, path, here, reading, oracle),
+        State::At(place, new) => read_at(place, new, parts, setting, reading, oracle),
         State::In(place, inner, rest) => {
             let mut inner = inner;
-            let nowhere = Vec::new(alloc);
-            let rest = Box::into_inner(rest);
-            let rest = read(
-                rest,
-                &mut inner,
-                Some(place),
-                path,
-                &nowhere,
-                reading,
-                oracle,
-            )?;
-            let after = left(alloc, rest, inner, path, &reading.token.when)?;
-            read_after(after, place, parts, outer, path, here, reading, oracle)
+            let inside = setting.inside(place, &[]);
+            let rest = read(Box::into_inner(rest), &mut inner, inside, reading, oracle)?;
+            read_behind(rest, inner, place, parts, setting, reading, oracle)
         }
         State::Split(f, first, second) => {
-            if let Some(presence) = split_presence(&f, &first, &second, path, reading, oracle)? {
+            if let Some(presence) = split_presence(&f, &first, &second, setting, reading, oracle)? {
                 let state = State::Split(f, first, second);
-                return read_alike(state, presence, parts, outer, path, here, reading);
+                return read_alike(state, presence, parts, setting, reading);
             }
-            let first_path = with(alloc, path, &f)?;
-            let first_here = with(alloc, here, &f)?;
-            let first = Box::into_inner(first);
-            let first = read(
-                first,
-                parts,
-                outer,
-                &first_path,
-                &first_here,
-                reading,
-                oracle,
-            )?;
-            let second_path = without(alloc, path, &f)?;
-            let second_here = without(alloc, here, &f)?;
-            let second = Box::into_inner(second);
-            let second = read(
-                second,
-                parts,
-                outer,
-                &second_path,
-                &second_here,
-                reading,
-                oracle,
-            )?;
+            let first_side = setting.side_with(alloc, &f)?;
+            let there = setting.on(&first_side);
+            let first = read(Box::into_inner(first), parts, there, reading, oracle)?;
+            let second_side = setting.side_without(alloc, &f)?;
+            let elsewhere = setting.on(&second_side);
+            let second = read(Box::into_inner(second), parts, elsewhere, reading, oracle)?;
             joined(alloc, f, first, second)
         }
         State::Dead => Ok(State::Dead),
@@ -331,23 +360,45 @@ pub fn read<O: Oracle>(
     }
 }
 
+/// The token has been read in a part, behind which is this place, or is still to be read behind it: it is read in the node.
+fn read_behind<O: Oracle>(
+    state: State,
+    inner: Vec<Choice<Item>>,
+    place: Place,
+    parts: &mut Vec<Choice<Item>>,
+    setting: Setting,
+    reading: Reading,
+    oracle: &mut O,
+) -> Result<State, NoMemory>
+    ensures kept { O.admits oracle.new ≡ O.admits oracle.old }
+    ensures elsewhere { IfOk result (λ new. SameElsewhere setting.entry.here.now parts.old.items parts.new.items) }
+    ensures reads { IfOk result (λ new. ReadsAfter (O.admits oracle.old) setting.entry.path.now setting.entry.here.now (condition_of reading.entry.token.now.when) setting.entry.outer place reading.entry.terminal (seen_of reading.entry.number reading.entry.token.now) (stood state inner.items) (λ on. seen_in on parts.old.items) (stood new parts.new.items)) }
+{
+    let after = left(
+        reading.alloc,
+        state,
+        inner,
+        setting.path,
+        &reading.token.when,
+    )?;
+    read_after(after, place, parts, setting, reading, oracle)
+}
+
 /// All alternatives stand at places where the token has this presence.
 fn read_alike(
     state: State,
     presence: Presence,
     parts: &mut Vec<Choice<Item>>,
-    outer: Option<Place>,
-    path: &[Formula],
-    here: &[Formula],
+    setting: Setting,
     reading: Reading,
 ) -> Result<State, NoMemory>
-    ensures elsewhere { IfOk result (λ new. SameElsewhere here.now parts.old.items parts.new.items) }
-    ensures reads { IfOk result (λ new. OnlyPlaces state → (admits : Condition) → IsPresence admits path.now (condition_of reading.entry.token.now.when) presence
-        → ReadsSo admits path.now here.now (condition_of reading.entry.token.now.when) outer reading.entry.terminal (seen_of reading.entry.number reading.entry.token.now) (stood state parts.old.items) (stood new parts.new.items)) }
+    ensures elsewhere { IfOk result (λ new. SameElsewhere setting.entry.here.now parts.old.items parts.new.items) }
+    ensures reads { IfOk result (λ new. OnlyPlaces state → (admits : Condition) → IsPresence admits setting.entry.path.now (condition_of reading.entry.token.now.when) presence
+        → ReadsSo admits setting.entry.path.now setting.entry.here.now (condition_of reading.entry.token.now.when) setting.entry.outer reading.entry.terminal (seen_of reading.entry.number reading.entry.token.now) (stood state parts.old.items) (stood new parts.new.items)) }
 {
     match presence {
-        Presence::Present => read_places(&state, parts, outer, path, here, reading),
-        Presence::Unsure => divided(state, parts, outer, path, here, reading),
+        Presence::Present => read_places(&state, parts, setting, reading),
+        Presence::Unsure => divided(state, parts, setting, reading),
         Presence::Absent => Ok(state),
     }
 }
@@ -358,15 +409,13 @@ fn read_after<O: Oracle>(
     after: After,
     place: Place,
     parts: &mut Vec<Choice<Item>>,
-    outer: Option<Place>,
-    path: &[Formula],
-    here: &[Formula],
+    setting: Setting,
     reading: Reading,
     oracle: &mut O,
 ) -> Result<State, NoMemory>
     ensures kept { O.admits oracle.new ≡ O.admits oracle.old }
-    ensures elsewhere { IfOk result (λ new. SameElsewhere here.now parts.old.items parts.new.items) }
-    ensures reads { IfOk result (λ new. ReadsAfter (O.admits oracle.old) path.now here.now (condition_of reading.entry.token.now.when) outer place reading.entry.terminal (seen_of reading.entry.number reading.entry.token.now) (becoming after) (λ on. seen_in on parts.old.items) (stood new parts.new.items)) }
+    ensures elsewhere { IfOk result (λ new. SameElsewhere setting.entry.here.now parts.old.items parts.new.items) }
+    ensures reads { IfOk result (λ new. ReadsAfter (O.admits oracle.old) setting.entry.path.now setting.entry.here.now (condition_of reading.entry.token.now.when) setting.entry.outer place reading.entry.terminal (seen_of reading.entry.number reading.entry.token.now) (becoming after) (λ on. seen_in on parts.old.items) (stood new parts.new.items)) }
 {
     let alloc = reading.alloc;
     match after {
@@ -374,39 +423,19 @@ fn read_after<O: Oracle>(
         After::Open(inner, rest) => Ok(State::In(place, inner, rest)),
         After::Whole(part, ended) => {
             let behind = back(place, ended);
-            push(parts, alloc, here, behind, part)?;
-            read_at(behind, true, parts, outer, path, here, reading, oracle)
+            push(parts, alloc, setting.here, behind, part)?;
+            read_at(behind, true, parts, setting, reading, oracle)
         }
-        After::Unbegun(around) => {
-            read_at(around, true, parts, outer, path, here, reading, oracle)
-        }
+        After::Unbegun(around) => read_at(around, true, parts, setting, reading, oracle),
         After::Split(f, first, second) => {
-            let first_path = with(alloc, path, &f)?;
-            let first_here = with(alloc, here, &f)?;
+            let first_side = setting.side_with(alloc, &f)?;
+            let there = setting.on(&first_side);
             let first = Box::into_inner(first);
-            let first = read_after(
-                first,
-                place,
-                parts,
-                outer,
-                &first_path,
-                &first_here,
-                reading,
-                oracle,
-            )?;
-            let second_path = without(alloc, path, &f)?;
-            let second_here = without(alloc, here, &f)?;
+            let first = read_after(first, place, parts, there, reading, oracle)?;
+            let second_side = setting.side_without(alloc, &f)?;
+            let elsewhere = setting.on(&second_side);
             let second = Box::into_inner(second);
-            let second = read_after(
-                second,
-                place,
-                parts,
-                outer,
-                &second_path,
-                &second_here,
-                reading,
-                oracle,
-            )?;
+            let second = read_after(second, place, parts, elsewhere, reading, oracle)?;
             joined(alloc, f, first, second)
         }
     }
@@ -449,21 +478,21 @@ fn split_presence<O: Oracle>(
     f: &Formula,
     first: &State,
     second: &State,
-    path: &[Formula],
+    setting: Setting,
     reading: Reading,
     oracle: &mut O,
 ) -> Result<Option<Presence>, NoMemory>
     ensures kept { O.admits oracle.new ≡ O.admits oracle.old }
-    ensures presence { IfOk result (λ found. IfSome found (IsPresence (O.admits oracle.old) path.now (condition_of reading.entry.token.now.when))) }
+    ensures presence { IfOk result (λ found. IfSome found (IsPresence (O.admits oracle.old) setting.entry.path.now (condition_of reading.entry.token.now.when))) }
     ensures places { IfOk result (λ found. IfSome found (λ presence. OnlyPlaces first.now × OnlyPlaces second.now)) }
 {
     let alloc = reading.alloc;
-    let first_path = with(alloc, path, f)?;
+    let first_path = with(alloc, setting.path, f)?;
     let there = all_presence(first, &first_path, reading, oracle)?;
     if there.is_none() {
         return Ok(None);
     }
-    let second_path = without(alloc, path, f)?;
+    let second_path = without(alloc, setting.path, f)?;
     let otherwise = all_presence(second, &second_path, reading, oracle)?;
     Ok(same_presence(there, otherwise))
 }
@@ -484,19 +513,16 @@ fn same_presence(first: Option<Presence>, second: Option<Presence>) -> Option<Pr
 fn divided(
     state: State,
     parts: &mut Vec<Choice<Item>>,
-    outer: Option<Place>,
-    path: &[Formula],
-    here: &[Formula],
+    setting: Setting,
     reading: Reading,
 ) -> Result<State, NoMemory>
-    ensures elsewhere { IfOk result (λ new. SameElsewhere here.now parts.old.items parts.new.items) }
-    ensures reads { IfOk result (λ new. OnlyPlaces state → ReadsOn path.now here.now (condition_of reading.entry.token.now.when) outer reading.entry.terminal (seen_of reading.entry.number reading.entry.token.now) (stood state parts.old.items) (stood new parts.new.items)) }
+    ensures elsewhere { IfOk result (λ new. SameElsewhere setting.entry.here.now parts.old.items parts.new.items) }
+    ensures reads { IfOk result (λ new. OnlyPlaces state → ReadsOn setting.entry.path.now setting.entry.here.now (condition_of reading.entry.token.now.when) setting.entry.outer reading.entry.terminal (seen_of reading.entry.number reading.entry.token.now) (stood state parts.old.items) (stood new parts.new.items)) }
 {
     let alloc = reading.alloc;
-    let when = left_of(alloc, &reading.token.when, path)?;
-    let path_there = with(alloc, path, &when)?;
-    let here_there = with(alloc, here, &when)?;
-    let there = read_places(&state, parts, outer, &path_there, &here_there, reading)?;
+    let when = left_of(alloc, &reading.token.when, setting.path)?;
+    let side = setting.side_with(alloc, &when)?;
+    let there = read_places(&state, parts, setting.on(&side), reading)?;
     let otherwise = asked_again(alloc, state)?;
     joined(alloc, when, there, otherwise)
 }
@@ -525,19 +551,17 @@ fn asked_again(alloc: Global, state: State) -> Result<State, NoMemory>
 fn read_places(
     state: &State,
     parts: &mut Vec<Choice<Item>>,
-    outer: Option<Place>,
-    path: &[Formula],
-    here: &[Formula],
+    setting: Setting,
     reading: Reading,
 ) -> Result<State, NoMemory>
-    ensures elsewhere { IfOk result (λ new. SameElsewhere here.now parts.old.items parts.new.items) }
-    ensures reads { IfOk result (λ new. ReadsPlaces state.now path.now here.now outer reading.entry.terminal (seen_of reading.entry.number reading.entry.token.now) (stood state.now parts.old.items) (stood new parts.new.items)) }
+    ensures elsewhere { IfOk result (λ new. SameElsewhere setting.entry.here.now parts.old.items parts.new.items) }
+    ensures reads { IfOk result (λ new. ReadsPlaces state.now setting.entry.path.now setting.entry.here.now setting.entry.outer reading.entry.terminal (seen_of reading.entry.number reading.entry.token.now) (stood state.now parts.old.items) (stood new parts.new.items)) }
 {
     if pushes_alike(state, reading.terminal) {
-        push_token(parts, here, Place::InTexts, reading)?;
+        push_token(parts, setting.here, Place::InTexts, reading)?;
         moved(state, reading)
     } else {
-        read_each(state, parts, outer, path, here, reading)
+        read_each(state, parts, setting, reading)
     }
 }
 
@@ -545,24 +569,22 @@ fn read_places(
 fn read_each(
     state: &State,
     parts: &mut Vec<Choice<Item>>,
-    outer: Option<Place>,
-    path: &[Formula],
-    here: &[Formula],
+    setting: Setting,
     reading: Reading,
 ) -> Result<State, NoMemory>
-    ensures elsewhere { IfOk result (λ new. SameElsewhere here.now parts.old.items parts.new.items) }
-    ensures reads { IfOk result (λ new. ReadsPlaces state.now path.now here.now outer reading.entry.terminal (seen_of reading.entry.number reading.entry.token.now) (stood state.now parts.old.items) (stood new parts.new.items)) }
+    ensures elsewhere { IfOk result (λ new. SameElsewhere setting.entry.here.now parts.old.items parts.new.items) }
+    ensures reads { IfOk result (λ new. ReadsPlaces state.now setting.entry.path.now setting.entry.here.now setting.entry.outer reading.entry.terminal (seen_of reading.entry.number reading.entry.token.now) (stood state.now parts.old.items) (stood new parts.new.items)) }
 {
     let alloc = reading.alloc;
     match state {
-        State::At(place, _) => read_there(*place, parts, outer, path, here, reading),
+        State::At(place, _) => read_there(*place, parts, setting, reading),
         State::Split(f, first, second) => {
-            let first_path = with(alloc, path, f)?;
-            let first_here = with(alloc, here, f)?;
-            let first = read_each(first, parts, outer, &first_path, &first_here, reading)?;
-            let second_path = without(alloc, path, f)?;
-            let second_here = without(alloc, here, f)?;
-            let second = read_each(second, parts, outer, &second_path, &second_here, reading)?;
+            let first_side = setting.side_with(alloc, f)?;
+            let there = setting.on(&first_side);
+            let first = read_each(first, parts, there, reading)?;
+            let second_side = setting.side_without(alloc, f)?;
+            let elsewhere = setting.on(&second_side);
+            let second = read_each(second, parts, elsewhere, reading)?;
             joined(alloc, f.try_clone(alloc)?, first, second)
         }
         State::Dead => Ok(State::Dead),
