@@ -1,7 +1,7 @@
 #!/usr/bin/env bash
 # Runs the whole gate from nothing on a clone of what is committed, and prints what it costs: by
 # crate the processor seconds of its proof, of the second proof that its must-fail edits begin with,
-# of the edits and of its tests, and the sums for 1,000 lines of src; then, for the dearest libraries, the
+# of the edits and of its tests, and the sums for 1,000 lines of src; then, for the dearest crates, the
 # base of a check: of one that proves no function. Ends with 1 where the gate is not green or a bar is
 # missed. Takes as long as the gate; nothing else should run meanwhile. What is shown by crate is
 # sampled each second, and leaves out what copies of the prover took that lived for less; the sum of all
@@ -86,7 +86,7 @@ sample() {
       crate=$(printf '%s\n' "${words[@]}" | sed -n '/^--crate-name$/{n;p;q}')
       [ -n "$crate" ] || continue
       task[$pid]="$crate $(stage "${words[*]}" "$folder")"
-      [ "${task[$pid]}" = "$crate proof" ] && [ "${words[1]}" = build ] && note_call "$crate"
+      case "${task[$pid]} ${words[*]}" in "$crate proof "*' --statements '* | "$crate proof "*' check '*) note_call "$crate" ;; esac
     fi
     rest=(${stat##*) })
     spent[$pid]=$((rest[11] + rest[12]))

@@ -8,9 +8,9 @@ ghost use Rattle.choice_trees.proofs.Depths.{choices_depth};
 ghost use Rattle.choice_variants.specs.Variants.{shown, AreAllLow};
 
 use crate::alternatives::extended;
-use crate::parts::{Variant, is_needed};
+use crate::parts::Variant;
 use c_tree::Kind;
-use choice_trees::{Choice, Item};
+use choice_trees::{Choice, Item, needs_statement};
 use cond_formula::{Formula, NoMemory, Oracle};
 use std::alloc::Global;
 
@@ -33,7 +33,7 @@ pub fn variants<'a, O: Oracle>(
         parts: Vec::new(alloc),
     })?;
     for (place, part) in parts.iter().enumerate() {
-        all = extended(alloc, is_needed(kind, place), part, &all, oracle)?;
+        all = extended(alloc, needs_statement(kind, place), part, &all, oracle)?;
     }
     Ok(all)
 }

@@ -1,10 +1,9 @@
 //! Parts of nodes, and lists of them that go on.
 ghost use Rattle.std.specs.Prelude.{◌≡◌, ℕ, Bool, None, IfOk};
 ghost use Rattle.c_tree.specs.Trees.{PlainTrees};
-ghost use Rattle.choice_trees.specs.ChoiceTrees.{needs_statement, with_part};
+ghost use Rattle.choice_trees.specs.ChoiceTrees.{with_part};
 ghost use Rattle.choice_variants.specs.Variants.{before, perhaps_before, AreLow, IsLowIfAny};
 
-use c_tree::Kind;
 use choice_trees::Item;
 use cond_formula::{Formula, NoMemory};
 use std::alloc::Global;
@@ -22,18 +21,6 @@ pub enum Part<'a> {
 pub struct Variant<'a> {
     pub when: Formula,
     pub parts: Vec<Part<'a>>,
-}
-
-/// Whether the part of a node with this place, from 0, is a statement that the grammar doesn't leave out.
-pub(crate) fn is_needed(kind: Kind, place: usize) -> bool
-    ensures { result ≡ needs_statement kind place }
-{
-    match kind {
-        Kind::If | Kind::While => place == 4,
-        Kind::Else | Kind::Do => place == 1,
-        Kind::For => place == 7,
-        _ => false,
-    }
 }
 
 /// What stands for a part of which no alternative holds.

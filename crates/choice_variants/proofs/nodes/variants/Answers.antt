@@ -29,10 +29,10 @@ loop-place-preserved g c = record {
       (parts_at (has n) c.args.kind (c.loop-place.place + 1) (plain_choices (drop (c.loop-place.place + 1) c.args.parts.now)))
       (ap (value (has n)) c.loop-place.invariant.kept ∙ admitted)
       (subst (λ all. Stands (has n) (parts_at (has n) c.args.kind 0 (plain_choices c.args.parts.now))
-      (followed (has n) (with_part c.is_needed.result (branch_at (has n) (plain_branches c.index-parts-place.result.branches.items))
+      (followed (has n) (with_part c.needs_statement.result (branch_at (has n) (plain_branches c.index-parts-place.result.branches.items))
       (parts_at (has n) c.args.kind (c.loop-place.place + 1) (plain_choices (drop (c.loop-place.place + 1) c.args.parts.now)))) all)) (sym c.deref.ensures.value)
       (subst (λ rest. Stands (has n) (parts_at (has n) c.args.kind 0 (plain_choices c.args.parts.now)) (followed (has n) rest c.loop-place.all.items))
-      (next_part (has n) c.args.kind c.args.parts.now c.loop-place.place c.index-parts-place.result c.is_needed.result c.loop-place-test.true c.index-parts-place.is c.is_needed.ensures)
+      (next_part (has n) c.args.kind c.args.parts.now c.loop-place.place c.index-parts-place.result c.needs_statement.result c.loop-place-test.true c.index-parts-place.is c.needs_statement.ensures)
       (c.loop-place.invariant.stands n admitted)));
   low =
       c.in_ok-all-2.ensures.low (choices_depth (plain_choices c.args.parts.now))
