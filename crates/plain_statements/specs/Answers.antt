@@ -21,15 +21,12 @@ use Rattle.plain_declarators.specs.Sequences.{gives_of, gives_as, refused_of}
 use Rattle.core_meaning.specs.declared.statements.Item.{Item}
 use Rattle.core_meaning.specs.declared.statements.Statement.{Statement}
 use Rattle.core_meaning.specs.Plain.{plain_item}
-use Rattle.plain_statements.specs.Blocks.{put}
-use Rattle.plain_statements.specs.PlainJudged.{boxed_statement, plain_item_of, plain_judged}
+use Rattle.plain_simple_statements.specs.Blocks.{put}
+use Rattle.plain_simple_statements.specs.PlainStatements.{boxed_statement}
+use Rattle.plain_statements.specs.PlainJudged.{plain_item_of, plain_judged}
 use Rattle.plain_statements.specs.Steps.{block_of, keeping, JudgedItem, declaration_in, started_item, begun_by, begun_for}
 
 -- ---- answers
-
--- the same judgement has the same answer
-pub judges_as : {A X : Type 0} (c d : Checked A) (plain : X → A) (before after : Used) (result : Result X ElabError) → c ≡ d → Judges d plain before after result → Judges c plain before after result
-judges_as c d plain before after result is = subst (λ (e : Checked _). Judges e plain before after result) (sym is)
 
 -- a statement that takes no slots
 pub keeping_judges : (c : Checked PlainStatement) (slots : List CType) (before after : Used) (result : Result (Box Statement Global) ElabError) → Judges c boxed_statement before after result → Judges (keeping (map plain_type slots) c) (plain_judged slots) before after result

@@ -17,9 +17,10 @@ use Rattle.plain_declarators.specs.Progress.{Continues, continues_from, continue
 use Rattle.std.proofs.Math.Seq.{drop-cons}
 use Rattle.std.proofs.Math.ListN.{drop_of_length-le}
 use Rattle.core_meaning.specs.Plain.{items_from}
-use Rattle.plain_statements.specs.Blocks.{put, placed, put_both, put_all, put_locals}
+use Rattle.plain_simple_statements.specs.Blocks.{put, placed, put_both, put_all, put_locals}
 use Rattle.plain_scope.specs.Bindings.{regroup}
-use Rattle.plain_statements.specs.Steps.{around_of, JudgedItem, locals_item, single_item, item_of, with_item, evaluated_item}
+use Rattle.plain_simple_statements.specs.Simple.{around_of}
+use Rattle.plain_statements.specs.Steps.{JudgedItem, locals_item, single_item, item_of, with_item, evaluated_item}
 
 -- ---- items
 

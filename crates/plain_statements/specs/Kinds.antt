@@ -11,9 +11,10 @@ use Rattle.core_meaning.specs.Checking.{Checked, ◌>>=◌, give}
 use Rattle.core_meaning.specs.Expressions.{judged_condition}
 use Rattle.core_meaning.specs.Declarations.{Locals, judged_locals}
 use Rattle.core_meaning.specs.Statements.{Around, Judged, in_block, within_loop, before_items, nothing_to_do, discarded, condition_or_true, expression_statement, loop_of, judged_statement, judged_else}
-use Rattle.plain_statements.specs.Laws.{returned_law}
+use Rattle.plain_simple_statements.specs.Laws.{returned_law}
 use Rattle.plain_scope.specs.Bindings.{regroup, then_then, then_same}
-use Rattle.plain_statements.specs.Steps.{block_of, Begun, expression_in, jump_in, return_in, simple_of, keeping, with_else, branches_of, while_of, do_of, for_of, JudgedItem, begun_block, turns_behind, for_by}
+use Rattle.plain_simple_statements.specs.Simple.{expression_in, jump_in, return_in, simple_of}
+use Rattle.plain_statements.specs.Steps.{block_of, Begun, keeping, with_else, branches_of, while_of, do_of, for_of, JudgedItem, begun_block, turns_behind, for_by}
 
 -- ---- statements that take no slots
 

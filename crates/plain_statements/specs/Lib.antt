@@ -1,7 +1,5 @@
-pub mod Blocks
 pub mod Steps
 pub mod PlainJudged
-pub mod Laws
 pub mod Kinds
 pub mod Answers
 pub mod Within

@@ -5,17 +5,14 @@ use Rattle.c_types.specs.Types.{plain_type}
 use Rattle.c_types.specs.declared.types.CType.{CType}
 use Rattle.core_meaning.specs.declared.statements.Item.{Item}
 use Rattle.core_meaning.specs.declared.statements.Statement.{Statement}
-use Rattle.core_meaning.specs.Program.{PlainStatement}
-use Rattle.core_meaning.specs.Plain.{plain_expression, plain_item, plain_items, plain_statement}
+use Rattle.core_meaning.specs.Plain.{plain_expression, plain_item, plain_items}
 use Rattle.core_meaning.specs.Statements.{Judged, JudgedItems, judged_as, items_as}
 use Rattle.plain_scope.specs.declared.entities.Scope.{Scope}
 use Rattle.plain_scope.specs.PlainScope.{plain_scope}
-use Rattle.plain_statements.specs.Blocks.{put}
+use Rattle.plain_simple_statements.specs.Blocks.{put}
+use Rattle.plain_simple_statements.specs.PlainStatements.{boxed_statement}
 use Rattle.plain_statements.specs.Steps.{Begun, JudgedItem}
-use Rattle.plain_statements.specs.declared.cores.Begun as code
-
-abbrev pub boxed_statement : Box Statement Global → PlainStatement
-boxed_statement s = plain_statement s.value
+use Rattle.plain_simple_statements.specs.declared.cores.Begun as code
 
 -- a statement, with the slots so far
 abbrev pub plain_judged : List CType → Box Statement Global → Judged

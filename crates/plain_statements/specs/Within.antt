@@ -14,7 +14,8 @@ use Rattle.plain_scope.specs.Blocks.{with_block}
 use Rattle.plain_scope.specs.Judgements.{Gives, RefusedAs}
 use Rattle.plain_scope.specs.JudgementLaws.{gives_then, refused_first}
 use Rattle.plain_declarators.specs.Sequences.{gives_of, gives_as, refused_of, refused_behind}
-use Rattle.plain_statements.specs.Steps.{around_of, block_of, Begun, begun_if, with_else, branches_of, while_of, do_of, for_of, JudgedItem, begun_for, begun_block, turns_behind, for_by}
+use Rattle.plain_simple_statements.specs.Simple.{around_of}
+use Rattle.plain_statements.specs.Steps.{block_of, Begun, begun_if, with_else, branches_of, while_of, do_of, for_of, JudgedItem, begun_for, begun_block, turns_behind, for_by}
 
 -- ---- statements within statements
 

@@ -1,8 +1,6 @@
 //! Statements and blocks (ISO/IEC 9899:2011, 6.8).
 #![tactic(auto)]
 
-mod cores;
-mod simple;
 mod starts;
 mod statements;
 

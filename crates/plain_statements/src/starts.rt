@@ -1,23 +1,24 @@
 //! Declarations among the items of blocks, and what a `for` begins with (6.8.2, 6.8.5).
-ghost use Rattle.std.specs.Prelude.{◌≡◌, map, OnOk, option_map};
+ghost use Rattle.std.specs.Prelude.{◌≡◌, map, IfOk, OnOk, option_map};
 ghost use Rattle.c_types.specs.Types.{plain_type};
 ghost use Rattle.c_tree.specs.Trees.{node, plain_tree, plain_trees};
 ghost use Rattle.core_meaning.specs.Plain.{plain_item};
 ghost use Rattle.plain_scope.specs.Blocks.{with_block, without_block};
 ghost use Rattle.plain_scope.specs.PlainScope.{plain_scope};
 ghost use Rattle.plain_scope.specs.Judgements.{Judges};
-ghost use Rattle.plain_statements.specs.Blocks.{put};
+ghost use Rattle.plain_declarations.specs.PlainLocals.{plain_local_item};
+ghost use Rattle.plain_simple_statements.specs.Blocks.{placed, put};
 ghost use Rattle.plain_statements.specs.PlainJudged.{plain_item_of};
 ghost use Rattle.plain_statements.specs.Steps.{declaration_in, locals_item, evaluated_item, started_item, begun_for, behind_for};
 
-use crate::cores::{items_of, single};
-use crate::simple::expression_statement;
 use c_tree::{Kind, Tree};
 use c_types::CType;
+use cond_formula::NoMemory;
 use core_meaning::Item;
-use plain_declarations::declared_locals;
+use plain_declarations::{LocalItem, declared_locals};
 use plain_declarators::two_parts;
 use plain_scope::{ElabError, Scope, Used};
+use plain_simple_statements::{expression_statement, single};
 use std::alloc::Global;
 
 /// The parts of a declaration.
@@ -32,6 +33,25 @@ pub fn declaration_in(tree: &Tree) -> Option<&[Tree]>
         Kind::LocalDeclaration => Some(parts),
         _ => None,
     }
+}
+
+#[tactic(auto, using(core_meaning::specs::PlainLaws::statement_kinds))]
+fn item_of(local: LocalItem) -> Item
+    ensures { plain_item result ≡ placed (plain_local_item local) }
+{
+    let LocalItem { slot, parts } = local;
+    Item::Local { slot, parts }
+}
+
+/// Declared locals as items.
+fn items_of(alloc: Global, declared: Vec<LocalItem>) -> Result<Vec<Item>, NoMemory>
+    ensures { IfOk result (λ items. map plain_item items.items ≡ map placed (map plain_local_item declared.items)) }
+{
+    let mut items = Vec::new(alloc);
+    for local in declared {
+        items.push(item_of(local))?;
+    }
+    Ok(items)
 }
 
 pub fn locals_item(

@@ -8,12 +8,9 @@ ghost use Rattle.plain_scope.specs.Blocks.{without_block};
 ghost use Rattle.plain_scope.specs.PlainScope.{plain_scope};
 ghost use Rattle.plain_scope.specs.Judgements.{Judges};
 ghost use Rattle.plain_statements.specs.PlainJudged.{plain_begun, plain_item_of, plain_judged, plain_judged_items};
-ghost use Rattle.plain_statements.specs.Steps.{around_of, block_of, begun_if, while_of, do_of, for_of, for_by, single_item, item_of};
+ghost use Rattle.plain_simple_statements.specs.Simple.{around_of};
+ghost use Rattle.plain_statements.specs.Steps.{block_of, begun_if, while_of, do_of, for_of, for_by, single_item, item_of};
 
-use crate::cores::{
-    Begun, as_block, behind_items, joined, looped, plainly_looped, selected, single,
-};
-use crate::simple::{condition_or_true, discarded, nothing, simple};
 use crate::starts::{begun_for, declaration_in, end_for, locals_item};
 use c_text::Token;
 use c_tree::{Kind, Tree};
@@ -21,6 +18,10 @@ use c_types::CType;
 use core_meaning::{Item, Statement};
 use plain_expressions::condition;
 use plain_scope::{ElabError, Scope, Used, leaf};
+use plain_simple_statements::{
+    Begun, as_block, behind_items, condition_or_true, discarded, joined, looped, nothing,
+    plainly_looped, selected, simple, single,
+};
 use std::alloc::Global;
 
 // ---- loops

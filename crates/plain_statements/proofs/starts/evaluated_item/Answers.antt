@@ -7,8 +7,8 @@ use Rattle.core_meaning.specs.Statements.{expression_statement}
 use Rattle.plain_scope.specs.PlainScope.{plain_scope, uses_of}
 use Rattle.plain_scope.specs.Judgements.{RefusedAs}
 use Rattle.plain_scope.specs.JudgementLaws.{refused_first}
-use Rattle.plain_statements.specs.Blocks.{put}
-use Rattle.plain_statements.specs.PlainJudged.{boxed_statement}
+use Rattle.plain_simple_statements.specs.Blocks.{put}
+use Rattle.plain_simple_statements.specs.PlainStatements.{boxed_statement}
 use Rattle.plain_statements.specs.Items.{evaluated_given}
 use Rattle.plain_statements.specs.Steps.{evaluated_item}
 use Rattle.plain_statements.proofs.starts.evaluated_item.Goals as goal

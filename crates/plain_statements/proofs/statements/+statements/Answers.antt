@@ -15,11 +15,14 @@ use Rattle.plain_scope.specs.Judgements.{RefusedAs}
 use Rattle.plain_scope.specs.JudgementLaws.{refused_first}
 use Rattle.plain_declarators.specs.Sequences.{gives_of, refused_of}
 use Rattle.plain_operands.specs.PlainOperands.{boxed_expression}
-use Rattle.plain_statements.specs.Blocks.{put}
-use Rattle.plain_statements.specs.PlainJudged.{boxed_statement, plain_begun, plain_item_of, plain_judged, plain_judged_items}
-use Rattle.plain_statements.specs.Steps.{around_of, begun_if, with_else, block_of, branches_of, while_of, do_of, for_of, for_by, begun_for, turns_behind, single_item, simple_of, keeping}
+use Rattle.plain_simple_statements.specs.Blocks.{put}
+use Rattle.plain_simple_statements.specs.PlainStatements.{boxed_statement}
+use Rattle.plain_statements.specs.PlainJudged.{plain_begun, plain_item_of, plain_judged, plain_judged_items}
+use Rattle.plain_simple_statements.specs.Simple.{around_of, simple_of}
+use Rattle.plain_statements.specs.Steps.{begun_if, with_else, block_of, branches_of, while_of, do_of, for_of, for_by, begun_for, turns_behind, single_item, keeping}
 use Rattle.plain_statements.specs.Kinds.{simple_law, else_slice, block_slice, while_slice, do_slice, selection_slice, for_slice}
-use Rattle.plain_statements.specs.Answers.{judges_as, keeping_judges, absent_block, absent_else}
+use Rattle.plain_expressions.proofs.Answering.{judges_as}
+use Rattle.plain_statements.specs.Answers.{keeping_judges, absent_block, absent_else}
 use Rattle.plain_statements.specs.Within.{block_refused, block_given, begun_refused, begun_given, branches_refused, branches_given, do_refused, do_given, while_refused, while_given, step_refused, turns_refused, turns_given, for_refused, for_given}
 use Rattle.plain_statements.specs.Items.{single_given, items_begin, items_continue, items_refused, items_done}
 use Rattle.plain_statements.proofs.statements.+statements.Goals as goal

@@ -6,8 +6,8 @@ use Rattle.core_meaning.specs.Statements.{items_as, judged_items}
 use Rattle.plain_scope.specs.Blocks.{without_block}
 use Rattle.plain_scope.specs.PlainScope.{plain_scope, uses_of}
 use Rattle.plain_declarators.specs.Progress.{Continues}
-use Rattle.plain_statements.specs.Blocks.{put}
-use Rattle.plain_statements.specs.Steps.{around_of}
+use Rattle.plain_simple_statements.specs.Blocks.{put}
+use Rattle.plain_simple_statements.specs.Simple.{around_of}
 use Rattle.plain_statements.proofs.statements.+statements.Given as goal
 
 abbrev pub invariant-statement_items-loop-tree : goal.invariant-statement_items-loop-tree

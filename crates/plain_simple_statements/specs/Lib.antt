@@ -1,0 +1,4 @@
+pub mod Blocks
+pub mod Simple
+pub mod PlainStatements
+pub mod Laws

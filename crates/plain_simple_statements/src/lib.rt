@@ -1,0 +1,8 @@
+//! Statements without statements in them, and core statements from their parts (ISO/IEC 9899:2011, 6.8.3, 6.8.6).
+#![tactic(auto)]
+
+mod cores;
+mod standalone;
+
+pub use cores::{Begun, as_block, behind_items, joined, looped, plainly_looped, selected, single};
+pub use standalone::{condition_or_true, discarded, expression_statement, nothing, simple};
