@@ -1,5 +1,5 @@
 -- Answers of judgements, from those of other ones.
-use Rattle.std.proofs.Common.{◌≡◌, ℕ, Bool, List, map, refl, sym, ap, subst}
+use Rattle.std.proofs.Common.{◌≡◌, ℕ, Bool, List, map, refl, sym, ap}
 use Rattle.std.specs.Prelude.{Box, None, Result, Ok, Err, Vec}
 use Rattle.std.specs.declared.alloc.Global.{Global}
 use Rattle.c_types.specs.Types.{PlainType, plain_type}

@@ -1,5 +1,5 @@
 -- The first steps in judging the declarators of a declaration at file scope.
-use Rattle.std.proofs.Common.{◌≡◌, ℕ, refl, ap, ◌∙◌}
+use Rattle.std.proofs.Common.{ℕ}
 use Rattle.std.specs.Prelude.{Option, Some, None, if◌then◌else◌}
 use Rattle.c_text.specs.Token.{PlainToken}
 use Rattle.c_types.specs.Types.{PlainType}
@@ -10,7 +10,7 @@ use Rattle.c_tree.specs.Trees.{PlainTree, PlainTrees, none, more}
 use Rattle.core_meaning.specs.Checking.{Checked, broken}
 use Rattle.core_meaning.specs.UnitNames.{UnitState, Storage, declared_function, declared_object, declared_one}
 use Rattle.plain_scope.specs.Parts.{is_word}
-use Rattle.plain_declarations.specs.Locals.{first_size, initialiser_by}
+use Rattle.plain_declarations.specs.Locals.{initialiser_by}
 
 -- a function or an object, by the kind of its declarator
 abbrev pub declared_by_kind : ℕ → UnitState → Storage → PlainType → Kind → PlainTrees → PlainToken → Option PlainTree → PlainTrees → Checked UnitState

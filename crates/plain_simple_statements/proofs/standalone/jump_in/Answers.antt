@@ -1,5 +1,5 @@
 use Rattle.std.proofs.Common.{◌≡◌, ap, sym, subst, ◌∙◌}
-use Rattle.c_text.specs.Token.{PlainToken, plain_token}
+use Rattle.c_text.specs.Token.{plain_token}
 use Rattle.c_tree.specs.Trees.{PlainTree, none, more, plain_tree, plain_trees}
 use Rattle.core_meaning.specs.Program.{PlainStatement}
 use Rattle.core_meaning.specs.Checking.{Checked}

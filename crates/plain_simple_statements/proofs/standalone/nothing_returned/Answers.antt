@@ -1,4 +1,4 @@
-use Rattle.std.proofs.Common.{◌≡◌, true, ap, sym, ◌∙◌, rules}
+use Rattle.std.proofs.Common.{ap, sym, ◌∙◌, rules}
 use Rattle.c_text.specs.Token.{PlainToken, plain_token}
 use Rattle.c_types.specs.Types.{PlainType, plain_type}
 use Rattle.core_meaning.specs.declared.refusals.TypeKind.TheVariants.{Misplaced}

@@ -1,5 +1,5 @@
 use Rattle.std.proofs.Common.{map, rules}
-use Rattle.c_types.specs.Types.{PlainType, plain_type}
+use Rattle.c_types.specs.Types.{plain_type}
 use Rattle.c_tree.specs.Trees.{PlainTrees, plain_trees}
 use Rattle.core_meaning.specs.Checking.{give}
 use Rattle.core_meaning.specs.Declarations.{judged_locals}

@@ -6,7 +6,7 @@ use Rattle.c_tree.specs.declared.kinds.Kind.TheVariants as k
 use Rattle.c_tree.specs.Trees.{PlainTree, node, plain_tree, plain_trees}
 use Rattle.c_tree.specs.TreeLaws.{plain_tree-Node}
 use Rattle.core_meaning.specs.Plain.{plain_item}
-use Rattle.core_meaning.specs.Program.{PlainExpression, loop, statement_item}
+use Rattle.core_meaning.specs.Program.{statement_item}
 use Rattle.core_meaning.specs.Checking.{◌>>=◌, give}
 use Rattle.core_meaning.specs.Expressions.{judged_condition}
 use Rattle.core_meaning.specs.Statements.{nothing_to_do, discarded, condition_or_true, loop_of, judged_statement, judged_else, judged_items}

@@ -1,7 +1,7 @@
-use Rattle.std.proofs.Common.{◌≡◌, Bool, not, true, rules}
+use Rattle.std.proofs.Common.{◌≡◌, not, true, rules}
 use Rattle.std.proofs.lemmas.Result.{MatchResult-weaker}
 use Rattle.c_text.specs.Token.{PlainToken, plain_token}
-use Rattle.c_tree.specs.Trees.{PlainTrees, plain_trees}
+use Rattle.c_tree.specs.Trees.{plain_trees}
 use Rattle.core_meaning.specs.declared.refusals.TypeKind.TheVariants.{Redeclared}
 use Rattle.core_meaning.specs.Checking.{Checked}
 use Rattle.core_meaning.specs.Entities.{Scope}

@@ -1,10 +1,10 @@
 use Rattle.std.proofs.Common.{rules}
-use Rattle.std.specs.Prelude.{Option, option_map}
+use Rattle.std.specs.Prelude.{option_map}
 use Rattle.c_types.specs.Types.{PlainType, plain_type}
-use Rattle.c_tree.specs.Trees.{PlainTree, PlainTrees, plain_tree, plain_trees}
+use Rattle.c_tree.specs.Trees.{PlainTrees, plain_tree, plain_trees}
 use Rattle.core_meaning.specs.UnitNames.{UnitState, Storage, declared_one}
 use Rattle.plain_scope.specs.PlainScope.{uses_of}
-use Rattle.plain_scope.specs.Judgements.{Gives, RefusedAs}
+use Rattle.plain_scope.specs.Judgements.{RefusedAs}
 use Rattle.plain_declarators.specs.Sequences.{gives_of, refused_of}
 use Rattle.plain_objects.specs.PlainStates.{plain_state, plain_storage}
 use Rattle.plain_units.specs.Declarators.{First, first_as, declared_first}
