@@ -1,13 +1,15 @@
 //! Core statements from their parts.
-ghost use Rattle.std.specs.Prelude.{◌≡◌, ◌∷◌, ◌++◌, [], map, IfOk, OnOk};
+ghost use Rattle.std.specs.Prelude.{true, false, ◌≡◌, ◌∷◌, ◌++◌, [], map, IfOk, OnOk};
 ghost use Rattle.core_meaning.specs.declared.statements.Item.TheVariants as item_kind;
 ghost use Rattle.core_meaning.specs.Plain.{plain_expression, plain_item, plain_items, plain_statement};
 ghost use Rattle.core_meaning.specs.Program.{block, loop, selection, statement_item};
 ghost use Rattle.core_meaning.specs.Statements as spec;
 ghost use Rattle.plain_simple_statements.specs.Blocks.{put};
+ghost use Rattle.plain_simple_statements.specs.Handing.{HandsOn};
 
 use cond_formula::NoMemory;
 use core_meaning::{Expression, Item, Statement};
+use plain_scope::ElabError;
 use std::alloc::Global;
 
 /// A statement in a box of its own.
@@ -24,13 +26,8 @@ pub struct Begun {
     pub core: Box<Statement>,
 }
 
-/// A selection by what it begins with; its second statement does nothing where there is no `else`.
 #[tactic(auto, using(core_meaning::specs::PlainLaws::statement_kinds))]
-pub fn selected(
-    alloc: Global,
-    begun: Begun,
-    second: Box<Statement>,
-) -> Result<Box<Statement>, NoMemory>
+fn select(alloc: Global, begun: Begun, second: Box<Statement>) -> Result<Box<Statement>, NoMemory>
     ensures { IfOk result (λ s. plain_statement s.value ≡ selection (plain_expression begun.condition.value) (plain_statement begun.core.value) (plain_statement second.value)) }
 {
     let Begun { condition, core } = begun;
@@ -38,19 +35,31 @@ pub fn selected(
     boxed(alloc, Statement::If(condition, core, second))
 }
 
-/// A loop with a step behind each turn.
-#[tactic(auto, using(core_meaning::specs::PlainLaws::statement_kinds))]
-pub fn looped(
+/// A selection by what it begins with and the answer of its second statement, which does nothing where there is no `else`.
+pub fn selected(
     alloc: Global,
-    asks_first: bool,
+    begun: Begun,
+    second: Result<Box<Statement>, ElabError>,
+) -> Result<Box<Statement>, ElabError>
+    ensures { HandsOn second (λ second s. plain_statement s.value ≡ selection (plain_expression begun.condition.value) (plain_statement begun.core.value) (plain_statement second.value)) result }
+{
+    match second {
+        Ok(second) => Ok(select(alloc, begun, second)?),
+        Err(error) => Err(error),
+    }
+}
+
+#[tactic(auto, using(core_meaning::specs::PlainLaws::statement_kinds))]
+fn turn(
+    alloc: Global,
     condition: Box<Expression>,
     step: Box<Expression>,
     body: Box<Statement>,
 ) -> Result<Box<Statement>, NoMemory>
-    ensures { IfOk result (λ s. plain_statement s.value ≡ loop asks_first (plain_expression condition.value) (plain_expression step.value) (plain_statement body.value)) }
+    ensures { IfOk result (λ s. plain_statement s.value ≡ loop true (plain_expression condition.value) (plain_expression step.value) (plain_statement body.value)) }
 {
     let turns = Statement::Loop {
-        asks_first,
+        asks_first: true,
         condition: Box::into_inner(condition),
         step: Box::into_inner(step),
         body,
@@ -58,9 +67,23 @@ pub fn looped(
     boxed(alloc, turns)
 }
 
-/// A loop whose turns end with nothing to do.
+/// A loop with a step behind each turn, by the answer of its body.
+pub fn looped(
+    alloc: Global,
+    condition: Box<Expression>,
+    step: Box<Expression>,
+    body: Result<Box<Statement>, ElabError>,
+) -> Result<Box<Statement>, ElabError>
+    ensures { HandsOn body (λ body s. plain_statement s.value ≡ loop true (plain_expression condition.value) (plain_expression step.value) (plain_statement body.value)) result }
+{
+    match body {
+        Ok(body) => Ok(turn(alloc, condition, step, body)?),
+        Err(error) => Err(error),
+    }
+}
+
 #[tactic(auto, using(core_meaning::specs::PlainLaws::statement_kinds, core_meaning::specs::PlainLaws::expression_kinds))]
-pub fn plainly_looped(
+fn turn_plainly(
     alloc: Global,
     asks_first: bool,
     condition: Box<Expression>,
@@ -75,6 +98,34 @@ pub fn plainly_looped(
         body,
     };
     boxed(alloc, turns)
+}
+
+/// A loop that asks its condition first and whose turns end with nothing to do, by the answer of its body.
+pub fn asked_first(
+    alloc: Global,
+    condition: Box<Expression>,
+    body: Result<Box<Statement>, ElabError>,
+) -> Result<Box<Statement>, ElabError>
+    ensures { HandsOn body (λ body s. plain_statement s.value ≡ loop true (plain_expression condition.value) spec.nothing_to_do (plain_statement body.value)) result }
+{
+    match body {
+        Ok(body) => Ok(turn_plainly(alloc, true, condition, body)?),
+        Err(error) => Err(error),
+    }
+}
+
+/// A loop that asks its condition behind each turn, by the answer of the condition.
+pub fn asked_behind(
+    alloc: Global,
+    condition: Result<Box<Expression>, ElabError>,
+    body: Box<Statement>,
+) -> Result<Box<Statement>, ElabError>
+    ensures { HandsOn condition (λ condition s. plain_statement s.value ≡ loop false (plain_expression condition.value) spec.nothing_to_do (plain_statement body.value)) result }
+{
+    match condition {
+        Ok(condition) => Ok(turn_plainly(alloc, false, condition, body)?),
+        Err(error) => Err(error),
+    }
 }
 
 /// Items as the block that they fill.
@@ -114,9 +165,8 @@ pub fn joined(items: Vec<Item>, behind: Vec<Item>) -> Result<Vec<Item>, NoMemory
     Ok(all)
 }
 
-/// A `for` as the block of what it begins with and its turns.
 #[tactic(auto, using(core_meaning::specs::PlainLaws::statement_kinds, crate::specs::Blocks::block_behind))]
-pub fn behind_items(
+fn put_behind(
     alloc: Global,
     items: Vec<Item>,
     turns: Box<Statement>,
@@ -126,4 +176,18 @@ pub fn behind_items(
     let mut items = items;
     push_statement(&mut items, turns)?;
     boxed(alloc, Statement::Block(items))
+}
+
+/// A `for` as the block of what it begins with and its turns, by the answer of these.
+pub fn behind_items(
+    alloc: Global,
+    items: Vec<Item>,
+    turns: Result<Box<Statement>, ElabError>,
+) -> Result<Box<Statement>, ElabError>
+    ensures { HandsOn turns (λ turns s. plain_statement s.value ≡ block (put (map plain_item items.items) (spec.one_item (plain_statement turns.value)))) result }
+{
+    match turns {
+        Ok(turns) => Ok(put_behind(alloc, items, turns)?),
+        Err(error) => Err(error),
+    }
 }

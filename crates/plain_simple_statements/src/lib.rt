@@ -4,5 +4,7 @@
 mod cores;
 mod standalone;
 
-pub use cores::{Begun, as_block, behind_items, joined, looped, plainly_looped, selected, single};
+pub use cores::{
+    Begun, as_block, asked_behind, asked_first, behind_items, joined, looped, selected, single,
+};
 pub use standalone::{condition_or_true, discarded, expression_statement, nothing, simple};

@@ -19,8 +19,8 @@ use core_meaning::{Item, Statement};
 use plain_expressions::condition;
 use plain_scope::{ElabError, Scope, Used, leaf};
 use plain_simple_statements::{
-    Begun, as_block, behind_items, condition_or_true, discarded, joined, looped, nothing,
-    plainly_looped, selected, simple, single,
+    Begun, as_block, asked_behind, asked_first, behind_items, condition_or_true, discarded, joined,
+    looped, nothing, selected, simple, single,
 };
 use std::alloc::Global;
 
@@ -43,8 +43,11 @@ fn while_turns(
     ensures same { OnOk result (plain_scope scope.new ≡ plain_scope scope.old) }
 {
     let c = condition(alloc, scope, used, test, close)?;
-    let s = statement(alloc, scope, used, body, slots, returns, true)?;
-    Ok(plainly_looped(alloc, true, c, s)?)
+    asked_first(
+        alloc,
+        c,
+        statement(alloc, scope, used, body, slots, returns, true),
+    )
 }
 
 #[cycle(statements)]
@@ -86,8 +89,7 @@ fn do_turns(
     ensures same { OnOk result (plain_scope scope.new ≡ plain_scope scope.old) }
 {
     let s = statement(alloc, scope, used, body, slots, returns, true)?;
-    let c = condition(alloc, scope, used, test, close)?;
-    Ok(plainly_looped(alloc, false, c, s)?)
+    asked_behind(alloc, condition(alloc, scope, used, test, close), s)
 }
 
 #[cycle(statements)]
@@ -131,8 +133,12 @@ fn for_turns(
 {
     let c = condition_or_true(alloc, scope, used, test, end)?;
     let step = discarded(alloc, scope, used, step)?;
-    let s = statement(alloc, scope, used, body, slots, returns, true)?;
-    Ok(looped(alloc, true, c, step, s)?)
+    looped(
+        alloc,
+        c,
+        step,
+        statement(alloc, scope, used, body, slots, returns, true),
+    )
 }
 
 /// What a `for` begins with, and its turns; what it declares is visible in it alone (6.8.5).
@@ -156,9 +162,9 @@ fn begun_turns(
     let items = begun_for(alloc, scope, used, start, slots)?;
     let turns = for_turns(
         alloc, scope, used, body, test, end, step, slots, returns, in_loop,
-    )?;
+    );
     end_for(scope, start);
-    Ok(behind_items(alloc, items, turns)?)
+    behind_items(alloc, items, turns)
 }
 
 #[cycle(statements)]
@@ -270,8 +276,11 @@ fn selection(
     let begun = begun_if(
         alloc, scope, used, first, test, close, slots, returns, in_loop,
     )?;
-    let other = otherwise(alloc, scope, used, second, slots, returns, in_loop)?;
-    Ok(selected(alloc, begun, other)?)
+    selected(
+        alloc,
+        begun,
+        otherwise(alloc, scope, used, second, slots, returns, in_loop),
+    )
 }
 
 // ---- blocks

@@ -6,10 +6,10 @@ use Rattle.c_tree.specs.declared.kinds.Kind.TheVariants as k
 use Rattle.c_tree.specs.Trees.{PlainTree, node, plain_tree, plain_trees}
 use Rattle.c_tree.specs.TreeLaws.{plain_tree-Node}
 use Rattle.core_meaning.specs.Plain.{plain_item}
-use Rattle.core_meaning.specs.Program.{statement_item}
+use Rattle.core_meaning.specs.Program.{block, loop, selection, statement_item}
 use Rattle.core_meaning.specs.Checking.{◌>>=◌, give}
 use Rattle.core_meaning.specs.Expressions.{judged_condition}
-use Rattle.core_meaning.specs.Statements.{nothing_to_do, discarded, condition_or_true, loop_of, judged_statement, judged_else, judged_items}
+use Rattle.core_meaning.specs.Statements.{one_item, nothing_to_do, discarded, condition_or_true, loop_of, judged_statement, judged_else, judged_items}
 use Rattle.plain_scope.specs.PlainScope.{plain_scope, uses_of}
 use Rattle.plain_scope.specs.Judgements.{RefusedAs}
 use Rattle.plain_scope.specs.JudgementLaws.{refused_first}
@@ -17,9 +17,10 @@ use Rattle.plain_declarators.specs.Sequences.{gives_of, refused_of}
 use Rattle.plain_operands.specs.PlainOperands.{boxed_expression}
 use Rattle.plain_simple_statements.specs.Blocks.{put}
 use Rattle.plain_simple_statements.specs.PlainStatements.{boxed_statement}
+use Rattle.plain_simple_statements.specs.Handing.{judges_handed, on_ok_handed, on_ok_always}
 use Rattle.plain_statements.specs.PlainJudged.{plain_begun, plain_item_of, plain_judged, plain_judged_items}
 use Rattle.plain_simple_statements.specs.Simple.{around_of, simple_of}
-use Rattle.plain_statements.specs.Steps.{begun_if, with_else, block_of, branches_of, while_of, do_of, for_of, for_by, begun_for, turns_behind, single_item, keeping}
+use Rattle.plain_statements.specs.Steps.{begun_if, with_else, block_of, branches_of, while_of, do_of, for_of, for_by, begun_for, turns_behind, declaration_in, behind_for, single_item, keeping}
 use Rattle.plain_statements.specs.Kinds.{simple_law, else_slice, block_slice, while_slice, do_slice, selection_slice, for_slice}
 use Rattle.plain_expressions.proofs.Answering.{judges_as}
 use Rattle.plain_statements.specs.Answers.{keeping_judges, absent_block, absent_else}
@@ -184,31 +185,20 @@ statement_items-returns-clause-judged t c =
 
 -- ---- one judgement after another
 
-pub while_turns-returns-in_err-s-clause-judged : goal.while_turns-returns-in_err-s-clause-judged
-while_turns-returns-in_err-s-clause-judged t c =
-    let scope = plain_scope c.args.scope.now in
-    let returns = plain_type c.args.returns.now in
-    let slots = map plain_type c.args.slots.now.items in
-    let before = uses_of c.args.used.now in
-    let outer : RefusedAs (while_of (around_of scope returns c.args.in_loop) slots (plain_tree c.args.test.now) (plain_token c.args.close.now) (plain_tree c.args.body.now)) c.in_err-s.field-0.0 = while_refused scope returns c.args.in_loop slots (plain_tree c.args.test.now) (plain_token c.args.close.now) (plain_tree c.args.body.now) (boxed_expression c.in_ok-c.c) before (uses_of c.condition.new.used) c.in_err-s.field-0.0 c.in_ok-c.ensures c.in_err-s.ensures.judged in
-    search (rules, outer)
-
 pub while_turns-returns-clause-judged : goal.while_turns-returns-clause-judged
 while_turns-returns-clause-judged t c =
     let scope = plain_scope c.args.scope.now in
     let returns = plain_type c.args.returns.now in
     let slots = map plain_type c.args.slots.now.items in
     let before = uses_of c.args.used.now in
-    while_given scope returns c.args.in_loop slots (plain_tree c.args.test.now) (plain_token c.args.close.now) (plain_tree c.args.body.now) (boxed_expression c.in_ok-c.c) (plain_judged c.statement.new.slots.items c.in_ok-s.s) (boxed_statement c.in_ok-plainly_looped.field-0) before (uses_of c.condition.new.used) (uses_of c.statement.new.used) c.in_ok-c.ensures c.in_ok-s.ensures.judged c.in_ok-plainly_looped.ensures
+    judges_handed (judged_statement (around_of scope returns true) slots (plain_tree c.args.body.now)) (while_of (around_of scope returns c.args.in_loop) slots (plain_tree c.args.test.now) (plain_token c.args.close.now) (plain_tree c.args.body.now)) (plain_judged c.statement.new.slots.items) (plain_judged c.statement.new.slots.items) (λ body s. boxed_statement s ≡ loop true (boxed_expression c.in_ok-c.c) nothing_to_do (boxed_statement body)) c.args.used.now c.condition.new.used c.statement.new.used c.statement.result c.asked_first.result c.asked_first.ensures c.statement.ensures.judged
+    (λ body s is g. while_given scope returns c.args.in_loop slots (plain_tree c.args.test.now) (plain_token c.args.close.now) (plain_tree c.args.body.now) (boxed_expression c.in_ok-c.c) (plain_judged c.statement.new.slots.items body) (boxed_statement s) before (uses_of c.condition.new.used) (uses_of c.statement.new.used) c.in_ok-c.ensures g is)
+    (λ error r. while_refused scope returns c.args.in_loop slots (plain_tree c.args.test.now) (plain_token c.args.close.now) (plain_tree c.args.body.now) (boxed_expression c.in_ok-c.c) before (uses_of c.condition.new.used) error c.in_ok-c.ensures r)
 
-pub do_turns-returns-in_err-c-clause-judged : goal.do_turns-returns-in_err-c-clause-judged
-do_turns-returns-in_err-c-clause-judged t c =
-    let scope = plain_scope c.args.scope.now in
-    let returns = plain_type c.args.returns.now in
-    let slots = map plain_type c.args.slots.now.items in
-    let before = uses_of c.args.used.now in
-    let outer : RefusedAs (do_of (around_of scope returns c.args.in_loop) slots (plain_tree c.args.test.now) (plain_token c.args.close.now) (plain_tree c.args.body.now)) c.in_err-c.field-0.0 = do_refused scope (plain_scope c.statement.new.scope) returns c.args.in_loop slots (plain_tree c.args.test.now) (plain_token c.args.close.now) (plain_tree c.args.body.now) (plain_judged c.statement.new.slots.items c.in_ok-s.s) before (uses_of c.statement.new.used) c.in_err-c.field-0.0 c.in_ok-s.ensures.judged c.in_ok-s.ensures.same c.in_err-c.ensures in
-    search (rules, outer)
+pub while_turns-returns-clause-same : goal.while_turns-returns-clause-same
+while_turns-returns-clause-same t c =
+    let same : Type 0 = plain_scope c.statement.new.scope ≡ plain_scope c.args.scope.now in
+    on_ok_handed (λ body s. boxed_statement s ≡ loop true (boxed_expression c.in_ok-c.c) nothing_to_do (boxed_statement body)) same same c.statement.result c.asked_first.result c.asked_first.ensures c.statement.ensures.same (λ e. e)
 
 pub do_turns-returns-clause-judged : goal.do_turns-returns-clause-judged
 do_turns-returns-clause-judged t c =
@@ -216,7 +206,14 @@ do_turns-returns-clause-judged t c =
     let returns = plain_type c.args.returns.now in
     let slots = map plain_type c.args.slots.now.items in
     let before = uses_of c.args.used.now in
-    do_given scope (plain_scope c.statement.new.scope) returns c.args.in_loop slots (plain_tree c.args.test.now) (plain_token c.args.close.now) (plain_tree c.args.body.now) (plain_judged c.statement.new.slots.items c.in_ok-s.s) (boxed_expression c.in_ok-c.c) (boxed_statement c.in_ok-plainly_looped.field-0) before (uses_of c.statement.new.used) (uses_of c.condition.new.used) c.in_ok-s.ensures.judged c.in_ok-s.ensures.same c.in_ok-c.ensures c.in_ok-plainly_looped.ensures
+    let behind = plain_scope c.statement.new.scope in
+    let body = plain_judged c.statement.new.slots.items c.in_ok-s.s in
+    judges_handed (judged_condition behind (plain_tree c.args.test.now) (plain_token c.args.close.now)) (do_of (around_of scope returns c.args.in_loop) slots (plain_tree c.args.test.now) (plain_token c.args.close.now) (plain_tree c.args.body.now)) boxed_expression (plain_judged c.statement.new.slots.items) (λ test s. boxed_statement s ≡ loop false (boxed_expression test) nothing_to_do (boxed_statement c.in_ok-s.s)) c.args.used.now c.statement.new.used c.condition.new.used c.condition.result c.asked_behind.result c.asked_behind.ensures c.condition.ensures
+    (λ test s is g. do_given scope behind returns c.args.in_loop slots (plain_tree c.args.test.now) (plain_token c.args.close.now) (plain_tree c.args.body.now) body (boxed_expression test) (boxed_statement s) before (uses_of c.statement.new.used) (uses_of c.condition.new.used) c.in_ok-s.ensures.judged c.in_ok-s.ensures.same g is)
+    (λ error r. do_refused scope behind returns c.args.in_loop slots (plain_tree c.args.test.now) (plain_token c.args.close.now) (plain_tree c.args.body.now) body before (uses_of c.statement.new.used) error c.in_ok-s.ensures.judged c.in_ok-s.ensures.same r)
+
+pub do_turns-returns-clause-same : goal.do_turns-returns-clause-same
+do_turns-returns-clause-same t c = on_ok_always (plain_scope c.statement.new.scope ≡ plain_scope c.args.scope.now) c.asked_behind.result c.in_ok-s.ensures.same
 
 pub for_turns-returns-in_err-step-clause-judged : goal.for_turns-returns-in_err-step-clause-judged
 for_turns-returns-in_err-step-clause-judged t c =
@@ -227,31 +224,20 @@ for_turns-returns-in_err-step-clause-judged t c =
     let outer : RefusedAs (for_of (around_of scope returns c.args.in_loop) slots (plain_tree c.args.test.now) (plain_token c.args.end.now) (plain_tree c.args.step.now) (plain_tree c.args.body.now)) c.in_err-step.field-0.0 = step_refused scope returns c.args.in_loop slots (plain_tree c.args.test.now) (plain_token c.args.end.now) (plain_tree c.args.step.now) (plain_tree c.args.body.now) (boxed_expression c.in_ok-c.c) before (uses_of c.condition_or_true.new.used) c.in_err-step.field-0.0 c.in_ok-c.ensures c.in_err-step.ensures in
     search (rules, outer)
 
-pub for_turns-returns-in_err-s-clause-judged : goal.for_turns-returns-in_err-s-clause-judged
-for_turns-returns-in_err-s-clause-judged t c =
-    let scope = plain_scope c.args.scope.now in
-    let returns = plain_type c.args.returns.now in
-    let slots = map plain_type c.args.slots.now.items in
-    let before = uses_of c.args.used.now in
-    let outer : RefusedAs (for_of (around_of scope returns c.args.in_loop) slots (plain_tree c.args.test.now) (plain_token c.args.end.now) (plain_tree c.args.step.now) (plain_tree c.args.body.now)) c.in_err-s.field-0.0 = turns_refused scope returns c.args.in_loop slots (plain_tree c.args.test.now) (plain_token c.args.end.now) (plain_tree c.args.step.now) (plain_tree c.args.body.now) (boxed_expression c.in_ok-c.c) (boxed_expression c.in_ok-step.step) before (uses_of c.condition_or_true.new.used) (uses_of c.discarded.new.used) c.in_err-s.field-0.0 c.in_ok-c.ensures c.in_ok-step.ensures c.in_err-s.ensures.judged in
-    search (rules, outer)
-
 pub for_turns-returns-clause-judged : goal.for_turns-returns-clause-judged
 for_turns-returns-clause-judged t c =
     let scope = plain_scope c.args.scope.now in
     let returns = plain_type c.args.returns.now in
     let slots = map plain_type c.args.slots.now.items in
     let before = uses_of c.args.used.now in
-    turns_given scope returns c.args.in_loop slots (plain_tree c.args.test.now) (plain_token c.args.end.now) (plain_tree c.args.step.now) (plain_tree c.args.body.now) (boxed_expression c.in_ok-c.c) (boxed_expression c.in_ok-step.step) (plain_judged c.statement.new.slots.items c.in_ok-s.s) (boxed_statement c.in_ok-looped.field-0) before (uses_of c.condition_or_true.new.used) (uses_of c.discarded.new.used) (uses_of c.statement.new.used) c.in_ok-c.ensures c.in_ok-step.ensures c.in_ok-s.ensures.judged c.in_ok-looped.ensures
+    judges_handed (judged_statement (around_of scope returns true) slots (plain_tree c.args.body.now)) (for_of (around_of scope returns c.args.in_loop) slots (plain_tree c.args.test.now) (plain_token c.args.end.now) (plain_tree c.args.step.now) (plain_tree c.args.body.now)) (plain_judged c.statement.new.slots.items) (plain_judged c.statement.new.slots.items) (λ body s. boxed_statement s ≡ loop true (boxed_expression c.in_ok-c.c) (boxed_expression c.in_ok-step.step) (boxed_statement body)) c.args.used.now c.discarded.new.used c.statement.new.used c.statement.result c.looped.result c.looped.ensures c.statement.ensures.judged
+    (λ body s is g. turns_given scope returns c.args.in_loop slots (plain_tree c.args.test.now) (plain_token c.args.end.now) (plain_tree c.args.step.now) (plain_tree c.args.body.now) (boxed_expression c.in_ok-c.c) (boxed_expression c.in_ok-step.step) (plain_judged c.statement.new.slots.items body) (boxed_statement s) before (uses_of c.condition_or_true.new.used) (uses_of c.discarded.new.used) (uses_of c.statement.new.used) c.in_ok-c.ensures c.in_ok-step.ensures g is)
+    (λ error r. turns_refused scope returns c.args.in_loop slots (plain_tree c.args.test.now) (plain_token c.args.end.now) (plain_tree c.args.step.now) (plain_tree c.args.body.now) (boxed_expression c.in_ok-c.c) (boxed_expression c.in_ok-step.step) before (uses_of c.condition_or_true.new.used) (uses_of c.discarded.new.used) error c.in_ok-c.ensures c.in_ok-step.ensures r)
 
-pub begun_turns-returns-in_err-turns-clause-judged : goal.begun_turns-returns-in_err-turns-clause-judged
-begun_turns-returns-in_err-turns-clause-judged t c =
-    let scope = plain_scope c.args.scope.now in
-    let returns = plain_type c.args.returns.now in
-    let slots = map plain_type c.args.slots.now.items in
-    let before = uses_of c.args.used.now in
-    let outer : RefusedAs (for_by (around_of scope returns c.args.in_loop) slots (plain_tree c.args.start.now) (plain_tree c.args.test.now) (plain_token c.args.end.now) (plain_tree c.args.step.now) (plain_tree c.args.body.now)) c.in_err-turns.field-0.0 = for_refused scope returns c.args.in_loop slots (plain_tree c.args.start.now) (plain_tree c.args.test.now) (plain_token c.args.end.now) (plain_tree c.args.step.now) (plain_tree c.args.body.now) (plain_item_of c.begun_for.new.scope c.begun_for.new.slots.items c.in_ok-items.items.items) before (uses_of c.begun_for.new.used) c.in_err-turns.field-0.0 c.in_ok-items.ensures.judged c.in_err-turns.ensures.judged in
-    search (rules, outer)
+pub for_turns-returns-clause-same : goal.for_turns-returns-clause-same
+for_turns-returns-clause-same t c =
+    let same : Type 0 = plain_scope c.statement.new.scope ≡ plain_scope c.args.scope.now in
+    on_ok_handed (λ body s. boxed_statement s ≡ loop true (boxed_expression c.in_ok-c.c) (boxed_expression c.in_ok-step.step) (boxed_statement body)) same same c.statement.result c.looped.result c.looped.ensures c.statement.ensures.same (λ e. e)
 
 pub begun_turns-returns-clause-judged : goal.begun_turns-returns-clause-judged
 begun_turns-returns-clause-judged t c =
@@ -259,7 +245,16 @@ begun_turns-returns-clause-judged t c =
     let returns = plain_type c.args.returns.now in
     let slots = map plain_type c.args.slots.now.items in
     let before = uses_of c.args.used.now in
-    for_given scope returns c.args.in_loop slots (plain_tree c.args.start.now) (plain_tree c.args.test.now) (plain_token c.args.end.now) (plain_tree c.args.step.now) (plain_tree c.args.body.now) (plain_item_of c.begun_for.new.scope c.begun_for.new.slots.items c.in_ok-items.items.items) (plain_judged c.for_turns.new.slots.items c.in_ok-turns.turns) (boxed_statement c.in_ok-behind_items.field-0) before (uses_of c.begun_for.new.used) (uses_of c.for_turns.new.used) c.in_ok-items.ensures.judged c.in_ok-turns.ensures.judged c.in_ok-behind_items.ensures
+    let begun = plain_item_of c.begun_for.new.scope c.begun_for.new.slots.items c.in_ok-items.items.items in
+    judges_handed (for_of (around_of begun.scope returns c.args.in_loop) begun.slots (plain_tree c.args.test.now) (plain_token c.args.end.now) (plain_tree c.args.step.now) (plain_tree c.args.body.now)) (for_by (around_of scope returns c.args.in_loop) slots (plain_tree c.args.start.now) (plain_tree c.args.test.now) (plain_token c.args.end.now) (plain_tree c.args.step.now) (plain_tree c.args.body.now)) (plain_judged c.for_turns-turns.new.slots.items) (plain_judged c.for_turns-turns.new.slots.items) (λ turns s. boxed_statement s ≡ block (put (map plain_item c.in_ok-items.items.items) (one_item (boxed_statement turns)))) c.args.used.now c.begun_for.new.used c.for_turns-turns.new.used c.for_turns-turns.result c.behind_items.result c.behind_items.ensures c.for_turns-turns.ensures.judged
+    (λ turns s is g. for_given scope returns c.args.in_loop slots (plain_tree c.args.start.now) (plain_tree c.args.test.now) (plain_token c.args.end.now) (plain_tree c.args.step.now) (plain_tree c.args.body.now) begun (plain_judged c.for_turns-turns.new.slots.items turns) (boxed_statement s) before (uses_of c.begun_for.new.used) (uses_of c.for_turns-turns.new.used) c.in_ok-items.ensures.judged g is)
+    (λ error r. for_refused scope returns c.args.in_loop slots (plain_tree c.args.start.now) (plain_tree c.args.test.now) (plain_token c.args.end.now) (plain_tree c.args.step.now) (plain_tree c.args.body.now) begun before (uses_of c.begun_for.new.used) error c.in_ok-items.ensures.judged r)
+
+pub begun_turns-returns-clause-same : goal.begun_turns-returns-clause-same
+begun_turns-returns-clause-same t c =
+    let declared = declaration_in (plain_tree c.args.start.now) in
+    on_ok_handed (λ turns s. boxed_statement s ≡ block (put (map plain_item c.in_ok-items.items.items) (one_item (boxed_statement turns)))) (plain_scope c.for_turns-turns.new.scope ≡ plain_scope c.begun_for.new.scope) (plain_scope c.end_for.new.scope ≡ plain_scope c.args.scope.now) c.for_turns-turns.result c.behind_items.result c.behind_items.ensures c.for_turns-turns.ensures.same
+    (λ e. c.end_for.ensures ∙ ap (behind_for declared) e ∙ c.in_ok-items.ensures.outside)
 
 pub begun_if-returns-in_err-core-clause-judged : goal.begun_if-returns-in_err-core-clause-judged
 begun_if-returns-in_err-core-clause-judged t c =
@@ -289,26 +284,28 @@ selection-returns-in_err-begun-clause-judged t c =
     (refused_first (begun_if (around_of scope returns c.args.in_loop) slots (plain_tree c.test-item.result) (plain_token c.in_ok-close.close.now) (plain_tree c.first-item.result)) (with_else (around_of scope returns c.args.in_loop) (plain_tree c.second-item.result)) c.in_err-begun.field-0.0 c.in_err-begun.ensures.judged) in
     search (rules, outer)
 
-pub selection-returns-in_err-other-clause-judged : goal.selection-returns-in_err-other-clause-judged
-selection-returns-in_err-other-clause-judged t c =
-    let scope = plain_scope c.args.scope.now in
-    let returns = plain_type c.args.returns.now in
-    let slots = map plain_type c.args.slots.now.items in
-    let before = uses_of c.args.used.now in
-    let outer : RefusedAs (judged_statement (around_of scope returns c.args.in_loop) slots (node k.If (plain_trees c.args.parts.now))) c.in_err-other.field-0.0 = refused_of (judged_statement (around_of scope returns c.args.in_loop) slots (node k.If (plain_trees c.args.parts.now))) (branches_of (around_of scope returns c.args.in_loop) slots (plain_tree c.test-item.result) (plain_token c.in_ok-close.close.now) (plain_tree c.first-item.result) (plain_tree c.second-item.result)) c.in_err-other.field-0.0
-    (selection_slice (around_of scope returns c.args.in_loop) slots c.args.parts.now c.test-item.result c.close-item.result c.first-item.result c.second-item.result (plain_token c.in_ok-close.close.now) c.in-len6.len_at_least c.in-len6.len_below c.test-item.is c.close-item.is c.first-item.is c.second-item.is c.in_ok-close.ensures)
-    (branches_refused scope (plain_scope c.begun_if.new.scope) returns c.args.in_loop slots (plain_tree c.test-item.result) (plain_token c.in_ok-close.close.now) (plain_tree c.first-item.result) (plain_tree c.second-item.result) (plain_begun c.begun_if.new.slots.items c.in_ok-begun.begun) before (uses_of c.begun_if.new.used) c.in_err-other.field-0.0 c.in_ok-begun.ensures.judged c.in_ok-begun.ensures.same c.in_err-other.ensures.judged) in
-    search (rules, outer)
-
 pub selection-returns-clause-judged : goal.selection-returns-clause-judged
 selection-returns-clause-judged t c =
     let scope = plain_scope c.args.scope.now in
     let returns = plain_type c.args.returns.now in
     let slots = map plain_type c.args.slots.now.items in
     let before = uses_of c.args.used.now in
-    gives_of (judged_statement (around_of scope returns c.args.in_loop) slots (node k.If (plain_trees c.args.parts.now))) (branches_of (around_of scope returns c.args.in_loop) slots (plain_tree c.test-item.result) (plain_token c.in_ok-close.close.now) (plain_tree c.first-item.result) (plain_tree c.second-item.result)) (plain_judged c.otherwise.new.slots.items (c.in_ok-selected.field-0)) before (uses_of c.otherwise.new.used)
-    (selection_slice (around_of scope returns c.args.in_loop) slots c.args.parts.now c.test-item.result c.close-item.result c.first-item.result c.second-item.result (plain_token c.in_ok-close.close.now) c.in-len6.len_at_least c.in-len6.len_below c.test-item.is c.close-item.is c.first-item.is c.second-item.is c.in_ok-close.ensures)
-    (branches_given scope (plain_scope c.begun_if.new.scope) returns c.args.in_loop slots (plain_tree c.test-item.result) (plain_token c.in_ok-close.close.now) (plain_tree c.first-item.result) (plain_tree c.second-item.result) (plain_begun c.begun_if.new.slots.items c.in_ok-begun.begun) (plain_judged c.otherwise.new.slots.items c.in_ok-other.other) (boxed_statement c.in_ok-selected.field-0) before (uses_of c.begun_if.new.used) (uses_of c.otherwise.new.used) c.in_ok-begun.ensures.judged c.in_ok-begun.ensures.same c.in_ok-other.ensures.judged c.in_ok-selected.ensures)
+    let whole = judged_statement (around_of scope returns c.args.in_loop) slots (node k.If (plain_trees c.args.parts.now)) in
+    let branches = branches_of (around_of scope returns c.args.in_loop) slots (plain_tree c.test-item.result) (plain_token c.in_ok-close.close.now) (plain_tree c.first-item.result) (plain_tree c.second-item.result) in
+    let is_branches : whole ≡ branches = selection_slice (around_of scope returns c.args.in_loop) slots c.args.parts.now c.test-item.result c.close-item.result c.first-item.result c.second-item.result (plain_token c.in_ok-close.close.now) c.in-len6.len_at_least c.in-len6.len_below c.test-item.is c.close-item.is c.first-item.is c.second-item.is c.in_ok-close.ensures in
+    let behind = plain_scope c.begun_if.new.scope in
+    let begun = plain_begun c.begun_if.new.slots.items c.in_ok-begun.begun in
+    judges_handed (judged_else (around_of behind returns c.args.in_loop) begun.slots (plain_tree c.second-item.result)) whole (plain_judged c.otherwise.new.slots.items) (plain_judged c.otherwise.new.slots.items) (λ second s. boxed_statement s ≡ selection begun.condition begun.core (boxed_statement second)) c.args.used.now c.begun_if.new.used c.otherwise.new.used c.otherwise.result c.selected.result c.selected.ensures c.otherwise.ensures.judged
+    (λ second s is g. gives_of whole branches (plain_judged c.otherwise.new.slots.items s) before (uses_of c.otherwise.new.used) is_branches
+    (branches_given scope behind returns c.args.in_loop slots (plain_tree c.test-item.result) (plain_token c.in_ok-close.close.now) (plain_tree c.first-item.result) (plain_tree c.second-item.result) begun (plain_judged c.otherwise.new.slots.items second) (boxed_statement s) before (uses_of c.begun_if.new.used) (uses_of c.otherwise.new.used) c.in_ok-begun.ensures.judged c.in_ok-begun.ensures.same g is))
+    (λ error r. refused_of whole branches error is_branches
+    (branches_refused scope behind returns c.args.in_loop slots (plain_tree c.test-item.result) (plain_token c.in_ok-close.close.now) (plain_tree c.first-item.result) (plain_tree c.second-item.result) begun before (uses_of c.begun_if.new.used) error c.in_ok-begun.ensures.judged c.in_ok-begun.ensures.same r))
+
+pub selection-returns-clause-same : goal.selection-returns-clause-same
+selection-returns-clause-same t c =
+    let begun = plain_begun c.begun_if.new.slots.items c.in_ok-begun.begun in
+    on_ok_handed (λ second s. boxed_statement s ≡ selection begun.condition begun.core (boxed_statement second)) (plain_scope c.otherwise.new.scope ≡ plain_scope c.begun_if.new.scope) (plain_scope c.otherwise.new.scope ≡ plain_scope c.args.scope.now) c.otherwise.result c.selected.result c.selected.ensures c.otherwise.ensures.same
+    (λ e. e ∙ c.in_ok-begun.ensures.same)
 
 pub block_items-returns-in_err-inner-clause-judged : goal.block_items-returns-in_err-inner-clause-judged
 block_items-returns-in_err-inner-clause-judged t c =
