@@ -7,7 +7,7 @@ mod calls;
 mod finished;
 mod runs;
 
-pub use arguments::{Fitting, all_fitting};
+pub use arguments::{Fitting, all_fitting, copied_functions};
 pub use calls::{Call, all_arguments};
 pub use finished::Finished;
 pub use runs::Run;
