@@ -1,5 +1,5 @@
 //! The recursion of macro replacement: a list, and the lists of bodies and arguments one level below (6.10.3.4).
-ghost use Rattle.std.specs.Prelude.{◌≡◌, ℕ, Bool, true, false, not, ◌&&◌, List, [], ◌∷◌, map, Option, is_some, if◌then◌else◌, IsTrue, IfOk, OnOk};
+ghost use Rattle.std.specs.Prelude.{◌≡◌, ℕ, Bool, true, false, not, ◌&&◌, List, [], ◌∷◌, ◌++◌, map, Option, is_some, if◌then◌else◌, IsTrue, IfOk, OnOk};
 ghost use Rattle.c_text.specs.Token.{PlainToken, plain_token};
 ghost use Rattle.c_text.specs.Macros as spec;
 ghost use Rattle.cond_formula.specs.Features.{has};
@@ -24,7 +24,7 @@ use cond_bodies::{
     when_some,
 };
 use cond_formula::{Formula, NoMemory, Oracle};
-use cond_runs::{Call, Finished, Run, all_arguments, all_fitting};
+use cond_runs::{Call, Finished, Run, all_arguments, all_fitting, copied_functions};
 use conditional::Guarded;
 use reduced_conditions::{both, either, is_never, without};
 use std::alloc::Global;
@@ -191,27 +191,57 @@ fn brought<'t, O: Oracle>(
     f.refused_too(level.alloc, fit.unfit)
 }
 
-// What a call brings, where it is open and ends.
+// A call with all its arguments.
+#[derive(Drop)]
+struct EndedCall<'t> {
+    when: Formula,
+    name: &'t Token,
+    functions: Vec<Guarded<Function<'t>>>,
+    arguments: Vec<Vec<Guarded<Item<'t>>>>,
+}
+
+// The call, of which the last argument ends.
+fn end_call<'t>(call: Call<'t>) -> Result<EndedCall<'t>, NoMemory>
+    ensures when { IfOk result (λ ended. condition_of ended.when ≡ condition_of call.entry.when) }
+    ensures name { IfOk result (λ ended. ended.name.now ≡ call.entry.name.token.now) }
+    ensures functions { IfOk result (λ ended. ended.functions ≡ call.entry.functions) }
+    ensures arguments { IfOk result (λ ended. (on : ℕ → Bool) → lists_at on ended.arguments.items ≡ lists_at on call.entry.arguments.items ++ items_at on call.entry.last.items ∷ []) }
+{
+    let Call {
+        when,
+        name,
+        functions,
+        arguments,
+        last,
+        nested: _,
+    } = call;
+    let arguments = all_arguments(arguments, last)?;
+    Ok(EndedCall {
+        when,
+        name: name.token,
+        functions,
+        arguments,
+    })
+}
+
+// What a call that has ended brings, where it is open.
 #[cycle(lists)]
 fn called<'t, O: Oracle>(
     level: &Level<'t, '_>,
     oracle: &mut O,
-    call: Call<'t>,
+    call: &EndedCall<'t>,
 ) -> Result<Finished<'t>, NoMemory>
     ensures kept { O.admits oracle.new ≡ O.admits oracle.old }
-    ensures given { IfOk result (λ f. (c : List Bool) (last : PlainToken) → IsTrue (value (has c) (O.admits oracle.old)) → IsTrue (is_within c level.now) → value (has c) (condition_of call.entry.when) ≡ true → given_at false (has c) f ≡ cores_of (spec.call_replacement (macros_in c level.now) (deeper_in c level.now) (active_in level.now) (call_at (has c) call.entry) last)) }
+    ensures given { IfOk result (λ f. (c : List Bool) (plain : spec.Call) (last : PlainToken) → IsTrue (value (has c) (O.admits oracle.old)) → IsTrue (is_within c level.now) → value (has c) (condition_of call.now.when) ≡ true → call.now.name.now.text.items ≡ plain.name.text → seen (has c) (entries_of plain_function call.now.functions.items) ≡ record { params = plain.params; body = plain.body } ∷ [] → lists_at (has c) call.now.arguments.items ≡ spec.all_arguments plain → given_at false (has c) f ≡ cores_of (spec.call_replacement (macros_in c level.now) (deeper_in c level.now) (active_in level.now) plain last)) }
 {
     let within = inner(level.alloc, level.within, &call.when)?;
-    let name = call.name.token;
-    let functions = call.functions;
-    let arguments = all_arguments(call.arguments, call.last)?;
     brought(
         level,
         oracle,
-        name,
+        call.name,
         &within,
-        functions.as_slice(),
-        arguments.as_slice(),
+        call.functions.as_slice(),
+        call.arguments.as_slice(),
     )
 }
 
@@ -247,10 +277,9 @@ fn present_turn<'t, O: Oracle>(
         return Ok(());
     }
     if call.is_closed_by(item) {
-        let name = call.name.token;
-        let when = call.when.try_clone(alloc)?;
-        let given = called(level, oracle, call)?;
-        return run.take(alloc, &when, &given, name, item.token);
+        let ended = end_call(call)?;
+        let given = called(level, oracle, &ended)?;
+        return run.take(alloc, &ended.when, &given, ended.name, item.token);
     }
     go_on(alloc, run, call, item)
 }
@@ -274,6 +303,24 @@ fn push_copy<'t, O: Oracle>(
     }
     let copy = call.copied(alloc, when)?;
     run.push_call(copy)
+}
+
+// The call stays open where an item isn't present. The answer is where the item is present, and the call is open.
+fn stay_elsewhere<'t, O: Oracle>(
+    alloc: Global,
+    within: &Formula,
+    oracle: &mut O,
+    run: &mut Run<'t>,
+    call: &Call<'t>,
+    when: &Formula,
+) -> Result<Formula, NoMemory>
+    ensures kept { O.admits oracle.new ≡ O.admits oracle.old }
+    ensures here { IfOk result (λ here. (on : ℕ → Bool) → value on (condition_of here) ≡ (value on (condition_of call.now.when) && value on (condition_of when.now))) }
+    ensures read { IfOk result (λ here. (exact : Bool) (c : List Bool) → IsTrue (value (has c) (O.admits oracle.old)) → IsTrue (value (has c) (condition_of within.now)) → run_at exact (has c) run.new ≡ also (run_at exact (has c) run.old) (under_piece (value (has c) (condition_of call.now.when) && not (value (has c) (condition_of when.now))) (open_piece (held_at (has c) call.now ∷ [])))) }
+{
+    let elsewhere = without(alloc, call.when.try_clone(alloc)?, when)?;
+    push_copy(alloc, within, oracle, run, call, elsewhere)?;
+    inner(alloc, &call.when, when)
 }
 
 // An item that only lengthens the last argument of a call, where it is present.
@@ -306,9 +353,7 @@ fn call_turn<'t, O: Oracle>(
     if !call.is_split_by(&entry.what) {
         return lengthen(alloc, run, call, entry);
     }
-    let elsewhere = without(alloc, call.when.try_clone(alloc)?, &entry.when)?;
-    push_copy(alloc, level.within, oracle, run, &call, elsewhere)?;
-    let here = inner(alloc, &call.when, &entry.when)?;
+    let here = stay_elsewhere(alloc, level.within, oracle, run, &call, &entry.when)?;
     let call = call.narrowed(here);
     present_turn(level, oracle, run, call, &entry.what)
 }
@@ -334,22 +379,24 @@ fn inside_turn<'t, O: Oracle>(
     Ok(outside)
 }
 
-// A name that is a feature, where the condition holds.
+// A name is replaced as a feature, where both conditions hold.
 fn feature_turn<'t>(
     alloc: Global,
     feature: &'t Token,
     run: &mut Run<'t>,
-    when: Formula,
+    when: &Formula,
+    on_where: &Formula,
     item: &Item<'t>,
 ) -> Result<(), NoMemory>
-    ensures { OnOk result ((exact : Bool) (on : ℕ → Bool) → run_at exact on run.new ≡ also (run_at exact on run.old) (under_piece (value on (condition_of when)) (items_piece exact (spec.brought (plain_token item.now.token.now) (plain_token item.now.token.now) (spec.fresh (plain_token feature.now)) ∷ [])))) }
+    ensures { OnOk result ((exact : Bool) (on : ℕ → Bool) → run_at exact on run.new ≡ also (run_at exact on run.old) (under_piece (value on (condition_of when.now) && value on (condition_of on_where.now)) (items_piece exact (spec.brought (plain_token item.now.token.now) (plain_token item.now.token.now) (spec.fresh (plain_token feature.now)) ∷ [])))) }
 {
-    if is_never(&when) {
+    let here = inner(alloc, when, on_where)?;
+    if is_never(&here) {
         return Ok(());
     }
     let fresh = Item::fresh(alloc, feature);
     let brought = fresh.brought(alloc, item.token, item.token)?;
-    run.push_item(when, brought)
+    run.push_item(here, brought)
 }
 
 // A name whose definitions have these bodies, where the condition holds.
@@ -384,16 +431,17 @@ fn begin_call<'t, O: Oracle>(
     run: &mut Run<'t>,
     when: Formula,
     item: &Item<'t>,
-    functions: Vec<Guarded<Function<'t>>>,
+    functions: &[Guarded<Function<'t>>],
 ) -> Result<(), NoMemory>
-    requires { (c : List Bool) → value (has c) (condition_of when) ≡ true → is_single (seen (has c) (entries_of plain_function functions.items)) ≡ true }
+    requires { (c : List Bool) → value (has c) (condition_of when) ≡ true → is_single (seen (has c) (entries_of plain_function functions.now)) ≡ true }
     ensures kept { O.admits oracle.new ≡ O.admits oracle.old }
-    ensures read { OnOk result ((exact : Bool) (c : List Bool) → IsTrue (value (has c) (O.admits oracle.old)) → IsTrue (value (has c) (condition_of within.now)) → run_at exact (has c) run.new ≡ also (run_at exact (has c) run.old) (under_piece (value (has c) (condition_of when)) (open_piece (record { call = spec.begun (item_at (has c) item.now).token (or_function (seen (has c) (entries_of plain_function functions.entry.items))).params (or_function (seen (has c) (entries_of plain_function functions.entry.items))).body; first = plain_token item.now.token.now } ∷ [])))) }
+    ensures read { OnOk result ((exact : Bool) (c : List Bool) → IsTrue (value (has c) (O.admits oracle.old)) → IsTrue (value (has c) (condition_of within.now)) → run_at exact (has c) run.new ≡ also (run_at exact (has c) run.old) (under_piece (value (has c) (condition_of when)) (open_piece (record { call = spec.begun (item_at (has c) item.now).token (or_function (seen (has c) (entries_of plain_function functions.now))).params (or_function (seen (has c) (entries_of plain_function functions.now))).body; first = plain_token item.now.token.now } ∷ [])))) }
 {
     let possible = may(alloc, oracle, within, &when)?;
     if !possible {
         return Ok(());
     }
+    let functions = copied_functions(alloc, functions)?;
     let call = Call::begun(alloc, when, item.try_clone(alloc)?, functions);
     run.push_call(call)
 }
@@ -448,10 +496,9 @@ fn when_none(
     without(alloc, left, third)
 }
 
-// Where a name is treated in each of the ways.
+// Where a name is treated in each of the ways but as a feature.
 #[derive(Drop)]
 struct Ways {
-    feature: Formula,
     object: Formula,
     call: Formula,
     stays: Formula,
@@ -465,7 +512,6 @@ fn ways_of<'t>(
     functions: &[Guarded<Function<'t>>],
     rest: &[Guarded<Item<'t>>],
 ) -> Result<Ways, NoMemory>
-    ensures feature { IfOk result (λ ways. (on : ℕ → Bool) → value on (condition_of ways.feature) ≡ (value on (condition_of when.now) && value on (condition_of feature.now))) }
     ensures object { IfOk result (λ ways. (on : ℕ → Bool) → value on (condition_of ways.object) ≡ (value on (condition_of when.now) && some_seen (seen on (entries_of plain_function objects.now)))) }
     ensures call { IfOk result (λ ways. (on : ℕ → Bool) → value on (condition_of ways.call) ≡ (value on (condition_of when.now) && (some_seen (seen on (entries_of plain_function functions.now)) && spec.opens (items_at on rest.now)))) }
     ensures stays { IfOk result (λ ways. (on : ℕ → Bool) → value on (condition_of ways.stays) ≡ (((value on (condition_of when.now) && not (value on (condition_of feature.now))) && not (some_seen (seen on (entries_of plain_function objects.now)))) && not (some_seen (seen on (entries_of plain_function functions.now)) && spec.opens (items_at on rest.now)))) }
@@ -474,7 +520,6 @@ fn ways_of<'t>(
     let calls = when_called(alloc, functions, rest)?;
     let stays = when_none(alloc, when, feature, &some, &calls)?;
     Ok(Ways {
-        feature: inner(alloc, when, feature)?,
         object: inner(alloc, when, &some)?,
         call: inner(alloc, when, &calls)?,
         stays,
@@ -510,34 +555,35 @@ fn name_turn<'t, O: Oracle>(
     run: &mut Run<'t>,
     when: &Formula,
     item: &Item<'t>,
-    meanings: Meanings<'t>,
+    meanings: &Meanings<'t>,
     rest: &[Guarded<Item<'t>>],
 ) -> Result<(), NoMemory>
-    requires { (c : List Bool) → Means (has c) (macros_in c level.now item.now.token.now.text.items) meanings }
+    requires { (c : List Bool) → Means (has c) (macros_in c level.now item.now.token.now.text.items) meanings.now }
     ensures kept { O.admits oracle.new ≡ O.admits oracle.old }
     ensures read { OnOk result ((exact : Bool) (c : List Bool) → IsTrue (value (has c) (O.admits oracle.old)) → IsTrue (is_within c level.now) → run_at exact (has c) run.new ≡ also (run_at exact (has c) run.old) (under_piece (value (has c) (condition_of when.now)) (outside_piece exact (macros_in c level.now) (deeper_in c level.now) (active_in level.now) (item_at (has c) item.now) (plain_token item.now.token.now) (spec.treatment (item_at (has c) item.now) false (spec.opens (items_at (has c) rest.now)) (macros_in c level.now item.now.token.now.text.items))))) }
 {
-    let objects = as_functions(level.alloc, meanings.objects.as_slice())?;
+    let alloc = level.alloc;
+    feature_turn(alloc, level.feature, run, when, &meanings.feature, item)?;
+    let objects = as_functions(alloc, meanings.objects.as_slice())?;
     let ways = ways_of(
-        level.alloc,
+        alloc,
         when,
         &meanings.feature,
         objects.as_slice(),
         meanings.functions.as_slice(),
         rest,
     )?;
-    feature_turn(level.alloc, level.feature, run, ways.feature, item)?;
     object_turn(level, oracle, run, &ways.object, item, objects.as_slice())?;
     begin_call(
-        level.alloc,
+        alloc,
         level.within,
         oracle,
         run,
         ways.call,
         item,
-        meanings.functions,
+        meanings.functions.as_slice(),
     )?;
-    stay_turn(level.alloc, level.within, oracle, run, ways.stays, item)
+    stay_turn(alloc, level.within, oracle, run, ways.stays, item)
 }
 
 // A name is kept for good, where both conditions hold.
@@ -597,7 +643,7 @@ fn outside_turn<'t, O: Oracle>(
     if is_active(level.active, item) {
         return active_turn(alloc, run, when, item, &meanings);
     }
-    name_turn(level, oracle, run, &when, item, meanings, rest)
+    name_turn(level, oracle, run, &when, item, &meanings, rest)
 }
 
 // Reads an item, by the items behind it.

@@ -32,7 +32,7 @@ use Rattle.cond_runs.proofs.OpenLemmas.{calls_pushed}
 use Rattle.cond_macros.proofs.ArgumentLemmas.{replaced_step, replaced_end, replaced_init}
 use Rattle.cond_macros.proofs.TurnLemmas.{and_true, both_first, unseen, given_turn, ends_piece, progress_ends, parted, turned_more, open_more}
 use Rattle.cond_macros.proofs.PieceLemmas.{step_reads, begin_reads, also-nothing}
-use Rattle.cond_macros.proofs.NameLemmas.{some_body, bodies_seen, named, treated_active, treated_nothing, single_if, one_object, no_meaning, named_meaning, unnamed_meaning, fresh_substituted}
+use Rattle.cond_macros.proofs.NameLemmas.{bodies_seen, named, treated_active, treated_nothing, single_if, one_object, no_meaning, named_meaning, unnamed_meaning, fresh_substituted}
 use Rattle.cond_macros.proofs.CondRunLemmas.{reads_next, reads_moved, reads_done, own_at, feature_is_built_in}
 use Rattle.cond_macros.proofs.replacing.+lists.Goals as goal
 
@@ -197,17 +197,15 @@ brought-returns-clause-given g t c =
     c.refused_too.ensures
 
 pub called-returns-clause-given : goal.called-returns-clause-given
-unfolding call_at
 called-returns-clause-given g t c =
     let level = c.args.level.now in
-    let call = c.args.call in
-    IfOk-weaker c.brought.result _ _ (λ f h. λ n last admitted within opened.
-    let fs = seen (has n) (entries_of plain_function call.functions.items) in
-    h n (call_at (has n) call) last admitted
+    let call = c.args.call.now in
+    IfOk-weaker c.brought.result _ _ (λ f h. λ n plain last admitted within opened name one arguments.
+    h n plain last admitted
     (both_true (is_within n level) (value (has n) (condition_of call.when)) (value (has n) (condition_of c.in_ok-within.within)) (c.in_ok-within.ensures (has n)) within opened)
-    (sym (item_text (has n) call.name))
-    (ap (λ (l : List (Guarded Function)). seen (has n) (entries_of plain_function l)) c.as_slice.ensures.value ∙ single_is fs (call.single n opened))
-    (ap (λ (l : List (Vec (Guarded Item) Global)). lists_at (has n) l) c.as_slice-2.ensures.value ∙ c.in_ok-arguments.ensures (has n)))
+    name
+    (ap (λ (l : List (Guarded Function)). seen (has n) (entries_of plain_function l)) c.as_slice.ensures.value ∙ one)
+    (ap (λ (l : List (Vec (Guarded Item) Global)). lists_at (has n) l) c.as_slice-2.ensures.value ∙ arguments))
     c.brought.ensures.given
 
 -- ---- items in opened calls
@@ -217,16 +215,28 @@ present_turn-returns-then-not-possible-clause-read g t c = λ exact n admitted w
     unseen (run_at exact (has n) c.args.run.now) (value (has n) (condition_of c.args.call.when)) _ (c.in_ok-possible.ensures.no c.if-not-possible.true n admitted within)
 
 pub present_turn-returns-then-is_closed_by-clause-read : goal.present_turn-returns-then-is_closed_by-clause-read
+unfolding call_at
 present_turn-returns-then-is_closed_by-clause-read g t c =
     on_ok_weaker c.take.result (λ h. λ exact n admitted within.
     let level = c.args.level.now in
     let item = item_at (has n) c.args.item.now in
-    let held = held_at (has n) c.args.call in
+    let call = c.args.call in
+    let held = held_at (has n) call in
     let own = plain_token c.args.item.now.token.now in
-    ends_piece exact (macros_in n level) (deeper_in n level) (active_in level) (run_at exact (has n) c.args.run.now) (run_at exact (has n) c.take.new.self) (value (has n) (condition_of c.args.call.when)) held item own (given_at false (has n) c.in_ok-given.given)
+    let old = run_at exact (has n) c.args.run.now in
+    let w = value (has n) (condition_of call.when) in
+    let given = given_at false (has n) c.in_ok-given.given in
+    let ended = c.in_ok-ended.ensures in
+    ends_piece exact (macros_in n level) (deeper_in n level) (active_in level) old (run_at exact (has n) c.take.new.self) w held item own given
     (progress_ends held.call item (sym (c.is_closed_by.ensures (has n)) ∙ c.if-is_closed_by.true))
-    (λ opened. c.in_ok-given.ensures.given n item.token (rw c.in_ok-possible.ensures.kept admitted) within opened)
-    (h exact (has n) ∙ ap (λ (d : Condition). also (run_at exact (has n) c.args.run.now) (under_piece (value (has n) d) (given_piece exact (brought_again held.first own (given_at false (has n) c.in_ok-given.given))))) c.in_ok-when.ensures))
+    (λ opened. c.in_ok-given.ensures.given n held.call item.token (rw c.in_ok-possible.ensures.kept admitted) within
+    (ap (value (has n)) ended.when ∙ opened)
+    (ap (λ (t : Token). t.text.items) ended.name ∙ sym (item_text (has n) call.name))
+    (ap (λ (v : Vec (Guarded Function) Global). seen (has n) (entries_of plain_function v.items)) ended.functions ∙ single_is (seen (has n) (entries_of plain_function call.functions.items)) (call.single n opened))
+    (ended.arguments (has n)))
+    (h exact (has n)
+    ∙ ap (λ (d : Condition). also old (under_piece (value (has n) d) (given_piece exact (brought_again (plain_token c.in_ok-ended.ended.name.now) own given)))) ended.when
+    ∙ ap (λ (t : Token). also old (under_piece w (given_piece exact (brought_again (plain_token t) own given)))) ended.name))
     c.take.ensures
 
 pub present_turn-go_on-requires : goal.present_turn-go_on-requires
@@ -249,13 +259,8 @@ call_turn-returns-then-not-is_split_by-clause-read g t c =
     h exact (has n) (macros_in n level) (deeper_in n level) (active_in level))
     c.lengthen.ensures
 
-pub call_turn-push_copy-requires : goal.call_turn-push_copy-requires
-call_turn-push_copy-requires g t c = λ n e.
-    both_first (value (has n) (condition_of c.args.call.when)) (not (value (has n) (condition_of c.args.entry.now.when)))
-    (sym (c.in_ok-elsewhere.ensures (has n) ∙ ap (λ (d : Condition). value (has n) d && not (value (has n) (condition_of c.args.entry.now.when))) c.in_ok-try_clone.ensures) ∙ e)
-
 pub call_turn-narrowed-call-requires : goal.call_turn-narrowed-call-requires
-call_turn-narrowed-call-requires g t c = λ n e. both_first (value (has n) (condition_of c.args.call.when)) (value (has n) (condition_of c.args.entry.now.when)) (sym (c.in_ok-here.ensures (has n)) ∙ e)
+call_turn-narrowed-call-requires g t c = λ n e. both_first (value (has n) (condition_of c.args.call.when)) (value (has n) (condition_of c.args.entry.now.when)) (sym (c.in_ok-here.ensures.here (has n)) ∙ e)
 
 pub call_turn-returns-clause-read : goal.call_turn-returns-clause-read
 call_turn-returns-clause-read g t c =
@@ -265,13 +270,13 @@ call_turn-returns-clause-read g t c =
     let item = item_at (has n) entry.what in
     let held = held_at (has n) c.args.call in
     let w = value (has n) (condition_of c.args.call.when) in
+    let p = value (has n) (condition_of entry.when) in
     let another = held_at (has n) c.narrowed-call.result in
-    parted exact (macros_in n level) (deeper_in n level) (active_in level) (run_at exact (has n) c.args.run.now) (run_at exact (has n) c.push_copy.new.run) (run_at exact (has n) c.present_turn.new.run) w (value (has n) (condition_of entry.when))
-    (value (has n) (condition_of c.in_ok-elsewhere.elsewhere)) (value (has n) (condition_of c.narrowed-call.result.when)) held held another item (plain_token entry.what.token.now)
-    (c.in_ok-elsewhere.ensures (has n) ∙ ap (λ (d : Condition). value (has n) d && not (value (has n) (condition_of entry.when))) c.in_ok-try_clone.ensures)
-    (ap (value (has n)) c.narrowed-call.ensures.when ∙ c.in_ok-here.ensures (has n)) refl
+    parted exact (macros_in n level) (deeper_in n level) (active_in level) (run_at exact (has n) c.args.run.now) (run_at exact (has n) c.stay_elsewhere.new.run) (run_at exact (has n) c.present_turn.new.run) w p
+    (w && not p) (value (has n) (condition_of c.narrowed-call.result.when)) held held another item (plain_token entry.what.token.now)
+    refl (ap (value (has n)) c.narrowed-call.ensures.when ∙ c.in_ok-here.ensures.here (has n)) refl
     (ap (λ (k : spec.Call). record { call = k; first = another.first }) (c.narrowed-call.ensures.call (has n)) ∙ ap (λ (i : Item). record { call = held.call; first = plain_token i.token.now }) c.narrowed-call.ensures.name)
-    (c.in_ok-push_copy.ensures.read exact n admitted within) (h exact n (rw c.in_ok-push_copy.ensures.kept admitted) within))
+    (c.in_ok-here.ensures.read exact n admitted within) (h exact n (rw c.in_ok-here.ensures.kept admitted) within))
     c.present_turn.ensures.read
 
 pub inside_turn-loop-call-init : goal.inside_turn-loop-call-init
@@ -327,14 +332,14 @@ object_turn-returns-clause-read g t c =
 
 pub name_turn-begin_call-requires : goal.name_turn-begin_call-requires
 name_turn-begin_call-requires g t c = λ n opened.
-    let level = c.args.level.now in
+    let meaning = macros_in n c.args.level.now c.args.item.now.token.now.text.items in
+    let w = value (has n) (condition_of c.args.when.now) in
     let opens = spec.opens (items_at (has n) c.args.rest.now) in
-    let meaning = macros_in n level c.args.item.now.token.now.text.items in
-    let means = c.requires n in
-    ap is_single means.functions
-    ∙ single_if (value (has n) (condition_of c.args.when.now)) opens meaning
-    (ap (λ (l : List PlainFunction). value (has n) (condition_of c.args.when.now) && (some_seen l && opens)) (sym means.functions)
-    ∙ ap (λ (l : List (Guarded Function)). value (has n) (condition_of c.args.when.now) && (some_seen (seen (has n) (entries_of plain_function l)) && opens)) (sym c.as_slice-3.ensures.value)
+    ap (λ (l : List (Guarded Function)). is_single (seen (has n) (entries_of plain_function l))) c.as_slice-5.ensures.value
+    ∙ ap is_single (c.requires n).functions
+    ∙ single_if w opens meaning
+    (ap (λ (l : List PlainFunction). w && (some_seen l && opens)) (sym (c.requires n).functions)
+    ∙ ap (λ (l : List (Guarded Function)). w && (some_seen (seen (has n) (entries_of plain_function l)) && opens)) (sym c.as_slice-3.ensures.value)
     ∙ sym (c.in_ok-ways.ensures.call (has n)) ∙ opened)
 
 pub name_turn-returns-clause-read : goal.name_turn-returns-clause-read
@@ -348,31 +353,33 @@ name_turn-returns-clause-read g t c =
     let opens = spec.opens (items_at on c.args.rest.now) in
     let meaning = macros_in n level c.args.item.now.token.now.text.items in
     let means = c.requires n in
-    let fs : seen on (entries_of plain_function c.in_ok-objects.objects.items) ≡ map without_params (object_of meaning) =
-    c.in_ok-objects.ensures on ∙ ap (λ (l : List (Guarded (Bor (List Token)))). map without_params (seen on (entries_of (λ b. map plain_token b.now) l))) c.as_slice.ensures.value ∙ ap (map without_params) means.objects in
+    let ways = c.in_ok-ways.ensures in
     let o = some_seen (seen on (entries_of plain_function c.as_slice-2.result.now)) in
-    let is_o : o ≡ some_body (object_of meaning) =
-    ap (λ (l : List (Guarded Function)). some_seen (seen on (entries_of plain_function l))) c.as_slice-2.ensures.value ∙ ap (λ (l : List PlainFunction). some_seen l) fs ∙ bodies_seen (object_of meaning) in
     let k = some_seen (seen on (entries_of plain_function c.as_slice-3.result.now)) && opens in
-    let is_k : k ≡ (some_seen (function_of meaning) && opens) =
-    ap (λ (l : List (Guarded Function)). some_seen (seen on (entries_of plain_function l)) && opens) c.as_slice-3.ensures.value ∙ ap (λ (l : List PlainFunction). some_seen l && opens) means.functions in
+    let is_objects : seen on (entries_of plain_function c.in_ok-objects.objects.items) ≡ map without_params (object_of meaning) =
+    c.in_ok-objects.ensures on ∙ ap (λ (l : List (Guarded (Bor (List Token)))). map without_params (seen on (entries_of (λ b. map plain_token b.now) l))) c.as_slice.ensures.value ∙ ap (map without_params) means.objects in
+    let is_functions : seen on (entries_of plain_function c.as_slice-5.result.now) ≡ function_of meaning =
+    ap (λ (l : List (Guarded Function)). seen on (entries_of plain_function l)) c.as_slice-5.ensures.value ∙ means.functions in
     let s = run_at exact on c.args.run.now in
     let after_feature = run_at exact on c.feature_turn.new.run in
     let after_object = run_at exact on c.object_turn.new.run in
     let after_call = run_at exact on c.begin_call.new.run in
-    named exact (macros_in n level) (deeper_in n level) (active_in level) s after_feature after_object after_call (run_at exact on c.stay_turn.new.run) w (value on (condition_of c.args.meanings.feature)) o k opens (plain_token level.feature.now) item own meaning
+    named exact (macros_in n level) (deeper_in n level) (active_in level) s after_feature after_object after_call (run_at exact on c.stay_turn.new.run)
+    w (value on (condition_of c.args.meanings.now.feature)) o k opens (plain_token level.feature.now) item own meaning
     (λ other e. level.built_in ∙ feature_is_built_in on level.macros c.args.item.now.token.now.text.items other e)
-    means.feature is_o is_k
-    (c.in_ok-feature_turn.ensures exact on ∙ ap (λ (b : Bool). also s (under_piece b (items_piece exact (spec.brought own own (spec.fresh (plain_token level.feature.now)) ∷ [])))) (c.in_ok-ways.ensures.feature on))
+    means.feature
+    (ap (λ (l : List (Guarded Function)). some_seen (seen on (entries_of plain_function l))) c.as_slice-2.ensures.value ∙ ap (λ (l : List PlainFunction). some_seen l) is_objects ∙ bodies_seen (object_of meaning))
+    (ap (λ (l : List (Guarded Function)). some_seen (seen on (entries_of plain_function l)) && opens) c.as_slice-3.ensures.value ∙ ap (λ (l : List PlainFunction). some_seen l && opens) means.functions)
+    (c.in_ok-feature_turn.ensures exact on)
     (λ body is.
     c.in_ok-object_turn.ensures.read exact n body admitted within
-    (λ opened. one_object (seen on (entries_of plain_function c.as_slice-4.result.now)) (object_of meaning) body (ap (λ (l : List (Guarded Function)). seen on (entries_of plain_function l)) c.as_slice-4.ensures.value ∙ fs) (is (sym (c.in_ok-ways.ensures.object on) ∙ opened)))
-    ∙ ap (λ (b : Bool). also after_feature (under_piece b (given_piece exact (brought_again own own (spec.replacement (macros_in n level) (deeper_in n level) (active_in level) item.token item.token (map spec.fresh body)))))) (c.in_ok-ways.ensures.object on))
+    (λ opened. one_object (seen on (entries_of plain_function c.as_slice-4.result.now)) (object_of meaning) body (ap (λ (l : List (Guarded Function)). seen on (entries_of plain_function l)) c.as_slice-4.ensures.value ∙ is_objects) (is (sym (ways.object on) ∙ opened)))
+    ∙ ap (λ (b : Bool). also after_feature (under_piece b (given_piece exact (brought_again own own (spec.replacement (macros_in n level) (deeper_in n level) (active_in level) item.token item.token (map spec.fresh body)))))) (ways.object on))
     (c.in_ok-begin_call.ensures.read exact n (rw c.in_ok-object_turn.ensures.kept admitted) within
-    ∙ ap (λ (b : Bool). also after_object (under_piece b (open_piece (record { call = spec.begun item.token (or_function (seen on (entries_of plain_function c.args.meanings.functions.items))).params (or_function (seen on (entries_of plain_function c.args.meanings.functions.items))).body; first = own } ∷ [])))) (c.in_ok-ways.ensures.call on)
-    ∙ ap (λ (l : List PlainFunction). also after_object (under_piece (w && k) (open_piece (record { call = spec.begun item.token (or_function l).params (or_function l).body; first = own } ∷ [])))) means.functions)
+    ∙ ap (λ (l : List PlainFunction). also after_object (under_piece (value on (condition_of c.in_ok-ways.ways.call)) (open_piece (record { call = spec.begun item.token (or_function l).params (or_function l).body; first = own } ∷ [])))) is_functions
+    ∙ ap (λ (b : Bool). also after_object (under_piece b (open_piece (record { call = spec.begun item.token (or_function (function_of meaning)).params (or_function (function_of meaning)).body; first = own } ∷ [])))) (ways.call on))
     (h exact n (rw c.in_ok-begin_call.ensures.kept (rw c.in_ok-object_turn.ensures.kept admitted)) within
-    ∙ ap (λ (b : Bool). also after_call (under_piece b (items_piece exact (item ∷ [])))) (c.in_ok-ways.ensures.stays on)))
+    ∙ ap (λ (b : Bool). also after_call (under_piece b (items_piece exact (item ∷ [])))) (ways.stays on)))
     c.stay_turn.ensures.read
 
 pub outside_turn-returns-then-is_never-clause-read : goal.outside_turn-returns-then-is_never-clause-read
@@ -499,8 +506,8 @@ present_turn-returns-in_err-possible-clause-kept g t c = c.in_err-possible.ensur
 pub present_turn-returns-then-not-possible-clause-kept : goal.present_turn-returns-then-not-possible-clause-kept
 present_turn-returns-then-not-possible-clause-kept g t c = c.in_ok-possible.ensures.kept
 
-pub present_turn-returns-in_err-when-clause-kept : goal.present_turn-returns-in_err-when-clause-kept
-present_turn-returns-in_err-when-clause-kept g t c = c.in_ok-possible.ensures.kept
+pub present_turn-returns-in_err-ended-clause-kept : goal.present_turn-returns-in_err-ended-clause-kept
+present_turn-returns-in_err-ended-clause-kept g t c = c.in_ok-possible.ensures.kept
 
 pub present_turn-returns-in_err-given-clause-kept : goal.present_turn-returns-in_err-given-clause-kept
 present_turn-returns-in_err-given-clause-kept g t c = c.in_err-given.ensures.kept ∙ c.in_ok-possible.ensures.kept
@@ -511,14 +518,11 @@ present_turn-returns-then-is_closed_by-clause-kept g t c = c.in_ok-given.ensures
 pub present_turn-returns-clause-kept : goal.present_turn-returns-clause-kept
 present_turn-returns-clause-kept g t c = c.in_ok-possible.ensures.kept
 
-pub call_turn-returns-in_err-push_copy-clause-kept : goal.call_turn-returns-in_err-push_copy-clause-kept
-call_turn-returns-in_err-push_copy-clause-kept g t c = c.in_err-push_copy.ensures.kept
-
 pub call_turn-returns-in_err-here-clause-kept : goal.call_turn-returns-in_err-here-clause-kept
-call_turn-returns-in_err-here-clause-kept g t c = c.in_ok-push_copy.ensures.kept
+call_turn-returns-in_err-here-clause-kept g t c = c.in_err-here.ensures.kept
 
 pub call_turn-returns-clause-kept : goal.call_turn-returns-clause-kept
-call_turn-returns-clause-kept g t c = c.present_turn.ensures.kept ∙ c.in_ok-push_copy.ensures.kept
+call_turn-returns-clause-kept g t c = c.present_turn.ensures.kept ∙ c.in_ok-here.ensures.kept
 
 pub inside_turn-returns-in_err-outside-2-clause-kept : goal.inside_turn-returns-in_err-outside-2-clause-kept
 inside_turn-returns-in_err-outside-2-clause-kept g t c = c.loop-call.invariant.kept

@@ -10,11 +10,11 @@ use Rattle.cond_macros.proofs.replacing.ways_of.Goals as goal
 pub returns-clause-object : goal.returns-clause-object
 returns-clause-object c = λ on.
     let objects = c.args.objects.now in
-    c.in_ok-inner-2.ensures on
+    c.in_ok-inner.ensures on
     ∙ ap (λ (b : Bool). value on (condition_of c.args.when.now) && b) (c.in_ok-some.ensures on ∙ holds_is_seen plain_function on objects ∙ lists_some (seen on (entries_of plain_function objects)))
 
 pub returns-clause-call : goal.returns-clause-call
-returns-clause-call c = λ on. c.in_ok-inner-3.ensures on ∙ ap (λ (b : Bool). value on (condition_of c.args.when.now) && b) (c.in_ok-calls.ensures on)
+returns-clause-call c = λ on. c.in_ok-inner-2.ensures on ∙ ap (λ (b : Bool). value on (condition_of c.args.when.now) && b) (c.in_ok-calls.ensures on)
 
 pub returns-clause-stays : goal.returns-clause-stays
 returns-clause-stays c = λ on.
