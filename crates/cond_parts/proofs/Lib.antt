@@ -1,0 +1,4 @@
+pub mod FoundWords
+pub mod Constants
+pub mod Pushed
+pub mod MadeOfVariants
