@@ -22,7 +22,7 @@ use Rattle.choice_states.specs.States.{Stay, Standing, dead, IsClean}
 use Rattle.choice_states.specs.Reading.{leaf_seen, next_seen, read_seen, finished_seen}
 use Rattle.choice_settling.specs.Steps.{seen_of, IsSound, IsBehind, IsRead, ReadsThere, Keeps, Reads, Settles}
 use Rattle.choice_parser.specs.Deaths.{if_left, within_unit}
-use Rattle.choice_parser.specs.Units.{numbered_at, Nodes, leading, StandsBehind, StaysBehind, nodes_behind, HasRead, IsInUnit, IsSoFar, Progress, IsEnded, EndsNoUnit, EndsUnit, IsEndOfUnit, IsRefusedHere}
+use Rattle.choice_parser.specs.Units.{numbered_at, Nodes, leading, StandsBehind, nodes_behind, HasRead, IsInUnit, IsSoFar, Progress, IsEnded, EndsNoUnit, EndsUnit, IsEndOfUnit, IsRefusedHere}
 
 -- ---- reading on
 
@@ -90,7 +90,7 @@ dead_leads nodes none = record {
 
 -- a token that is there has been read in the unit
 pub reads_in_unit :
-    (nodes : Nodes) (kind : Terminal) (token : Seen) (before after : Standing) → HasRead nodes kind token before → IsInUnit true before after → LeadsOn (going_on (leading nodes kind token)) after
+    (nodes : Nodes) (kind : Terminal) (token : Seen) (before after : Standing) → HasRead nodes kind token before → IsInUnit before after → LeadsOn (going_on (leading nodes kind token)) after
 reads_in_unit nodes kind token before after read is =
     subst (LeadsOn (going_on (leading nodes kind token))) (sym is.new_is)
     ((elim before.stay as (λ stay. stay ≡ before.stay → LeadsOn (going_on (leading nodes kind token)) (if_left stay before)) [
@@ -105,17 +105,9 @@ reads_in_unit nodes kind token before after read is =
       | states.astray ↦ λ same. absurd (subst (λ s. IsRead s kind token (leading nodes kind token) (before.leads [])) (sym same) read.reads)
     ]) refl)
 
--- one that isn't there leaves one where one stood
-pub stays_in_unit : (kind : Terminal) (nodes : Nodes) (before after : Standing) → IsSound before → ((token : Seen) → before.leads [] kind token ≡ leading nodes kind token)
-    → IsInUnit false before after → (after.stay ≡ states.stays) × IsSound after × ((token : Seen) → after.leads [] kind token ≡ leading nodes kind token)
-stays_in_unit kind nodes before after sound leads is =
-    subst (λ (s : Standing). (s.stay ≡ states.stays) × IsSound s × ((token : Seen) → s.leads [] kind token ≡ leading nodes kind token)) (sym is.new_is)
-    ((elim before.stay as (λ stay. stay ≡ before.stay → ((if_left stay before).stay ≡ states.stays) × IsSound (if_left stay before) × ((token : Seen) → (if_left stay before).leads [] kind token ≡ leading nodes kind token)) [
-      | states.stays ↦ λ same. (sym same, sound, leads)
-      | states.leaves ↦ λ same. absurd (cc (is.leaves_there (sym same)))
-      | states.takes ↦ λ same. absurd (is.takes_none (sym same))
-      | states.astray ↦ λ same. absurd (subst IsClean (sym same) sound.clean)
-    ]) refl)
+-- what hasn't been left is as it was
+pub still_same : (before after : Standing) → IsInUnit before after → before.stay ≡ states.stays → after ≡ before
+still_same before after is stays = is.new_is ∙ ap (λ stay. if_left stay before) stays
 
 -- ---- what has left the unit
 
@@ -123,34 +115,30 @@ going_arriving : (part : Option Seen) (ended : Place) (kind : Terminal) (token :
 going_arriving None ended kind token = refl
 going_arriving (Some part) ended kind token = refl
 
-pub left_closed : (there : Bool) (kind : Option Kind) (ended : Place) (parts : Parts) → there ≡ true → IsInUnit there (states.closed kind ended parts) dead
-left_closed there kind ended parts is = record {
+pub left_closed : (kind : Option Kind) (ended : Place) (parts : Parts) → IsInUnit (states.closed kind ended parts) dead
+left_closed kind ended parts = record {
   new_is = refl;
-  leaves_there = λ left. is;
   ends = λ left next token. going_arriving (states.made kind (values parts)) ended next token;
   takes_none = λ taken. absurd (cc taken);
 }
 
-pub left_unbegun : (there : Bool) (around : Place) → there ≡ true → IsInUnit there (states.unbegun around) dead
-left_unbegun there around is = record {
+pub left_unbegun : (around : Place) → IsInUnit (states.unbegun around) dead
+left_unbegun around = record {
   new_is = refl;
-  leaves_there = λ left. is;
   ends = λ left next token. refl;
   takes_none = λ taken. absurd (cc taken);
 }
 
-pub still_at : (there : Bool) (place : Place) (parts : Parts) → IsInUnit there (states.at_place place parts) (states.at_place place parts)
-still_at there place parts = record {
+pub still_at : (place : Place) (parts : Parts) → IsInUnit (states.at_place place parts) (states.at_place place parts)
+still_at place parts = record {
   new_is = refl;
-  leaves_there = λ left. absurd (cc left);
   ends = λ left next token. absurd (cc left);
   takes_none = λ taken. absurd (cc taken);
 }
 
-pub still_dead : (there : Bool) → IsInUnit there dead dead
-still_dead there = record {
+pub still_dead : IsInUnit dead dead
+still_dead = record {
   new_is = refl;
-  leaves_there = λ left. absurd (cc left);
   ends = λ left next token. absurd (cc left);
   takes_none = λ taken. absurd (cc taken);
 }
@@ -173,18 +161,16 @@ never_takes states.leaves h = cc h
 never_takes states.takes h = cc h
 never_takes states.astray h = cc h
 
-pub still_within : (there : Bool) (place : Place) (inner : Standing) (parts : Parts) → IsInUnit there (states.within place inner parts) (states.within place inner parts)
-still_within there place inner parts = record {
+pub still_within : (place : Place) (inner : Standing) (parts : Parts) → IsInUnit (states.within place inner parts) (states.within place inner parts)
+still_within place inner parts = record {
   new_is = stays_inside inner.stay (states.within place inner parts);
-  leaves_there = λ left. absurd (never_leaves inner.stay left);
   ends = λ left next token. absurd (never_leaves inner.stay left);
   takes_none = never_takes inner.stay;
 }
 
-pub still_split : (there f : Bool) (first second one other : Standing) → (f ≡ true → IsInUnit there first one) → (f ≡ false → IsInUnit there second other)
-    → IsInUnit there (if f then first else second) (if f then one else other)
-still_split there true first second one other x y = x refl
-still_split there false first second one other x y = y refl
+still_split : (f : Bool) (first second one other : Standing) → IsInUnit first one → IsInUnit second other → IsInUnit (if f then first else second) (if f then one else other)
+still_split true first second one other x y = x
+still_split false first second one other x y = y
 
 -- ---- the end of the text
 
@@ -250,10 +236,10 @@ ended_so nodes token true standing parts read ends =
 ended_so nodes token false standing parts read ends =
     finished_leads nodes ∙ whole_alike nodes Other of_seen.of_nothing token ∙ one_unit nodes token standing parts read ends
 
-pub still_split_so : (there f : Bool) (all new first second one other : Standing) → all ≡ (if f then first else second) → new ≡ (if f then one else other)
-    → (f ≡ true → IsInUnit there first one) → (f ≡ false → IsInUnit there second other) → IsInUnit there all new
-still_split_so there f all new first second one other all_is new_is x y =
-    subst (λ a. IsInUnit there a new) (sym all_is) (subst (IsInUnit there (if f then first else second)) (sym new_is) (still_split there f first second one other x y))
+pub still_split_so : (f : Bool) (all new first second one other : Standing) → all ≡ (if f then first else second) → new ≡ (if f then one else other)
+    → IsInUnit first one → IsInUnit second other → IsInUnit all new
+still_split_so f all new first second one other all_is new_is x y =
+    subst (λ a. IsInUnit a new) (sym all_is) (subst (IsInUnit (if f then first else second)) (sym new_is) (still_split f first second one other x y))
 
 -- one still in the unit, by the kinds of states
 pub ruleset still_kinds = (left_closed, left_unbegun, still_at, still_dead, still_within)
@@ -347,8 +333,8 @@ so_far_behind on number rest nodes new true still last sound stays leads same wr
 -- what is known of the standings before a token, behind its reading, in the unit, and without what is dead
 pub record FirstRead (on : ℕ → Bool) (number : ℕ) (entry : CondToken) (rest : List CondToken) (nodes : Nodes) (before read still last : Standing) (old new dies : Bool) : Type 0 where
   pub there : IsTrue (value on (condition_of entry.when)) → StandsBehind on (entry ∷ rest) nodes before → HasRead nodes (terminal (plain_token entry.token)) (seen_of number entry) read
-  pub absent : value on (condition_of entry.when) ≡ false → StandsBehind on (entry ∷ rest) nodes before → StaysBehind on (entry ∷ rest) nodes read
-  pub in_unit : IsInUnit (value on (condition_of entry.when)) read still
+  pub absent : value on (condition_of entry.when) ≡ false → StandsBehind on (entry ∷ rest) nodes before → StandsBehind on (entry ∷ rest) nodes read
+  pub in_unit : IsInUnit read still
   pub same : dies ≡ false → last ≡ still
   pub wrong : dies ≡ true → (kind : Terminal) (token : Seen) → still.leads [] kind token ≡ is_wrong
   pub refused_is : new ≡ (old || (true && dies))
@@ -358,17 +344,18 @@ stands_then : (on : ℕ → Bool) (number : ℕ) (entry : CondToken) (rest : Lis
     → IsSoFar on (suc number) rest (nodes_behind on number entry nodes) new last
 stands_then on number entry rest nodes before read still last new dies true there first stands =
     let leads : LeadsOn (going_on (leading nodes (terminal (plain_token entry.token)) (seen_of number entry))) still =
-    reads_in_unit nodes (terminal (plain_token entry.token)) (seen_of number entry) read still (first.there there stands) (subst (λ b. IsInUnit b read still) there first.in_unit)
+    reads_in_unit nodes (terminal (plain_token entry.token)) (seen_of number entry) read still (first.there there stands) first.in_unit
     in
     subst (λ n. IsSoFar on (suc number) rest n new last) (sym (behind_there on number entry nodes there))
     (so_far_behind on (suc number) rest (going_on (leading nodes (terminal (plain_token entry.token)) (seen_of number entry))) new dies still last
     leads.sound leads.still (λ token. leads.leads_are (next_kind on rest) token) first.same first.wrong first.refused_is)
 stands_then on number entry rest nodes before read still last new dies false absent first stands =
     let stayed = first.absent absent stands in
-    let kept = stays_in_unit (next_kind on (entry ∷ rest)) nodes read still stayed.sound stayed.leads_are (subst (λ b. IsInUnit b read still) absent first.in_unit) in
+    let same : still ≡ read = still_same read still first.in_unit stayed.still in
     subst (λ n. IsSoFar on (suc number) rest n new last) (sym (behind_absent on number entry nodes absent))
-    (so_far_behind on (suc number) rest nodes new dies still last kept.1 kept.0
-    (subst (λ kind. (token : Seen) → still.leads [] kind token ≡ leading nodes kind token) (next_absent on entry rest absent) kept.2) first.same first.wrong first.refused_is)
+    (so_far_behind on (suc number) rest nodes new dies still last (subst IsSound (sym same) stayed.sound) (ap (λ (s : Standing). s.stay) same ∙ stayed.still)
+    (subst (λ kind. (token : Seen) → still.leads [] kind token ≡ leading nodes kind token) (next_absent on entry rest absent)
+    (λ token. ap (λ (s : Standing). s.leads [] (next_kind on (entry ∷ rest)) token) same ∙ stayed.leads_are token)) first.same first.wrong first.refused_is)
 
 pub first_so_far : (on : ℕ → Bool) (number : ℕ) (entry : CondToken) (rest : List CondToken) (nodes : Nodes) (before read still last : Standing) (old new dies : Bool)
     → FirstRead on number entry rest nodes before read still last old new dies → IsSoFar on number (entry ∷ rest) nodes old before
@@ -382,15 +369,15 @@ first_so_far on number entry rest nodes before read still last false new dies fi
 pub first_read_so : (on : ℕ → Bool) (number : ℕ) (entry : CondToken) (rest tokens : List CondToken) (kind : Terminal) (nodes : Nodes) (before read still last : Standing) (old new dies : Bool)
     → tokens ≡ entry ∷ rest → terminal (plain_token entry.token) ≡ kind
     → (IsTrue (value on (condition_of entry.when)) → next_kind on tokens ≡ kind → StandsBehind on tokens nodes before → HasRead nodes kind (seen_of number entry) read)
-    → (value on (condition_of entry.when) ≡ false → StandsBehind on tokens nodes before → StaysBehind on tokens nodes read)
-    → IsInUnit (value on (condition_of entry.when)) read still → (dies ≡ false → last ≡ still)
+    → (value on (condition_of entry.when) ≡ false → StandsBehind on tokens nodes before → StandsBehind on tokens nodes read)
+    → IsInUnit read still → (dies ≡ false → last ≡ still)
     → (dies ≡ true → (next : Terminal) (token : Seen) → still.leads [] next token ≡ is_wrong) → new ≡ (old || (true && dies))
     → FirstRead on number entry rest nodes before read still last old new dies
 first_read_so on number entry rest tokens kind nodes before read still last old new dies tokens_are kind_is there absent in_unit same wrong refused_is = record {
   there = λ t stands.
       subst (λ k. HasRead nodes k (seen_of number entry) read) (sym kind_is)
       (there t (ap (next_kind on) tokens_are ∙ next_there on entry rest t ∙ kind_is) (subst (λ ts. StandsBehind on ts nodes before) (sym tokens_are) stands));
-  absent = λ a stands. subst (λ ts. StaysBehind on ts nodes read) tokens_are (absent a (subst (λ ts. StandsBehind on ts nodes before) (sym tokens_are) stands));
+  absent = λ a stands. subst (λ ts. StandsBehind on ts nodes read) tokens_are (absent a (subst (λ ts. StandsBehind on ts nodes before) (sym tokens_are) stands));
   in_unit = in_unit;
   same = same;
   wrong = wrong;

@@ -51,11 +51,6 @@ pub record StandsBehind (on : ℕ → Bool) (ahead : List CondToken) (nodes : No
   pub still : standing.stay ≡ stays
   pub leads_are : (token : Seen) → standing.leads [] (next_kind on ahead) token ≡ leading nodes (next_kind on ahead) token
 
--- as before, or as one that has left the unit
-pub record StaysBehind (on : ℕ → Bool) (ahead : List CondToken) (nodes : Nodes) (standing : Standing) : Type 0 where
-  pub sound : IsSound standing
-  pub leads_are : (token : Seen) → standing.leads [] (next_kind on ahead) token ≡ leading nodes (next_kind on ahead) token
-
 -- what has been read behind one token more, if it is present
 abbrev pub nodes_behind : (ℕ → Bool) → ℕ → CondToken → Nodes → Nodes
 nodes_behind on number entry nodes = read_seen nodes (numbered_at on number (entry ∷ []))
@@ -65,10 +60,9 @@ pub record HasRead (nodes : Nodes) (kind : Terminal) (token : Seen) (standing : 
   pub fit : IsTrue standing.fits
   pub reads : IsRead standing.stay kind token (leading nodes kind token) (standing.leads [])
 
--- one stands still in a unit: one that has been left, as only a token that is there does, is dead
-pub record IsInUnit (there : Bool) (old new : Standing) : Type 0 where
+-- one stands still in a unit: one that has been left is dead
+pub record IsInUnit (old new : Standing) : Type 0 where
   pub new_is : new ≡ within_unit old
-  pub leaves_there : old.stay ≡ leaves → there ≡ true
   pub ends : old.stay ≡ leaves → (kind : Terminal) (token : Seen) → going_on (old.leads [] kind token) ≡ None
   pub takes_none : old.stay ≡ takes → ⊥
 

@@ -10,7 +10,7 @@ ghost use Rattle.choice_lookahead.specs.Ahead.{next_kind};
 ghost use Rattle.choice_states.specs.Seen.{seen_in};
 ghost use Rattle.choice_states.specs.Parts.{values};
 ghost use Rattle.choice_settling.specs.Steps.{seen_of, stood};
-ghost use Rattle.choice_parser.specs.Units.{Nodes, StandsBehind, StaysBehind, HasRead, nodes_behind, IsSoFar, Progress, IsEnded, IsLowPart, IsParsed};
+ghost use Rattle.choice_parser.specs.Units.{Nodes, StandsBehind, HasRead, nodes_behind, IsSoFar, Progress, IsEnded, IsLowPart, IsParsed};
 
 use crate::refusals::buried;
 use crate::units::{end_of_text, refused_in, still_in_unit};
@@ -57,7 +57,7 @@ fn read_next<O: Oracle>(
         → HasRead nodes reading.entry.terminal (seen_of reading.entry.number reading.entry.token.now) (stood new parts.new.items (has c))) }
     ensures absent { IfOk result (λ new. (c : List Bool) (nodes : Nodes) → IsTrue (value (has c) (O.admits oracle.old)) → value (has c) (condition_of reading.entry.token.now.when) ≡ false
         → StandsBehind (has c) ahead.entry.tokens.now nodes (stood state parts.old.items (has c))
-        → StaysBehind (has c) ahead.entry.tokens.now nodes (stood new parts.new.items (has c))) }
+        → StandsBehind (has c) ahead.entry.tokens.now nodes (stood new parts.new.items (has c))) }
 {
     let path = Vec::new(ahead.alloc);
     let state = settled(state, parts, None, &path, &path, ahead)?;
@@ -100,8 +100,8 @@ fn read_first<O: Oracle>(
         return Err(AllocError);
     }
     let state = read_next(state, parts, ahead, reading, oracle)?;
+    let state = still_in_unit(alloc, state)?;
     let path = Vec::new(alloc);
-    let state = still_in_unit(alloc, state, &path, &reading.token.when, oracle)?;
     let state = buried(alloc, state, &path, refused)?;
     Ok(state)
 }

@@ -1,13 +1,11 @@
 //! The list of a unit's items: what has left it, and what is whole where the text ends.
 
-ghost use Rattle.std.specs.Prelude.{◌≡◌, ℕ, Bool, List, true, ◌||◌, Some, IsTrue, IfOk};
+ghost use Rattle.std.specs.Prelude.{◌≡◌, ℕ, Bool, ◌||◌, Some, IsTrue, IfOk};
 ghost use Rattle.c_tree.specs.declared.kinds.Kind.TheVariants.{Unit};
-ghost use Rattle.cond_formula.specs.Features.{has};
 ghost use Rattle.cond_formula.specs.Conditions.{condition_of, conditions_of, value, all_true};
 ghost use Rattle.c_text.specs.Token.{plain_token};
 ghost use Rattle.c_tree.specs.declared.terminals.Terminal.TheVariants.{Other};
 ghost use Rattle.c_tree.specs.Terminals.{terminal};
-ghost use Rattle.choice_states.specs.declared.states.State.{Dead};
 ghost use Rattle.choice_states.specs.Seen.{Parts};
 ghost use Rattle.choice_states.specs.States.{standing};
 ghost use Rattle.choice_parser.specs.Units.{IsInUnit, IsRefusedHere};
@@ -15,9 +13,9 @@ ghost use Rattle.choice_parser.specs.Units.{IsInUnit, IsRefusedHere};
 use c_text::{Origin, Place as TextPlace, Token, TokenKind};
 use c_tree::Kind;
 use choice_states::{State, split};
-use cond_formula::{Formula, NoMemory, Oracle};
+use cond_formula::{Formula, NoMemory};
 use cond_tokens::CondToken;
-use path_conditions::{Presence, conjoined, presence_on, with, without};
+use path_conditions::{conjoined, with, without};
 use std::alloc::{AllocError, Global};
 use text_edits::Span;
 
@@ -45,46 +43,18 @@ pub fn end_of_text(alloc: Global) -> CondToken
     }
 }
 
-/// A unit has been left on the path, which only a token does that is there: behind it nothing stands.
-fn left_unit<O: Oracle>(
-    alloc: Global,
-    path: &[Formula],
-    when: &Formula,
-    oracle: &mut O,
-) -> Result<State, NoMemory>
-    ensures kept { O.admits oracle.new ≡ O.admits oracle.old }
-    ensures dead { IfOk result (λ state. state ≡ Dead) }
-    ensures there { IfOk result (λ state. (c : List Bool) → IsTrue (value (has c) (O.admits oracle.old)) → IsTrue (all_true (has c) (conditions_of path.now))
-        → value (has c) (condition_of when.now) ≡ true) }
-{
-    match presence_on(alloc, path, when, oracle)? {
-        Presence::Present => Ok(State::Dead),
-        _ => Err(AllocError),
-    }
-}
-
 /// What has left the unit is dead.
 #[tactic(auto, using(choice_states::specs::StateLaws::state_kinds, crate::proofs::UnitLemmas::still_kinds))]
-pub fn still_in_unit<O: Oracle>(
-    alloc: Global,
-    state: State,
-    path: &[Formula],
-    when: &Formula,
-    oracle: &mut O,
-) -> Result<State, NoMemory>
-    ensures kept { O.admits oracle.new ≡ O.admits oracle.old }
-    ensures still { IfOk result (λ new. (c : List Bool) (parts : Parts) → IsTrue (value (has c) (O.admits oracle.old)) → IsTrue (all_true (has c) (conditions_of path.now))
-        → IsInUnit (value (has c) (condition_of when.now)) (standing state (has c) parts) (standing new (has c) parts)) }
+pub fn still_in_unit(alloc: Global, state: State) -> Result<State, NoMemory>
+    ensures { IfOk result (λ new. (on : ℕ → Bool) (parts : Parts) → IsInUnit (standing state on parts) (standing new on parts)) }
 {
     match state {
-        State::Closed(_) => left_unit(alloc, path, when, oracle),
-        State::Unbegun(..) => left_unit(alloc, path, when, oracle),
+        State::Closed(_) => Ok(State::Dead),
+        State::Unbegun(..) => Ok(State::Dead),
         State::Taken(..) => Err(AllocError),
         State::Split(f, first, second) => {
-            let first_path = with(alloc, path, &f)?;
-            let first = still_in_unit(alloc, Box::into_inner(first), &first_path, when, oracle)?;
-            let second_path = without(alloc, path, &f)?;
-            let second = still_in_unit(alloc, Box::into_inner(second), &second_path, when, oracle)?;
+            let first = still_in_unit(alloc, Box::into_inner(first))?;
+            let second = still_in_unit(alloc, Box::into_inner(second))?;
             let state = split(alloc, f, first, second)?;
             Ok(state)
         }

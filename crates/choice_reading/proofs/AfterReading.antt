@@ -95,7 +95,7 @@ module _
         let fits : IsTrue (parts_fit_within (plain_place behind) (seen_in (has c) old)) =
         ap (λ b. parts_fit_within b (seen_in (has c) old)) behind_is ∙ back_fit (plain_place place) (plain_place ended) (seen_in (has c) old) (both_of (parts_fit_within (plain_place place) (seen_in (has c) old)) inner.fits sound.fit) in
         let grown : Pushed (plain_place behind) (seen_in (has c) old) (seen_in (has c) pushed) found.0 = pushes (has c) found.0 h found.1 fits in
-        reads_from (value (has c) when) outer kind token (within (plain_place place) inner (seen_in (has c) old)) (at_place (plain_place behind) (seen_in (has c) pushed)) (stood state new (has c))
+        reads_from (value (has c) when) outer kind token (within (plain_place place) inner (seen_in (has c) old)) (at_place (plain_place behind) (seen_in (has c) pushed)) (stood state new (has c)) (λ left. cc left)
         (alike_behind (value (has c) when) outer kind token place inner (arrived (choice_seen (has c) part) (plain_place ended)) (at_place (plain_place behind) (seen_in (has c) pushed)) (seen_in (has c) old) refl whole (λ frames k t.
         ap (λ vs. outcome of_seen k t (frames_at (plain_place behind) vs frames)) grown.values_are
         ∙ ap (λ b. outcome of_seen k t (frames_at b (values (seen_in (has c) old) ++ found.0 ∷ []) frames)) behind_is
@@ -110,7 +110,7 @@ module _
         let left : Reads (value (has c) when) (Some place) kind token inner (unbegun (plain_place around)) =
         subst (λ s. Reads (value (has c) when) (Some place) kind token inner s) (ap (λ a. becoming a (has c)) after_is ∙ becoming-Unbegun around (has c)) reads in
         let fits : IsTrue (unbegun (plain_place around)).fits = fits_arrived (value (has c) when) (Some place) kind token inner (unbegun (plain_place around)) left in
-        reads_from (value (has c) when) outer kind token (within (plain_place place) inner (seen_in (has c) old)) (at_place (plain_place around) (seen_in (has c) old)) (stood state new (has c))
+        reads_from (value (has c) when) outer kind token (within (plain_place place) inner (seen_in (has c) old)) (at_place (plain_place around) (seen_in (has c) old)) (stood state new (has c)) (λ left. cc left)
         (alike_behind (value (has c) when) outer kind token place inner (unbegun (plain_place around)) (at_place (plain_place around) (seen_in (has c) old)) (seen_in (has c) old) refl left (λ frames k t.
         ap (λ fs. outcome of_seen k t fs) (frames_inside (plain_place around) (values (seen_in (has c) old)) frames (around_inside (plain_place around) fits))))
         (next c admitted p h (record { fit = around_fits (plain_place around) (seen_in (has c) old) fits; clean = tt }))

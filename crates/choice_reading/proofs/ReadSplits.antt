@@ -56,7 +56,7 @@ each_becomes A false path here first_path first_here second_path second_here old
 -- ---- where a token is there, and elsewhere
 
 pub keeps_same : (outer : Option Spot) (s : Standing) → IsSound s → Keeps outer s s
-keeps_same outer s sound = record { sound = sound; leads_are = λ frames around kind token. refl }
+keeps_same outer s sound = record { sound = sound; still = λ unleft. unleft; leads_are = λ frames around kind token. refl }
 
 pub reads_present : (there : Bool) (outer : Option Spot) (kind : Terminal) (token : Seen) (before after : Standing) → there ≡ true → ReadsThere outer kind token before after
     → Reads there outer kind token before after

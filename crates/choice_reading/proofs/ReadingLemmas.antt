@@ -9,7 +9,7 @@ use Rattle.choice_states.specs.Seen.{Seen, Parts}
 use Rattle.choice_states.specs.Parts.{is_there, values, parts_fit_within}
 use Rattle.choice_states.specs.States.{Stay, stays, leaves, takes, astray, Standing, dead, open_node, within, Finishes, IsFinished}
 use Rattle.choice_settling.specs.Steps.{IsAround, IsSound, IsBehind, IsRead, ReadsThere, Reads}
-use Rattle.choice_settling.proofs.SettlingLemmas.{finished_clean, both_of, of_both}
+use Rattle.choice_settling.proofs.SettlingLemmas.{never_left, finished_clean, finished_open, both_of, of_both}
 
 -- ---- where the next token is read
 
@@ -46,6 +46,7 @@ reads_finished false outer kind token a b c owed owes finishes reads =
     let done : Finishes b owed c = finishes reads.sound.fit in
     record {
       sound = record { fit = done.fit; clean = finished_clean b.stay owed c.stay reads.sound.clean done.stay };
+      still = λ unleft. finished_open b.stay owed c.stay reads.sound.clean done.stay (reads.still unleft);
       leads_are = λ frames around kind token. done.leads_are frames kind token ∙ reads.leads_are frames around kind token;
     }
 
@@ -62,6 +63,7 @@ reads_open false outer kind token place inner rest parts sound reads = record {
     fit = of_both (parts_fit_within (plain_place place) parts) rest.fits (both_of (parts_fit_within (plain_place place) parts) inner.fits sound.fit) reads.sound.fit;
     clean = reads.sound.clean;
   };
+  still = λ unleft. never_left rest.stay;
   leads_are = λ frames around kind token. reads.leads_are (frame (plain_place place) (values parts) ∷ frames) refl kind token;
 }
 
@@ -79,14 +81,15 @@ left_alike false outer kind token inner after left reads frames around = reads.l
 
 -- so it is read behind it
 pub reads_from : (there : Bool) (outer : Option Spot) (kind : Terminal) (token : Seen) (a b after : Standing)
-    → ((frames : List (Frame Seen)) → IsAround outer frames → LeadAlike there kind token (a.leads frames) (b.leads frames))
+    → (b.stay ≡ leaves → ⊥) → ((frames : List (Frame Seen)) → IsAround outer frames → LeadAlike there kind token (a.leads frames) (b.leads frames))
     → Reads there outer kind token b after → Reads there outer kind token a after
-reads_from true outer kind token a b after same reads = record {
+reads_from true outer kind token a b after unleft same reads = record {
   fit = reads.fit;
   reads = λ frames around. subst (λ before. IsRead after.stay kind token before (after.leads frames)) (same frames around) (reads.reads frames around);
 }
-reads_from false outer kind token a b after same reads = record {
+reads_from false outer kind token a b after unleft same reads = record {
   sound = reads.sound;
+  still = λ left. reads.still unleft;
   leads_are = λ frames around kind token. reads.leads_are frames around kind token ∙ same frames around kind token;
 }
 
@@ -101,6 +104,7 @@ reads_dead true outer kind token place inner parts spot is reads = record {
 }
 reads_dead false outer kind token place inner parts spot is reads = record {
   sound = record { fit = refl; clean = tt };
+  still = λ unleft left. cc left;
   leads_are = λ frames around kind token. reads.leads_are (frame place (values parts) ∷ frames) is kind token;
 }
 
@@ -129,11 +133,11 @@ reads_left true outer kind token s left sound = record {
   fit = sound.fit;
   reads = λ frames around. subst (λ stay. IsRead stay kind token (s.leads frames kind token) (s.leads frames)) (sym left) refl;
 }
-reads_left false outer kind token s left sound = record { sound = sound; leads_are = λ frames around kind token. refl }
+reads_left false outer kind token s left sound = record { sound = sound; still = λ unleft. unleft; leads_are = λ frames around kind token. refl }
 
 pub reads_still_dead : (there : Bool) (outer : Option Spot) (kind : Terminal) (token : Seen) → Reads there outer kind token dead dead
 reads_still_dead true outer kind token = record { fit = refl; reads = λ frames around k t. refl }
-reads_still_dead false outer kind token = record { sound = record { fit = refl; clean = tt }; leads_are = λ frames around kind token. refl }
+reads_still_dead false outer kind token = record { sound = record { fit = refl; clean = tt }; still = λ unleft. unleft; leads_are = λ frames around kind token. refl }
 
 -- ---- where a list may begin
 

@@ -37,11 +37,12 @@ use Rattle.choice_settling.proofs.TableLaws.{Suits, within_back, moved_suits}
 use Rattle.choice_settling.proofs.ListLaws.{AroundList, around_list, around_inside, around_fits}
 
 pub settles_same : (outer : Option Spot) (kind : Terminal) (s : Standing) → IsSound s → Settles outer kind s s
-settles_same outer kind s sound = record { sound = sound; leads_are = λ frames around token. refl }
+settles_same outer kind s sound = record { sound = sound; still = λ none unleft. unleft; leads_are = λ frames around token. refl }
 
 pub settles_then : (outer : Option Spot) (kind : Terminal) (a b c : Standing) → Settles outer kind a b → Settles outer kind b c → Settles outer kind a c
 settles_then outer kind a b c one other = record {
   sound = other.sound;
+  still = λ none unleft. other.still none (one.still none unleft);
   leads_are = λ frames around token. other.leads_are frames around token ∙ one.leads_are frames around token;
 }
 
@@ -56,6 +57,13 @@ within_clean stays h = h
 within_clean leaves h = tt
 within_clean takes h = h
 within_clean astray h = h
+
+-- a node in a part of which one stands
+pub never_left : (stay : Stay) → stay_within stay ≡ leaves → ⊥
+never_left stays left = cc left
+never_left leaves left = cc left
+never_left takes left = cc left
+never_left astray left = cc left
 
 none_such : {A : Type 0} → false ≡ true → A
 none_such h = cc
@@ -87,6 +95,7 @@ settles_in outer kind place inner after parts sound settles = record {
     fit = of_both (parts_fit_within (plain_place place) parts) after.fits (both_of (parts_fit_within (plain_place place) parts) inner.fits sound.fit) settles.sound.fit;
     clean = within_clean after.stay settles.sound.clean;
   };
+  still = λ none unleft. never_left after.stay;
   leads_are = λ frames around token. settles.leads_are (frame (plain_place place) (values parts) ∷ frames) refl token;
 }
 
@@ -97,12 +106,20 @@ finished_clean leaves false after clean is = is
 finished_clean takes owed after clean is = absurd clean
 finished_clean astray owed after clean is = absurd clean
 
+pub finished_open : (before : Stay) (owed : Bool) (after : Stay) → IsClean before → IsFinished before owed after → (before ≡ leaves → ⊥) → after ≡ leaves → ⊥
+finished_open stays owed after clean is unleft left = cc (is, left)
+finished_open leaves true after clean is unleft left = unleft refl
+finished_open leaves false after clean is unleft left = unleft refl
+finished_open takes owed after clean is unleft left = absurd clean
+finished_open astray owed after clean is unleft left = absurd clean
+
 -- the node is finished behind it
 pub settles_finished : (outer : Option Spot) (kind : Terminal) (a b c : Standing) (owed : Bool) → Settles outer kind a b → (IsTrue b.fits → Finishes b owed c) → Settles outer kind a c
 settles_finished outer kind a b c owed settles finishes =
     let done : Finishes b owed c = finishes settles.sound.fit in
     record {
       sound = record { fit = done.fit; clean = finished_clean b.stay owed c.stay settles.sound.clean done.stay };
+      still = λ none unleft. finished_open b.stay owed c.stay settles.sound.clean done.stay (settles.still none unleft);
       leads_are = λ frames around token. done.leads_are frames kind token ∙ settles.leads_are frames around token;
     }
 
@@ -116,13 +133,14 @@ opened_clean astray h = h
 
 -- no unit goes on so
 pub settles_dead : (outer : Option Spot) (kind : Terminal) (place : Place) (parts : Parts) → Settles outer kind (within place dead parts) dead
-settles_dead outer kind place parts = record { sound = record { fit = refl; clean = tt }; leads_are = λ frames around token. refl }
+settles_dead outer kind place parts = record { sound = record { fit = refl; clean = tt }; still = λ none unleft left. cc left; leads_are = λ frames around token. refl }
 
 -- one stays in it
 pub settles_open : (outer : Option Spot) (kind : Terminal) (place : Place) (inner : Standing) (parts : Parts) → IsSound (within place (open_node inner) parts)
     → Settles outer kind (within place (open_node inner) parts) (within place inner parts)
 settles_open outer kind place inner parts sound = record {
   sound = record { fit = sound.fit; clean = opened_clean inner.stay sound.clean };
+  still = λ none unleft. never_left inner.stay;
   leads_are = λ frames around token. refl;
 }
 
@@ -130,6 +148,7 @@ settles_pushed : (outer : Option Spot) (kind : Terminal) (place ended : Place) (
     → Settles outer kind (within place (arrived (Some part) ended) old) (at_place (back place ended) new)
 settles_pushed outer kind place ended part old new pushed = record {
   sound = record { fit = pushed.fit; clean = tt };
+  still = λ none unleft left. cc left;
   leads_are = λ frames around token.
       ap (λ vs. outcome of_seen kind token (frames_at (back place ended) vs frames)) pushed.values_are ∙ arrives_so place ended (values old) part frames kind token;
 }
@@ -149,6 +168,7 @@ settles_unbegun outer kind place around parts sound =
     let is : IsTrue (is_around_list around) = other_of (parts_fit_within place parts) (is_around_list around) sound.fit in
     record {
       sound = record { fit = around_fits around parts is; clean = tt };
+      still = λ none unleft left. cc left;
       leads_are = λ frames in_frames token. ap (λ fs. outcome of_seen kind token fs) (frames_inside around (values parts) frames (around_inside around is));
     }
 
@@ -167,11 +187,17 @@ list_around : (outer : Option Spot) (place around : Spot) → IsListAround place
 list_around None place around list = absurd list
 list_around (Some behind) place around list = list.1
 
+-- such a list is in a node
+in_node_around : (outer : Option Spot) (place around : Spot) → IsListAround place outer around → outer ≡ None → ⊥
+in_node_around None place around list none = list
+in_node_around (Some behind) place around list none = cc none
+
 -- a list without entries hasn't begun
 pub settles_without_entries : (outer : Option Spot) (kind : Terminal) (place around : Spot) (parts : Parts) → IsListAround place outer around → values parts ≡ []
     → Settles outer kind (at_place (plain_place place) parts) (unbegun (plain_place around))
 settles_without_entries outer kind place around parts list none = record {
   sound = record { fit = list_around outer place around list; clean = tt };
+  still = λ none. absurd (in_node_around outer place around list none);
   leads_are = λ frames in_frames token. without_entries outer place around (values parts) frames kind token list none in_frames;
 }
 
@@ -180,6 +206,7 @@ pub settles_before_list : (outer : Option Spot) (kind : Terminal) (place behind 
     → AroundList before behind place → Settles outer kind (at_place place parts) (within behind (at_place before []) parts)
 settles_before_list outer kind place behind before parts list is laws = record {
   sound = record { fit = of_both (parts_fit_within behind parts) (parts_fit before []) (laws.fit_behind parts) (laws.fit_before []); clean = tt };
+  still = λ none unleft left. cc left;
   leads_are = λ frames around token.
       ap (λ places. outcome of_seen kind token (without_list places before (frame behind (values parts)) frames)) list
       ∙ ap (λ fs. outcome of_seen kind token fs) (sym (frames_inside place (values parts) frames (around_inside place is)));
@@ -221,12 +248,13 @@ ends_whole (Some end) place parts suits fits = suits parts fits
 
 -- the token ends the node, behind parts that it leaves out
 pub settles_ended : (outer : Option Spot) (kind : Terminal) (place : Spot) (count : ℕ) (end : Option Kind) (old new : Parts) (after : Standing)
-    → HasBegun outer (plain_place place) old → move (plain_place place) kind ≡ skipping count (ended_by end) → LeftOut count (plain_place place) old new
+    → (outer ≡ None → ⊥) → HasBegun outer (plain_place place) old → move (plain_place place) kind ≡ skipping count (ended_by end) → LeftOut count (plain_place place) old new
     → ClosesAlike (closed end (left_out count (plain_place place)) new) after → Settles outer kind (at_place (plain_place place) old) after
-settles_ended outer kind place count end old new after begun moves out closes =
+settles_ended outer kind place count end old new after inside begun moves out closes =
     let whole : IsTrue (parts_are_whole end new) = ends_whole end (left_out count (plain_place place)) new (moved_suits place kind count (ended_by end) moves) out.fit in
     record {
       sound = record { fit = closes.fits_are ∙ whole; clean = subst IsClean (sym closes.stay_is) tt };
+      still = λ none. absurd (inside none);
       leads_are = λ frames around token.
           closes.leads_are frames kind token ∙ ended_leads outer kind (plain_place place) count end old new frames token (begun frames around) moves out.values_are whole;
     }
@@ -437,10 +465,10 @@ module _ (path here : List Formula) (outer : Option Spot) (ahead : List CondToke
       → (LeavesOut ending.skipped (plain_place place) → (on : ℕ → Bool) → IsTrue (all_true on (conditions_of here)) → IsTrue (parts_fit (plain_place place) (seen_in on old))
       → LeftOut ending.skipped (plain_place place) (seen_in on old) (seen_in on new))
       → ((on : ℕ → Bool) (parts : Parts) → ClosesAlike (closed ending.kind (plain_place ended) parts) (standing state on parts))
-      → (on : ℕ → Bool) → IsTrue (all_true on (conditions_of path)) → IsTrue (all_true on (conditions_of here)) → HasBegun outer (plain_place place) (seen_in on old)
+      → (outer ≡ None → ⊥) → (on : ℕ → Bool) → IsTrue (all_true on (conditions_of path)) → IsTrue (all_true on (conditions_of here)) → HasBegun outer (plain_place place) (seen_in on old)
       → IsSound (at_spot place old on) → Settles outer (next_kind on ahead) (at_spot place old on) (stood state new on)
-  so_ended place ended ending old new state ends is leaves_out closes = λ on there holds begun sound.
-      settles_ended outer (next_kind on ahead) place ending.skipped ending.kind (seen_in on old) (seen_in on new) (stood state new on) begun (ends on there)
+  so_ended place ended ending old new state ends is leaves_out closes = λ inside on there holds begun sound.
+      settles_ended outer (next_kind on ahead) place ending.skipped ending.kind (seen_in on old) (seen_in on new) (stood state new on) inside begun (ends on there)
       (leaves_out (record { token = next_kind on ahead; next = ended_by ending.kind; is = ends on there }) on holds sound.fit)
       (subst (λ p. ClosesAlike (closed ending.kind p (seen_in on new)) (stood state new on)) is (closes on (seen_in on new)))
 
@@ -456,12 +484,12 @@ module _ (path here : List Formula) (outer : Option Spot) (ahead : List CondToke
           (none_there (values (seen_in on parts)) (value on (condition_of some)) (some_are on there) none))
 
       list_begun : (begun : State) (soon : List (Choice Item))
-          → ((outer : Option Spot) (on : ℕ → Bool) → IsTrue (all_true on (conditions_of path)) → IsTrue (all_true on (conditions_of here)) → HasBegun outer (plain_place place) (seen_in on parts)
+          → ((outer : Option Spot) → (outer ≡ None → ⊥) → (on : ℕ → Bool) → IsTrue (all_true on (conditions_of path)) → IsTrue (all_true on (conditions_of here)) → HasBegun outer (plain_place place) (seen_in on parts)
           → IsSound (at_spot place parts on) → Settles outer (next_kind on ahead) (at_spot place parts on) (stood begun soon on))
           → (on : ℕ → Bool) → IsTrue (all_true on (conditions_of path)) → IsTrue (all_true on (conditions_of here)) → IsSound (at_spot place parts on) → IsTrue (value on (condition_of some))
           → Settles outer (next_kind on ahead) (at_spot place parts on) (stood begun soon on)
       list_begun begun soon settles on there holds sound is =
-          settles outer on there holds
+          settles outer (in_node_around outer place around list) on there holds
           (begun_some outer (plain_place place) (seen_in on parts) (some_there (values (seen_in on parts)) (value on (condition_of some)) (some_are on there) is)) sound
 
       pub so_list_unbegun : ((on : ℕ → Bool) → IsTrue (all_true on (conditions_of path)) → value on (condition_of some) ≡ false)
@@ -469,14 +497,14 @@ module _ (path here : List Formula) (outer : Option Spot) (ahead : List CondToke
       so_list_unbegun none = λ on there holds sound. list_unbegun parts on there (none on there)
 
       pub so_list_begun : (begun : State) (soon : List (Choice Item))
-          → ((outer : Option Spot) (on : ℕ → Bool) → IsTrue (all_true on (conditions_of path)) → IsTrue (all_true on (conditions_of here)) → HasBegun outer (plain_place place) (seen_in on parts)
+          → ((outer : Option Spot) → (outer ≡ None → ⊥) → (on : ℕ → Bool) → IsTrue (all_true on (conditions_of path)) → IsTrue (all_true on (conditions_of here)) → HasBegun outer (plain_place place) (seen_in on parts)
           → IsSound (at_spot place parts on) → Settles outer (next_kind on ahead) (at_spot place parts on) (stood begun soon on))
           → ((on : ℕ → Bool) → IsTrue (all_true on (conditions_of path)) → IsTrue (value on (condition_of some)))
           → SettlesSo path here outer ahead (at_spot place parts) (stood begun soon)
       so_list_begun begun soon settles is = λ on there holds sound. list_begun begun soon settles on there holds sound (is on there)
 
       pub so_list_either : (begun state : State) (soon : List (Choice Item))
-          → ((outer : Option Spot) (on : ℕ → Bool) → IsTrue (all_true on (conditions_of path)) → IsTrue (all_true on (conditions_of here)) → HasBegun outer (plain_place place) (seen_in on parts)
+          → ((outer : Option Spot) → (outer ≡ None → ⊥) → (on : ℕ → Bool) → IsTrue (all_true on (conditions_of path)) → IsTrue (all_true on (conditions_of here)) → HasBegun outer (plain_place place) (seen_in on parts)
           → IsSound (at_spot place parts on) → Settles outer (next_kind on ahead) (at_spot place parts on) (stood begun soon on))
           → StandsAsSplit some begun (Unbegun around false) state → SettlesSo path here outer ahead (at_spot place parts) (stood state soon)
       so_list_either begun state soon settles as_split = λ on there holds sound.

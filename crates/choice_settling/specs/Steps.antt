@@ -39,6 +39,10 @@ pub record IsSound (standing : Standing) : Type 0 where
   pub fit : IsTrue standing.fits
   pub clean : IsClean standing.stay
 
+-- it isn't left, if it wasn't before
+abbrev pub StaysOpen : Standing → Standing → Type 0
+StaysOpen before after = (before.stay ≡ leaves → ⊥) → after.stay ≡ leaves → ⊥
+
 -- where the formulas aren't all true, nothing that is seen of the parts differs
 abbrev pub SameElsewhere : List Formula → List (Choice Item) → List (Choice Item) → Type 0
 SameElsewhere here old new = (on : ℕ → Bool) → all_true on (conditions_of here) ≡ false → seen_in on new ≡ seen_in on old
@@ -64,9 +68,10 @@ pub record ClosesAlike (before after : Standing) : Type 0 where
 
 -- ---- before a token
 
--- what a token of this kind leads to is the same, whatever it is in itself
+-- What a token of this kind leads to is the same, whatever it is in itself. A node that is in no other isn't left.
 pub record Settles (outer : Option Spot) (kind : Terminal) (before after : Standing) : Type 0 where
   pub sound : IsSound after
+  pub still : outer ≡ None → StaysOpen before after
   pub leads_are : (frames : List (Frame Seen)) → IsAround outer frames → (token : Seen) → after.leads frames kind token ≡ before.leads frames kind token
 
 -- what the next token on the path leads to is the same
@@ -96,6 +101,7 @@ pub record ReadsThere (outer : Option Spot) (kind : Terminal) (token : Seen) (be
 
 pub record Keeps (outer : Option Spot) (before after : Standing) : Type 0 where
   pub sound : IsSound after
+  pub still : StaysOpen before after
   pub leads_are :
       (frames : List (Frame Seen)) → IsAround outer frames → (kind : Terminal) (token : Seen) → after.leads frames kind token ≡ before.leads frames kind token
 

@@ -1,6 +1,6 @@
 //! Before a token: nodes that are whole whatever comes next, and lists that begin or don't.
 
-ghost use Rattle.std.specs.Prelude.{◌≡◌, ℕ, Bool, List, [], ◌∷◌, Option, Some, IsTrue, IfOk, if◌then◌else◌};
+ghost use Rattle.std.specs.Prelude.{◌≡◌, ℕ, Bool, List, [], ◌∷◌, Option, Some, None, IsTrue, IfOk, if◌then◌else◌};
 ghost use Rattle.cond_formula.specs.Conditions.{condition_of, conditions_of, value, all_true};
 ghost use Rattle.grammar_moves.specs.declared.places.Place.{Place as Spot};
 ghost use Rattle.grammar_moves.specs.PlainPlaces.{plain_place};
@@ -134,7 +134,8 @@ fn settled_at(
     }
 }
 
-/// What becomes of a place, by all tokens that may come next.
+/// What becomes of a place, by all tokens that may come next. A node that is in no other isn't ended before the token that ends it: none is behind
+/// it, so where that token isn't there nothing could go on.
 fn foreseen(
     place: Place,
     parts: &mut Vec<Choice<Item>>,
@@ -146,7 +147,25 @@ fn foreseen(
     ensures elsewhere { IfOk result (λ new. SameElsewhere here.now parts.old.items parts.new.items) }
     ensures settled { IfOk result (λ new. SettlesSo path.now here.now outer ahead.entry.tokens.now (λ on. at_place (plain_place place) (seen_in on parts.old.items)) (stood new parts.new.items)) }
 {
-    if let Some(around) = around_here(place, outer) {
+    match outer {
+        Some(behind) => foreseen_inside(place, behind, parts, path, here, ahead),
+        None => Ok(State::At(place, false)),
+    }
+}
+
+/// In a node in another, in which this place is behind it.
+fn foreseen_inside(
+    place: Place,
+    behind: Place,
+    parts: &mut Vec<Choice<Item>>,
+    path: &[Formula],
+    here: &[Formula],
+    ahead: Ahead,
+) -> Result<State, NoMemory>
+    ensures elsewhere { IfOk result (λ new. SameElsewhere here.now parts.old.items parts.new.items) }
+    ensures settled { IfOk result (λ new. SettlesSo path.now here.now (Some behind) ahead.entry.tokens.now (λ on. at_place (plain_place place) (seen_in on parts.old.items)) (stood new parts.new.items)) }
+{
+    if let Some(around) = around_here(place, Some(behind)) {
         return foreseen_in_list(place, around, parts, path, here, ahead);
     }
     match list_at(place) {
@@ -209,7 +228,7 @@ fn foreseen_end(
     ahead: Ahead,
 ) -> Result<State, NoMemory>
     ensures elsewhere { IfOk result (λ new. SameElsewhere here.now parts.old.items parts.new.items) }
-    ensures settled { IfOk result (λ new. (outer : Option Spot) (on : ℕ → Bool) → IsTrue (all_true on (conditions_of path.now)) → IsTrue (all_true on (conditions_of here.now))
+    ensures settled { IfOk result (λ new. (outer : Option Spot) → (outer ≡ None → ⊥) → (on : ℕ → Bool) → IsTrue (all_true on (conditions_of path.now)) → IsTrue (all_true on (conditions_of here.now))
         → HasBegun outer (plain_place place) (seen_in on parts.old.items) → IsSound (at_place (plain_place place) (seen_in on parts.old.items))
         → Settles outer (next_kind on ahead.entry.tokens.now) (at_place (plain_place place) (seen_in on parts.old.items)) (stood new parts.new.items on)) }
 {

@@ -11,5 +11,5 @@ returns-in_ok-ended-in-Some-clause-settled c = λ outer.
     c.in_ok-ended-in-Some.ensures.behind c.in_ok-ended-in-Some.ensures.left_out c.whole.ensures
 
 pub returns-in-None-clause-settled : goal.returns-in-None-clause-settled
-returns-in-None-clause-settled c = λ outer on there holds begun.
+returns-in-None-clause-settled c = λ outer inside on there holds begun.
     so_at c.args.path.now c.args.here.now outer c.args.ahead.tokens.now c.args.place false c.args.parts.now.items on there holds
