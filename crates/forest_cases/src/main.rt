@@ -52,6 +52,8 @@ fn rows<R: Print>(rt: &R, alloc: Global) -> anyhow::Result<()> {
     show(rt, alloc, "brace", brace, 1)?;
     let twice = b"int main(void) {\n}\n#ifdef A\n}\n#endif\nint x;\n";
     show(rt, alloc, "one brace more", twice, 1)?;
+    let last = b"int x;\n#ifdef A\n}\n#endif\n";
+    show(rt, alloc, "brace at the end", last, 1)?;
     let stars = b"int\n#ifdef A\n*\n#endif\nx\n#ifdef B\n= 1\n#else\n[2]\n#endif\n;\n";
     show(rt, alloc, "declarator", stars, 2)?;
     let left = b"int f(void) { return\n#ifdef A\n1\n#endif\n#ifdef B\n+ 2\n#endif\n; }\n";
