@@ -1,22 +1,21 @@
 -- What the tokens of a unit are read as, and what is seen of its forest.
-use Rattle.std.proofs.Common.{◌≡◌, ℕ, suc, ◌<◌, ◌≤◌, Bool, true, false, ◌||◌, List, [], ◌∷◌, map, Option, Some, None, IsTrue, refl, sym, ap, ◌∙◌, subst, arith}
+use Rattle.std.proofs.Common.{◌≡◌, ℕ, suc, ◌≤◌, Bool, true, false, ◌||◌, List, [], ◌∷◌, Some, None, IsTrue, refl, sym, ap, ◌∙◌, subst, arith}
 use Rattle.std.specs.Prelude.{option_map, nat_lt}
 use Rattle.std.specs.Bool.{if◌then◌else◌}
 use Rattle.std.proofs.lemmas.Bool.Decides.{nat_tests}
 use Rattle.cond_formula.specs.Conditions.{condition_of, value}
-use Rattle.c_text.specs.Token.{PlainToken, plain_token}
-use Rattle.c_tree.specs.declared.kinds.Kind.TheVariants as k
+use Rattle.c_text.specs.Token.{plain_token}
 use Rattle.c_tree.specs.Trees.{PlainTree}
 use Rattle.c_tree.specs.Heights.{height_of, most_high}
-use Rattle.c_tree.specs.Units.{Spells, IsTreeOf}
+use Rattle.c_tree.specs.Units.{IsTreeOf}
 use Rattle.c_tree.specs.Machine.{start, read, of_trees}
 use Rattle.c_tree.specs.ReadingLaws.{ReadIsSpelt, SpeltIsRead}
 use Rattle.choice_trees.specs.declared.trees.Forest.{Forest}
 use Rattle.choice_trees.specs.ChoiceTrees.{forest_at}
-use Rattle.choice_trees.specs.Leaves.{Leaf, texts, forest_leaves}
+use Rattle.choice_trees.specs.Leaves.{texts, forest_leaves}
 use Rattle.cond_tokens.specs.declared.tokens.CondToken.{CondToken}
-use Rattle.cond_tokens.specs.Streams.{plain_entry, tokens_at}
-use Rattle.choice_states.specs.Seen.{Seen, node_seen, seen_in}
+use Rattle.cond_tokens.specs.Streams.{tokens_at}
+use Rattle.choice_states.specs.Seen.{seen_in}
 use Rattle.choice_states.specs.Parts.{values}
 use Rattle.choice_states.specs.Reading.{read_seen, finished_seen, seen_of, TreesAreRead, LeavesAreTheTokens, UnitsAreSeen}
 use Rattle.choice_parser.specs.Units.{numbered_at, Nodes, IsEnded, IsParsed}

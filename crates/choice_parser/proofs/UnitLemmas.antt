@@ -1,5 +1,5 @@
 -- How the tokens of a unit are read one after the other.
-use Rattle.std.proofs.Common.{◌≡◌, ℕ, zero, suc, Bool, true, false, not, ◌&&◌, ◌||◌, List, [], ◌∷◌, ◌++◌, drop, length, map, Option, Some, None, IsTrue, refl, sym, ap, ◌∙◌, subst, arith, get_or, take, take_all, length-drop, drop-cons, ◌-◌, add-one, ◌+◌, ◌<◌, ◌≤◌}
+use Rattle.std.proofs.Common.{◌≡◌, ℕ, suc, Bool, true, false, not, ◌&&◌, ◌||◌, List, [], ◌∷◌, ◌++◌, drop, length, Option, Some, None, IsTrue, refl, sym, ap, ◌∙◌, subst, arith, get_or, take, take_all, length-drop, drop-cons, ◌-◌, add-one, ◌+◌, ◌<◌}
 use Rattle.std.specs.Bool.{if◌then◌else◌}
 use Rattle.std.proofs.lemmas.List.{drop_all}
 use Rattle.cond_formula.specs.Conditions.{condition_of, value}
@@ -11,7 +11,7 @@ use Rattle.c_tree.specs.declared.terminals.Terminal.TheVariants.{Other}
 use Rattle.c_tree.specs.Terminals.{terminal}
 use Rattle.c_tree.specs.Grammar.{file_item}
 use Rattle.c_tree.specs.Places.{Place, in_list, Beginning, no_beginning, begins, Move, shifts, enters, takes, skips, finishes, passes, fails, move, back}
-use Rattle.c_tree.specs.Machine.{Making, Frame, frame, Outcome, goes_on, is_whole, is_wrong, begun, moved, alone, arrives, outcome, going_on, whole, start}
+use Rattle.c_tree.specs.Machine.{Frame, frame, Outcome, goes_on, is_whole, is_wrong, begun, moved, alone, arrives, going_on, whole, start}
 use Rattle.choice_trees.specs.Leaves.{Leaf}
 use Rattle.cond_tokens.specs.declared.tokens.CondToken.{CondToken}
 use Rattle.choice_lookahead.specs.Ahead.{next_kind}
@@ -19,9 +19,9 @@ use Rattle.choice_states.specs.Seen.{Seen, Parts, of_seen, node_seen}
 use Rattle.choice_states.specs.Parts.{values}
 use Rattle.choice_states.specs.States as states
 use Rattle.choice_states.specs.States.{Stay, Standing, dead, IsClean}
-use Rattle.choice_states.specs.Reading.{leaf_seen, next_seen, read_seen, finished_seen}
-use Rattle.choice_settling.specs.Steps.{seen_of, IsSound, IsBehind, IsRead, ReadsThere, Keeps, Reads, Settles}
-use Rattle.choice_parser.specs.Deaths.{if_left, within_unit}
+use Rattle.choice_states.specs.Reading.{leaf_seen, read_seen, finished_seen}
+use Rattle.choice_settling.specs.Steps.{seen_of, IsSound, IsBehind, IsRead}
+use Rattle.choice_parser.specs.Deaths.{if_left}
 use Rattle.choice_parser.specs.Units.{numbered_at, Nodes, leading, StandsBehind, nodes_behind, HasRead, IsInUnit, IsSoFar, Progress, IsEnded, EndsNoUnit, EndsUnit, IsEndOfUnit, IsRefusedHere}
 
 -- ---- reading on

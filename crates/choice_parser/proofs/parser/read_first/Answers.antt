@@ -1,4 +1,4 @@
-use Rattle.std.proofs.Common.{true, IsTrue, ap, ◌∙◌, ◌&&◌, ◌||◌, []}
+use Rattle.std.proofs.Common.{ap, ◌∙◌, ◌&&◌, ◌||◌, []}
 use Rattle.cond_formula.specs.Features.{has}
 use Rattle.cond_formula.specs.Conditions.{condition_of, conditions_of, value, all_true}
 use Rattle.choice_states.specs.Seen.{seen_in}

@@ -1,15 +1,14 @@
 use Rattle.std.proofs.Common.{arith, drop, sym, ap, refl, ◌∙◌, ◌+◌}
 use Rattle.cond_formula.specs.Features.{has}
-use Rattle.cond_formula.specs.Conditions.{condition_of, value}
+use Rattle.cond_formula.specs.Conditions.{value}
 use Rattle.cond_formula.specs.ConditionLaws.{condition_of-False}
 use Rattle.c_tree.specs.declared.kinds.Kind.TheVariants.{Unit}
 use Rattle.grammar_moves.specs.declared.places.Place.TheVariants.{InList}
 use Rattle.grammar_moves.specs.declared.slots.Category.TheVariants.{FileItem}
-use Rattle.choice_states.specs.States.{standing, at_place}
+use Rattle.choice_states.specs.States.{at_place}
 use Rattle.choice_states.specs.StateLaws.{standing-At}
 use Rattle.grammar_moves.specs.PlainPlaces.{plain_place}
 use Rattle.choice_states.specs.Seen.{seen_in}
-use Rattle.choice_settling.specs.Steps.{stood}
 use Rattle.choice_parser.proofs.UnitLemmas.{begins_unit, token_of, rest_of, progress_next}
 use Rattle.choice_parser.proofs.parser.read_tokens.Goals as goal
 

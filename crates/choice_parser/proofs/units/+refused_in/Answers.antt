@@ -1,4 +1,4 @@
-use Rattle.std.proofs.Common.{IsTrue, subst, sym, ap, ◌∙◌}
+use Rattle.std.proofs.Common.{subst, ap, ◌∙◌}
 use Rattle.std.proofs.lemmas.Result.{IfOk-weaker}
 use Rattle.cond_formula.specs.Conditions.{condition_of, conditions_of, value, all_true}
 use Rattle.choice_states.specs.States.{standing}
