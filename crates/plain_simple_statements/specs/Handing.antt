@@ -30,3 +30,12 @@ on_ok_handed made P Q (Err first) (Ok y) h p leads = absurd h
 pub on_ok_always : {Y : Type 0} (Q : Type 0) (result : Result Y ElabError) → Q → OnOk result Q
 on_ok_always Q (Ok y) q = q
 on_ok_always Q (Err error) q = tt
+
+-- where something is made there was an answer
+pub given_handed : {A X Y R : Type 0} (d : Checked A) (plain : X → A) (made : X → Y → Type 0) (P : Type 0) (between after : Used) (first : Result X ElabError) (y : Y) → HandsOn first made (Ok y) → Judges d plain between after first → OnOk first P → ((x : X) → made x y → Gives d (plain x) (uses_of between) (uses_of after) → P → R) → R
+given_handed d plain made P between after (Ok x) y h j p leads = leads x h j p
+given_handed d plain made P between after (Err first) y h j p leads = absurd h
+
+pub refused_handed : {A B X Y : Type 0} (d : Checked A) (c : Checked B) (plain : X → A) (made : X → Y → Type 0) (between after : Used) (first : Result X ElabError) (error : ElabError) → HandsOn first made (Err error) → Judges d plain between after first → ((e : ElabError) → RefusedAs d e → RefusedAs c e) → RefusedAs c error
+refused_handed d c plain made between after (Ok x) error h j refuses = subst (RefusedAs c) (sym h) tt
+refused_handed d c plain made between after (Err first) error h j refuses = subst (RefusedAs c) (sym h) (refuses first j)

@@ -26,6 +26,19 @@ pub struct Begun {
     pub core: Box<Statement>,
 }
 
+/// A condition with the answer of the statement that it chooses.
+pub fn begun_with(
+    condition: Box<Expression>,
+    core: Result<Box<Statement>, ElabError>,
+) -> Result<Begun, ElabError>
+    ensures { HandsOn core (λ core begun. (plain_expression begun.condition.value ≡ plain_expression condition.value) × (plain_statement begun.core.value ≡ plain_statement core.value)) result }
+{
+    match core {
+        Ok(core) => Ok(Begun { condition, core }),
+        Err(error) => Err(error),
+    }
+}
+
 #[tactic(auto, using(core_meaning::specs::PlainLaws::statement_kinds))]
 fn select(alloc: Global, begun: Begun, second: Box<Statement>) -> Result<Box<Statement>, NoMemory>
     ensures { IfOk result (λ s. plain_statement s.value ≡ selection (plain_expression begun.condition.value) (plain_statement begun.core.value) (plain_statement second.value)) }
@@ -155,14 +168,35 @@ pub fn single(alloc: Global, core: Box<Statement>) -> Result<Vec<Item>, NoMemory
     Ok(items)
 }
 
-/// Some items, and those behind them.
-pub fn joined(items: Vec<Item>, behind: Vec<Item>) -> Result<Vec<Item>, NoMemory>
+/// Some items, and one behind them.
+pub fn pushed(items: Vec<Item>, item: Item) -> Result<Vec<Item>, NoMemory>
+    ensures { IfOk result (λ all. all.items ≡ items.items ++ item ∷ []) }
+{
+    let mut items = items;
+    items.push(item)?;
+    Ok(items)
+}
+
+fn join(items: Vec<Item>, behind: Vec<Item>) -> Result<Vec<Item>, NoMemory>
     ensures { IfOk result (λ all. map plain_item all.items ≡ map plain_item items.items ++ map plain_item behind.items) }
 {
     let mut all = items;
     let mut behind = behind;
     all.append(&mut behind)?;
     Ok(all)
+}
+
+/// Some items, and those behind them, by the answer of these.
+pub fn joined(
+    items: Vec<Item>,
+    behind: Result<Vec<Item>, ElabError>,
+) -> Result<Vec<Item>, ElabError>
+    ensures { HandsOn behind (λ behind all. map plain_item all.items ≡ map plain_item items.items ++ map plain_item behind.items) result }
+{
+    match behind {
+        Ok(behind) => Ok(join(items, behind)?),
+        Err(error) => Err(error),
+    }
 }
 
 #[tactic(auto, using(core_meaning::specs::PlainLaws::statement_kinds, crate::specs::Blocks::block_behind))]

@@ -5,6 +5,7 @@ mod cores;
 mod standalone;
 
 pub use cores::{
-    Begun, as_block, asked_behind, asked_first, behind_items, joined, looped, selected, single,
+    Begun, as_block, asked_behind, asked_first, begun_with, behind_items, joined, looped, pushed,
+    selected, single,
 };
 pub use standalone::{condition_or_true, discarded, expression_statement, nothing, simple};

@@ -18,7 +18,7 @@ use core_meaning::Item;
 use plain_declarations::{LocalItem, declared_locals};
 use plain_declarators::two_parts;
 use plain_scope::{ElabError, Scope, Used};
-use plain_simple_statements::{expression_statement, single};
+use plain_simple_statements::{expression_statement, pushed, single};
 use std::alloc::Global;
 
 /// The parts of a declaration.
@@ -49,7 +49,7 @@ fn items_of(alloc: Global, declared: Vec<LocalItem>) -> Result<Vec<Item>, NoMemo
 {
     let mut items = Vec::new(alloc);
     for local in declared {
-        items.push(item_of(local))?;
+        items = pushed(items, item_of(local))?;
     }
     Ok(items)
 }

@@ -19,8 +19,8 @@ use core_meaning::{Item, Statement};
 use plain_expressions::condition;
 use plain_scope::{ElabError, Scope, Used, leaf};
 use plain_simple_statements::{
-    Begun, as_block, asked_behind, asked_first, behind_items, condition_or_true, discarded, joined,
-    looped, nothing, selected, simple, single,
+    Begun, as_block, asked_behind, asked_first, begun_with, behind_items, condition_or_true,
+    discarded, joined, looped, nothing, selected, simple, single,
 };
 use std::alloc::Global;
 
@@ -207,8 +207,10 @@ fn begun_if(
     ensures same { OnOk result (plain_scope scope.new ≡ plain_scope scope.old) }
 {
     let condition = condition(alloc, scope, used, test, close)?;
-    let core = statement(alloc, scope, used, first, slots, returns, in_loop)?;
-    Ok(Begun { condition, core })
+    begun_with(
+        condition,
+        statement(alloc, scope, used, first, slots, returns, in_loop),
+    )
 }
 
 #[cycle(statements)]
@@ -453,8 +455,10 @@ pub fn statement_items(
 {
     let mut items = Vec::new(alloc);
     for tree in list {
-        let found = item(alloc, scope, used, tree, slots, returns, in_loop)?;
-        items = joined(items, found)?;
+        items = joined(
+            items,
+            item(alloc, scope, used, tree, slots, returns, in_loop),
+        )?;
     }
     Ok(items)
 }

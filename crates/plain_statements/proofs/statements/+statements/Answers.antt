@@ -1,4 +1,8 @@
-use Rattle.std.proofs.Common.{◌≡◌, true, false, map, rules, arith, refl, ap, sym, ◌∙◌}
+use Rattle.std.proofs.Common.{◌≡◌, true, false, map, ◌++◌, rules, arith, refl, ap, sym, subst, ◌∙◌}
+use Rattle.std.specs.Prelude.{Vec}
+use Rattle.std.specs.declared.alloc.Global.{Global}
+use Rattle.core_meaning.specs.declared.statements.Item.{Item}
+use Rattle.plain_scope.specs.Blocks.{without_block}
 use Rattle.c_text.specs.Token.{plain_token}
 use Rattle.c_types.specs.Types.{plain_type}
 use Rattle.c_tree.specs.declared.kinds.Kind.{Kind}
@@ -6,21 +10,21 @@ use Rattle.c_tree.specs.declared.kinds.Kind.TheVariants as k
 use Rattle.c_tree.specs.Trees.{PlainTree, node, plain_tree, plain_trees}
 use Rattle.c_tree.specs.TreeLaws.{plain_tree-Node}
 use Rattle.core_meaning.specs.Plain.{plain_item}
-use Rattle.core_meaning.specs.Program.{block, loop, selection, statement_item}
-use Rattle.core_meaning.specs.Checking.{◌>>=◌, give}
+use Rattle.core_meaning.specs.Program.{PlainExpression, PlainStatement, block, loop, selection, statement_item}
+use Rattle.core_meaning.specs.Checking.{Checked, ◌>>=◌, give}
 use Rattle.core_meaning.specs.Expressions.{judged_condition}
 use Rattle.core_meaning.specs.Statements.{one_item, nothing_to_do, discarded, condition_or_true, loop_of, judged_statement, judged_else, judged_items}
 use Rattle.plain_scope.specs.PlainScope.{plain_scope, uses_of}
-use Rattle.plain_scope.specs.Judgements.{RefusedAs}
+use Rattle.plain_scope.specs.Judgements.{Gives, RefusedAs}
 use Rattle.plain_scope.specs.JudgementLaws.{refused_first}
 use Rattle.plain_declarators.specs.Sequences.{gives_of, refused_of}
 use Rattle.plain_operands.specs.PlainOperands.{boxed_expression}
 use Rattle.plain_simple_statements.specs.Blocks.{put}
 use Rattle.plain_simple_statements.specs.PlainStatements.{boxed_statement}
-use Rattle.plain_simple_statements.specs.Handing.{judges_handed, on_ok_handed, on_ok_always}
+use Rattle.plain_simple_statements.specs.Handing.{judges_handed, on_ok_handed, on_ok_always, given_handed, refused_handed}
 use Rattle.plain_statements.specs.PlainJudged.{plain_begun, plain_item_of, plain_judged, plain_judged_items}
 use Rattle.plain_simple_statements.specs.Simple.{around_of, simple_of}
-use Rattle.plain_statements.specs.Steps.{begun_if, with_else, block_of, branches_of, while_of, do_of, for_of, for_by, begun_for, turns_behind, declaration_in, behind_for, single_item, keeping}
+use Rattle.plain_statements.specs.Steps.{Begun, JudgedItem, item_of, begun_if, with_else, block_of, branches_of, while_of, do_of, for_of, for_by, begun_for, turns_behind, declaration_in, behind_for, single_item, keeping}
 use Rattle.plain_statements.specs.Kinds.{simple_law, else_slice, block_slice, while_slice, do_slice, selection_slice, for_slice}
 use Rattle.plain_expressions.proofs.Answering.{judges_as}
 use Rattle.plain_statements.specs.Answers.{keeping_judges, absent_block, absent_else}
@@ -167,16 +171,26 @@ pub statement_items-loop-tree-preserved : goal.statement_items-loop-tree-preserv
 statement_items-loop-tree-preserved t c =
     let returns = plain_type c.args.returns.now in
     let whole = judged_items (around_of (plain_scope c.args.scope.now) returns c.args.in_loop) (map plain_type c.args.slots.now.items) (plain_trees c.args.list.now) in
+    let first = item_of (around_of (plain_scope c.loop-tree.scope) returns c.args.in_loop) (map plain_type c.loop-tree.slots.items) (plain_tree c.tree-item.result) in
+    let found_as : Vec Item Global → JudgedItem = λ found. plain_item_of c.item.new.scope c.item.new.slots.items found.items in
+    let made : Vec Item Global → Vec Item Global → Type 0 = λ found all. map plain_item all.items ≡ map plain_item c.loop-tree.items.items ++ map plain_item found.items in
+    let outside : Type 0 = without_block (plain_scope c.item.new.scope) ≡ without_block (plain_scope c.loop-tree.scope) in
     record {
-      outside = c.in_ok-found.ensures.outside ∙ c.loop-tree.invariant.outside;
-      so_far = items_continue returns c.args.in_loop (plain_scope c.loop-tree.scope) (plain_scope c.item.new.scope) (map plain_type c.loop-tree.slots.items) (map plain_type c.item.new.slots.items) c.args.list.now c.tree-item.result c.loop-tree.tree-index whole
-          (map plain_item c.loop-tree.items.items) (map plain_item c.in_ok-found.found.items) (map plain_item c.in_ok-items.items.items) (uses_of c.args.used.now) (uses_of c.loop-tree.used) (uses_of c.item.new.used) (omega arith) c.tree-item.is c.loop-tree.invariant.so_far c.in_ok-found.ensures.judged c.in_ok-items.ensures;
+      outside = given_handed first found_as made outside c.loop-tree.used c.item.new.used c.item.result c.in_ok-items.items c.in_ok-items.ensures c.item.ensures.judged c.item.ensures.outside (λ found is g same. same ∙ c.loop-tree.invariant.outside);
+      so_far = given_handed first found_as made outside c.loop-tree.used c.item.new.used c.item.result c.in_ok-items.items c.in_ok-items.ensures c.item.ensures.judged c.item.ensures.outside
+          (λ found is g same. items_continue returns c.args.in_loop (plain_scope c.loop-tree.scope) (plain_scope c.item.new.scope) (map plain_type c.loop-tree.slots.items) (map plain_type c.item.new.slots.items) c.args.list.now c.tree-item.result c.loop-tree.tree-index whole
+          (map plain_item c.loop-tree.items.items) (map plain_item found.items) (map plain_item c.in_ok-items.items.items) (uses_of c.args.used.now) (uses_of c.loop-tree.used) (uses_of c.item.new.used) (omega arith) c.tree-item.is c.loop-tree.invariant.so_far g is);
     }
 
-pub statement_items-returns-in_err-found-clause-judged : goal.statement_items-returns-in_err-found-clause-judged
-statement_items-returns-in_err-found-clause-judged t c =
-    let whole = judged_items (around_of (plain_scope c.args.scope.now) (plain_type c.args.returns.now) c.args.in_loop) (map plain_type c.args.slots.now.items) (plain_trees c.args.list.now) in
-    let outer : RefusedAs whole c.in_err-found.field-0.0 = items_refused (around_of (plain_scope c.loop-tree.scope) (plain_type c.args.returns.now) c.args.in_loop) (map plain_type c.loop-tree.slots.items) c.args.list.now c.tree-item.result c.loop-tree.tree-index whole (map plain_item c.loop-tree.items.items) (uses_of c.args.used.now) (uses_of c.loop-tree.used) c.in_err-found.field-0.0 (omega arith) c.tree-item.is c.loop-tree.invariant.so_far c.in_err-found.ensures.judged in
+pub statement_items-returns-in_err-items-clause-judged : goal.statement_items-returns-in_err-items-clause-judged
+statement_items-returns-in_err-items-clause-judged t c =
+    let returns = plain_type c.args.returns.now in
+    let whole = judged_items (around_of (plain_scope c.args.scope.now) returns c.args.in_loop) (map plain_type c.args.slots.now.items) (plain_trees c.args.list.now) in
+    let first = item_of (around_of (plain_scope c.loop-tree.scope) returns c.args.in_loop) (map plain_type c.loop-tree.slots.items) (plain_tree c.tree-item.result) in
+    let found_as : Vec Item Global → JudgedItem = λ found. plain_item_of c.item.new.scope c.item.new.slots.items found.items in
+    let made : Vec Item Global → Vec Item Global → Type 0 = λ found all. map plain_item all.items ≡ map plain_item c.loop-tree.items.items ++ map plain_item found.items in
+    let outer : RefusedAs whole c.in_err-items.field-0.0 = refused_handed first whole found_as made c.loop-tree.used c.item.new.used c.item.result c.in_err-items.field-0.0 c.in_err-items.ensures c.item.ensures.judged
+    (λ error r. items_refused (around_of (plain_scope c.loop-tree.scope) returns c.args.in_loop) (map plain_type c.loop-tree.slots.items) c.args.list.now c.tree-item.result c.loop-tree.tree-index whole (map plain_item c.loop-tree.items.items) (uses_of c.args.used.now) (uses_of c.loop-tree.used) error (omega arith) c.tree-item.is c.loop-tree.invariant.so_far r) in
     search (rules, outer)
 
 pub statement_items-returns-clause-judged : goal.statement_items-returns-clause-judged
@@ -256,22 +270,27 @@ begun_turns-returns-clause-same t c =
     on_ok_handed (λ turns s. boxed_statement s ≡ block (put (map plain_item c.in_ok-items.items.items) (one_item (boxed_statement turns)))) (plain_scope c.for_turns-turns.new.scope ≡ plain_scope c.begun_for.new.scope) (plain_scope c.end_for.new.scope ≡ plain_scope c.args.scope.now) c.for_turns-turns.result c.behind_items.result c.behind_items.ensures c.for_turns-turns.ensures.same
     (λ e. c.end_for.ensures ∙ ap (behind_for declared) e ∙ c.in_ok-items.ensures.outside)
 
-pub begun_if-returns-in_err-core-clause-judged : goal.begun_if-returns-in_err-core-clause-judged
-begun_if-returns-in_err-core-clause-judged t c =
-    let scope = plain_scope c.args.scope.now in
-    let returns = plain_type c.args.returns.now in
-    let slots = map plain_type c.args.slots.now.items in
-    let before = uses_of c.args.used.now in
-    let outer : RefusedAs (begun_if (around_of scope returns c.args.in_loop) slots (plain_tree c.args.test.now) (plain_token c.args.close.now) (plain_tree c.args.first.now)) c.in_err-core.field-0.0 = begun_refused scope returns c.args.in_loop slots (plain_tree c.args.test.now) (plain_token c.args.close.now) (plain_tree c.args.first.now) (boxed_expression c.in_ok-condition.condition) before (uses_of c.condition.new.used) c.in_err-core.field-0.0 c.in_ok-condition.ensures c.in_err-core.ensures.judged in
-    search (rules, outer)
-
 pub begun_if-returns-clause-judged : goal.begun_if-returns-clause-judged
 begun_if-returns-clause-judged t c =
     let scope = plain_scope c.args.scope.now in
     let returns = plain_type c.args.returns.now in
     let slots = map plain_type c.args.slots.now.items in
     let before = uses_of c.args.used.now in
-    begun_given scope returns c.args.in_loop slots (plain_tree c.args.test.now) (plain_token c.args.close.now) (plain_tree c.args.first.now) (boxed_expression c.in_ok-condition.condition) (plain_judged c.statement.new.slots.items c.in_ok-core.core) before (uses_of c.condition.new.used) (uses_of c.statement.new.used) c.in_ok-condition.ensures c.in_ok-core.ensures.judged
+    let after = uses_of c.statement.new.used in
+    let behind = map plain_type c.statement.new.slots.items in
+    let condition : PlainExpression = boxed_expression c.in_ok-condition.condition in
+    let whole : Checked Begun = begun_if (around_of scope returns c.args.in_loop) slots (plain_tree c.args.test.now) (plain_token c.args.close.now) (plain_tree c.args.first.now) in
+    let begun : PlainExpression → PlainStatement → Begun = λ x y. record { condition = x; core = y; slots = behind } in
+    judges_handed (judged_statement (around_of scope returns c.args.in_loop) slots (plain_tree c.args.first.now)) whole (plain_judged c.statement.new.slots.items) (plain_begun c.statement.new.slots.items) (λ core b. (boxed_expression b.condition ≡ condition) × (boxed_statement b.core ≡ boxed_statement core)) c.args.used.now c.condition.new.used c.statement.new.used c.statement.result c.begun_with.result c.begun_with.ensures c.statement.ensures.judged
+    (λ core b is g. subst (λ (x : PlainExpression). Gives whole (begun x (boxed_statement b.core)) before after) (sym is.0)
+    (subst (λ (y : PlainStatement). Gives whole (begun condition y) before after) (sym is.1)
+    (begun_given scope returns c.args.in_loop slots (plain_tree c.args.test.now) (plain_token c.args.close.now) (plain_tree c.args.first.now) condition (plain_judged c.statement.new.slots.items core) before (uses_of c.condition.new.used) after c.in_ok-condition.ensures g)))
+    (λ error r. begun_refused scope returns c.args.in_loop slots (plain_tree c.args.test.now) (plain_token c.args.close.now) (plain_tree c.args.first.now) condition before (uses_of c.condition.new.used) error c.in_ok-condition.ensures r)
+
+pub begun_if-returns-clause-same : goal.begun_if-returns-clause-same
+begun_if-returns-clause-same t c =
+    let same : Type 0 = plain_scope c.statement.new.scope ≡ plain_scope c.args.scope.now in
+    on_ok_handed (λ core b. (boxed_expression b.condition ≡ boxed_expression c.in_ok-condition.condition) × (boxed_statement b.core ≡ boxed_statement core)) same same c.statement.result c.begun_with.result c.begun_with.ensures c.statement.ensures.same (λ e. e)
 
 pub selection-returns-in_err-begun-clause-judged : goal.selection-returns-in_err-begun-clause-judged
 selection-returns-in_err-begun-clause-judged t c =
