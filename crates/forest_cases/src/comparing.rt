@@ -9,13 +9,13 @@ use std::alloc::{AllocError, Global};
 use tree_comparisons::Comparison;
 
 #[derive(Clone, Copy, Debug)]
-pub struct Size {
+pub(crate) struct Size {
     pub leaves: u64,
     pub items: u64,
     pub formulas: u64,
 }
 
-pub fn size_of(parts: &[Choice<Item>], size: Size) -> Size {
+pub(crate) fn size_of(parts: &[Choice<Item>], size: Size) -> Size {
     let mut size = size;
     for part in parts {
         for (when, item) in &part.branches {
@@ -31,7 +31,7 @@ pub fn size_of(parts: &[Choice<Item>], size: Size) -> Size {
 }
 
 /// Compares what the trees of all configurations say of one with its own tree, or with its refusal.
-pub fn compared(
+pub(crate) fn compared(
     alloc: Global,
     stream: &CondStream,
     parsed_all: &Parsed,
@@ -46,7 +46,7 @@ pub fn compared(
 }
 
 /// The trees of a stream in all configurations.
-pub fn read_stream(alloc: Global, stream: &CondStream) -> Result<Parsed, NoMemory> {
+pub(crate) fn read_stream(alloc: Global, stream: &CondStream) -> Result<Parsed, NoMemory> {
     if stream.tokens.len() < 4_294_967_295 {
         parse_all(alloc, stream, &mut PlainOracle)
     } else {
@@ -55,7 +55,7 @@ pub fn read_stream(alloc: Global, stream: &CondStream) -> Result<Parsed, NoMemor
 }
 
 /// The stream of a text and its trees in all configurations.
-pub fn read(alloc: Global, text: &[u8]) -> Result<(CondStream, Parsed), NoMemory> {
+pub(crate) fn read(alloc: Global, text: &[u8]) -> Result<(CondStream, Parsed), NoMemory> {
     let stream = stream_of(alloc, text)?;
     let parsed = read_stream(alloc, &stream)?;
     Ok((stream, parsed))

@@ -32,7 +32,7 @@ const OTHERS: Config = Config {
 
 /// A family of units: a front, a part for each feature, in which `@` stands for its number, one that closes each, and a back.
 #[derive(Clone, Copy)]
-pub struct Family<'a> {
+pub(crate) struct Family<'a> {
     pub name: &'a str,
     pub front: &'a [u8],
     pub each: &'a [u8],
@@ -56,7 +56,11 @@ fn unit_of(alloc: Global, family: Family, features: usize) -> Result<Vec<u8>, No
 }
 
 /// Says of some configurations what is seen of the unit for each number of features.
-pub fn compare_family<R: Print>(rt: &R, alloc: Global, family: Family) -> anyhow::Result<()> {
+pub(crate) fn compare_family<R: Print>(
+    rt: &R,
+    alloc: Global,
+    family: Family,
+) -> anyhow::Result<()> {
     for features in [8, 32] {
         if features <= family.most {
             let text = unit_of(alloc, family, features)?;
@@ -73,7 +77,7 @@ pub fn compare_family<R: Print>(rt: &R, alloc: Global, family: Family) -> anyhow
 }
 
 /// Says how large the forest is for a number of features.
-pub fn measure_family<R: Print>(
+pub(crate) fn measure_family<R: Print>(
     rt: &R,
     alloc: Global,
     family: Family,

@@ -72,7 +72,7 @@ fn stream(
     })
 }
 
-pub fn try_some<R: Print>(
+pub(crate) fn try_some<R: Print>(
     rt: &R,
     alloc: Global,
     text: &[u8],

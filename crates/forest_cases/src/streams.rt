@@ -29,7 +29,7 @@ fn copies(alloc: Global, groups: &[Formula]) -> Result<Formula, NoMemory> {
 }
 
 /// The stream of a text without errors.
-pub fn stream_of(alloc: Global, text: &[u8]) -> Result<CondStream, NoMemory> {
+pub(crate) fn stream_of(alloc: Global, text: &[u8]) -> Result<CondStream, NoMemory> {
     let mut tokens = Vec::new(alloc);
     let mut groups: Vec<Formula> = Vec::new(alloc);
     if text.len() < 4_294_967_295 {
@@ -71,7 +71,11 @@ pub fn stream_of(alloc: Global, text: &[u8]) -> Result<CondStream, NoMemory> {
 }
 
 /// The tokens that are present in a configuration.
-pub fn tokens_in(alloc: Global, stream: &CondStream, c: Config) -> Result<Vec<Token>, NoMemory> {
+pub(crate) fn tokens_in(
+    alloc: Global,
+    stream: &CondStream,
+    c: Config,
+) -> Result<Vec<Token>, NoMemory> {
     let mut tokens = Vec::new(alloc);
     for entry in &stream.tokens {
         if entry.when.value(c) {
