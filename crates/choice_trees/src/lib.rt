@@ -6,5 +6,5 @@ mod projecting;
 mod trees;
 
 pub use laws::leaves_are_spelled;
-pub use projecting::{needs_statement, project};
+pub use projecting::{needs_statement, no_statement, nowhere, project};
 pub use trees::{Choice, Forest, Item};

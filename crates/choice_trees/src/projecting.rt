@@ -26,7 +26,7 @@ pub fn needs_statement(kind: Kind, place: usize) -> bool
 }
 
 /// Where tokens stand that come from no text: at the end of the built-in file.
-fn nowhere() -> Origin
+pub fn nowhere() -> Origin
     ensures { plain_origin result ≡ spec.nowhere }
 {
     let end = Span {
@@ -42,9 +42,9 @@ fn nowhere() -> Origin
     }
 }
 
-/// The statement `;`.
+/// The statement `;`, which comes from no text.
 #[tactic(auto, using(crate::specs::ItemLaws::item_kinds))]
-fn no_statement(alloc: Global) -> Result<Tree, NoMemory>
+pub fn no_statement(alloc: Global) -> Result<Tree, NoMemory>
     ensures { IfOk result (λ t. plain_tree t ≡ spec.no_statement) }
 {
     let semicolon = Token {

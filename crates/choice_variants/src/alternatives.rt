@@ -1,8 +1,8 @@
 //! Variants that go on by the alternatives for one more part.
-ghost use Rattle.std.specs.Prelude.{◌≡◌, ℕ, ◌≤◌, Bool, false, List, IsTrue, IfOk};
+ghost use Rattle.std.specs.Prelude.{◌≡◌, ℕ, ◌≤◌, Bool, false, List, [], ◌∷◌, ◌++◌, IsTrue, IfOk};
 ghost use Rattle.cond_formula.specs.Features.{has};
 ghost use Rattle.cond_formula.specs.Conditions.{condition_of, value};
-ghost use Rattle.conditional.specs.Entries.{Stands, Places};
+ghost use Rattle.conditional.specs.Entries.{seen, under};
 ghost use Rattle.c_tree.specs.Trees.{PlainTrees};
 ghost use Rattle.choice_trees.specs.ChoiceTrees.{plain_branches, with_part, branch_at};
 ghost use Rattle.choice_trees.proofs.Depths.{branches_depth};
@@ -15,7 +15,7 @@ use reduced_conditions::{both, is_never, without};
 use std::alloc::Global;
 
 /// Whether there may be configurations in which the condition is true.
-fn may_hold<O: Oracle>(when: &Formula, oracle: &mut O) -> bool
+pub fn may_hold<O: Oracle>(when: &Formula, oracle: &mut O) -> bool
     ensures kept { O.admits oracle.new ≡ O.admits oracle.old }
     ensures no { result ≡ false → (c : List Bool) → IsTrue (value (has c) (O.admits oracle.old)) → value (has c) (condition_of when.now) ≡ false }
 {
@@ -38,8 +38,9 @@ fn push_longer<'a, O: Oracle>(
     oracle: &mut O,
 ) -> Result<(), NoMemory>
     ensures kept { O.admits oracle.new ≡ O.admits oracle.old }
-    ensures places { IfOk result (λ _. (c : List Bool) (rest : PlainTrees) → IsTrue (value (has c) (O.admits oracle.old))
-        → Places (has c) (condition_of when) (before (has c) parts.now (perhaps_before (has c) part.entry rest)) (followed (has c) rest all.old.items) (followed (has c) rest all.new.items)) }
+    ensures adds { IfOk result (λ _. (c : List Bool) (rest : PlainTrees) → IsTrue (value (has c) (O.admits oracle.old))
+        → seen (has c) (followed (has c) rest all.new.items)
+        ≡ seen (has c) (followed (has c) rest all.old.items) ++ under (value (has c) (condition_of when)) (before (has c) parts.now (perhaps_before (has c) part.entry rest) ∷ [])) }
     ensures low { IfOk result (λ _. (n : ℕ) → AreLow n parts.now → IsLowIfAny n part.entry → AreAllLow n all.old.items → AreAllLow n all.new.items) }
 {
     if !may_hold(&when, oracle) {
@@ -60,9 +61,10 @@ fn push_alternatives<'a, O: Oracle>(
     oracle: &mut O,
 ) -> Result<(), NoMemory>
     ensures kept { O.admits oracle.new ≡ O.admits oracle.old }
-    ensures places { IfOk result (λ _. (c : List Bool) (rest : PlainTrees) → IsTrue (value (has c) (O.admits oracle.old))
-        → Places (has c) (condition_of variant.now.when) (before (has c) variant.now.parts.items (with_part needed (branch_at (has c) (plain_branches choice.now.branches.items)) rest))
-        (followed (has c) rest all.old.items) (followed (has c) rest all.new.items)) }
+    ensures adds { IfOk result (λ _. (c : List Bool) (rest : PlainTrees) → IsTrue (value (has c) (O.admits oracle.old))
+        → seen (has c) (followed (has c) rest all.new.items)
+        ≡ seen (has c) (followed (has c) rest all.old.items) ++ under (value (has c) (condition_of variant.now.when))
+            (before (has c) variant.now.parts.items (with_part needed (branch_at (has c) (plain_branches choice.now.branches.items)) rest) ∷ [])) }
     ensures low { IfOk result (λ _. (n : ℕ) → branches_depth (plain_branches choice.now.branches.items) ≤ n → AreLow n variant.now.parts.items → AreAllLow n all.old.items → AreAllLow n all.new.items) }
 {
     let mut left = variant.when.try_clone(alloc)?;
@@ -86,9 +88,9 @@ pub(crate) fn extended<'a, O: Oracle>(
     oracle: &mut O,
 ) -> Result<Vec<Variant<'a>>, NoMemory>
     ensures kept { O.admits oracle.new ≡ O.admits oracle.old }
-    ensures stands { IfOk result (λ all. (c : List Bool) (seen rest : PlainTrees) → IsTrue (value (has c) (O.admits oracle.old))
-        → Stands (has c) seen (followed (has c) (with_part needed (branch_at (has c) (plain_branches choice.now.branches.items)) rest) variants.now)
-        → Stands (has c) seen (followed (has c) rest all.items)) }
+    ensures same { IfOk result (λ all. (c : List Bool) (rest : PlainTrees) → IsTrue (value (has c) (O.admits oracle.old))
+        → seen (has c) (followed (has c) rest all.items)
+        ≡ seen (has c) (followed (has c) (with_part needed (branch_at (has c) (plain_branches choice.now.branches.items)) rest) variants.now)) }
     ensures low { IfOk result (λ all. (n : ℕ) → branches_depth (plain_branches choice.now.branches.items) ≤ n → AreAllLow n variants.now → AreAllLow n all.items) }
 {
     let mut all = Vec::new(alloc);

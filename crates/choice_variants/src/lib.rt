@@ -5,5 +5,6 @@ mod alternatives;
 mod nodes;
 mod parts;
 
+pub use alternatives::may_hold;
 pub use nodes::variants;
 pub use parts::{Part, Variant};

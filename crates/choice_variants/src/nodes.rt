@@ -1,8 +1,8 @@
 //! The variants of a node's parts.
-ghost use Rattle.std.specs.Prelude.{◌≡◌, Bool, List, IsTrue, IfOk};
+ghost use Rattle.std.specs.Prelude.{◌≡◌, Bool, List, [], ◌∷◌, IsTrue, IfOk};
 ghost use Rattle.cond_formula.specs.Features.{has};
 ghost use Rattle.cond_formula.specs.Conditions.{value};
-ghost use Rattle.conditional.specs.Entries.{Stands};
+ghost use Rattle.conditional.specs.Entries.{seen, Stands};
 ghost use Rattle.choice_trees.specs.ChoiceTrees.{plain_choices, parts_at};
 ghost use Rattle.choice_trees.proofs.Depths.{choices_depth};
 ghost use Rattle.choice_variants.specs.Variants.{shown, AreAllLow};
@@ -14,8 +14,8 @@ use choice_trees::{Choice, Item, needs_statement};
 use cond_formula::{Formula, NoMemory, Oracle};
 use std::alloc::Global;
 
-/// The parts that a node has, each list under a condition. In a configuration some variant holds, and each that holds shows the parts
-/// that are seen there. A part with one alternative that is always there adds no condition, and what the oracle knows to hold nowhere is left out.
+/// The parts that a node has, each list under a condition. In a configuration one variant holds, and it shows the parts that are seen
+/// there. A part with one alternative that is always there adds no condition, and what the oracle knows to hold nowhere is left out.
 pub fn variants<'a, O: Oracle>(
     alloc: Global,
     kind: Kind,
@@ -25,6 +25,8 @@ pub fn variants<'a, O: Oracle>(
     ensures kept { O.admits oracle.new ≡ O.admits oracle.old }
     ensures stands { IfOk result (λ all. (c : List Bool) → IsTrue (value (has c) (O.admits oracle.old))
         → Stands (has c) (parts_at (has c) kind 0 (plain_choices parts.now)) (shown (has c) all.items)) }
+    ensures alone { IfOk result (λ all. (c : List Bool) → IsTrue (value (has c) (O.admits oracle.old))
+        → seen (has c) (shown (has c) all.items) ≡ parts_at (has c) kind 0 (plain_choices parts.now) ∷ []) }
     ensures low { IfOk result (λ all. AreAllLow (choices_depth (plain_choices parts.now)) all.items) }
 {
     let mut all = Vec::with_capacity(alloc, 1)?;

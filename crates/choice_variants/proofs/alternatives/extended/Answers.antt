@@ -12,14 +12,14 @@ loop-variant-preserved g c = record {
   so_far = λ n rest admitted.
       one_variant (has n) (with_part c.args.needed (branch_at (has n) (plain_branches c.args.choice.now.branches.items)) rest) rest c.args.variants.now
       c.loop-variant.variant-index c.variant-item.result c.loop-variant.all.items c.push_alternatives.new.all.items c.loop-variant-test.true c.variant-item.is
-      (c.loop-variant.invariant.so_far n rest admitted) (c.in_ok-push_alternatives.ensures.places n rest (ap (value (has n)) c.loop-variant.invariant.kept ∙ admitted));
+      (c.in_ok-push_alternatives.ensures.adds n rest (ap (value (has n)) c.loop-variant.invariant.kept ∙ admitted)) (c.loop-variant.invariant.so_far n rest admitted);
   low = λ n deep low.
       c.in_ok-push_alternatives.ensures.low n deep
       (subst (λ x. AreLow n x.parts.items) (sym c.variant-item.is) (low_at n c.args.variants.now c.loop-variant.variant-index c.variant-item.result c.loop-variant-test.true low))
       (c.loop-variant.invariant.low n deep low);
 }
 
-pub returns-clause-stands : goal.returns-clause-stands
-returns-clause-stands g c = λ n seen rest admitted stands.
+pub returns-clause-same : goal.returns-clause-same
+returns-clause-same g c = λ n rest admitted.
     all_variants (has n) (with_part c.args.needed (branch_at (has n) (plain_branches c.args.choice.now.branches.items)) rest) rest c.args.variants.now
-    c.loop-variant.variant-index c.loop-variant.all.items seen c.loop-variant-test.false (c.loop-variant.invariant.so_far n rest admitted) stands
+    c.loop-variant.variant-index c.loop-variant.all.items c.loop-variant-test.false (c.loop-variant.invariant.so_far n rest admitted)
