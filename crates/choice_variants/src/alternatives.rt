@@ -64,7 +64,7 @@ fn push_alternatives<'a, O: Oracle>(
     ensures adds { IfOk result (λ _. (c : List Bool) (rest : PlainTrees) → IsTrue (value (has c) (O.admits oracle.old))
         → seen (has c) (followed (has c) rest all.new.items)
         ≡ seen (has c) (followed (has c) rest all.old.items) ++ under (value (has c) (condition_of variant.now.when))
-            (before (has c) variant.now.parts.items (with_part needed (branch_at (has c) (plain_branches choice.now.branches.items)) rest) ∷ [])) }
+        (before (has c) variant.now.parts.items (with_part needed (branch_at (has c) (plain_branches choice.now.branches.items)) rest) ∷ [])) }
     ensures low { IfOk result (λ _. (n : ℕ) → branches_depth (plain_branches choice.now.branches.items) ≤ n → AreLow n variant.now.parts.items → AreAllLow n all.old.items → AreAllLow n all.new.items) }
 {
     let mut left = variant.when.try_clone(alloc)?;

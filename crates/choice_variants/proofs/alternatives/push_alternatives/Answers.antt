@@ -14,7 +14,7 @@ loop-when-init g c = record {
   kept = refl;
   added = λ n rest admitted.
       ap (λ k. seen (has n) (followed (has n) rest c.args.all.now.items)
-          ++ under (value (has n) k) (ahead (has n) c.args.needed c.args.variant.now.parts.items rest (plain_branches c.deref-when-items.result.now) ∷ [])) c.in_ok-left.ensures;
+      ++ under (value (has n) k) (ahead (has n) c.args.needed c.args.variant.now.parts.items rest (plain_branches c.deref-when-items.result.now) ∷ [])) c.in_ok-left.ensures;
   low = λ n deep parts before. before;
 }
 
@@ -34,7 +34,7 @@ loop-when-preserved g c =
           (c.in_ok-here.ensures (has n) ∙ ap₂ (λ (a b : Condition). value (has n) a && value (has n) b) c.in_ok-try_clone.ensures c.in_ok-try_clone-2.ensures)
           (c.in_ok-left-2.ensures (has n))
           (subst (λ ps. seen (has n) (followed (has n) rest c.push_longer.new.all.items)
-              ≡ seen (has n) (followed (has n) rest c.loop-when.all.items) ++ under (value (has n) (condition_of c.in_ok-here.here)) (before (has n) ps (more (item_at (has n) (plain_item c.loop-when-item.result.1)) rest) ∷ []))
+          ≡ seen (has n) (followed (has n) rest c.loop-when.all.items) ++ under (value (has n) (condition_of c.in_ok-here.here)) (before (has n) ps (more (item_at (has n) (plain_item c.loop-when-item.result.1)) rest) ∷ []))
           c.deref.ensures.value (c.in_ok-push_longer.ensures.adds n rest (ap (value (has n)) c.loop-when.invariant.kept ∙ admitted)))
           (c.loop-when.invariant.added n rest admitted);
       low = λ n deep parts before.
@@ -44,7 +44,7 @@ loop-when-preserved g c =
 pub returns-clause-adds : goal.returns-clause-adds
 returns-clause-adds g c = λ n rest admitted.
     subst (λ list. seen (has n) (followed (has n) rest c.push_longer-2.new.all.items)
-        ≡ seen (has n) (followed (has n) rest c.args.all.now.items) ++ under (value (has n) (condition_of c.args.variant.now.when)) (ahead (has n) c.args.needed c.args.variant.now.parts.items rest (plain_branches list) ∷ []))
+    ≡ seen (has n) (followed (has n) rest c.args.all.now.items) ++ under (value (has n) (condition_of c.args.variant.now.when)) (ahead (has n) c.args.needed c.args.variant.now.parts.items rest (plain_branches list) ∷ []))
     c.deref-when-items.ensures.value
     (no_alternative (has n) c.args.needed c.args.variant.now.parts.items rest c.deref-when-items.result.now c.loop-when.when-index (condition_of c.loop-when.left) _
     (seen (has n) (followed (has n) rest c.loop-when.all.items)) (seen (has n) (followed (has n) rest c.push_longer-2.new.all.items)) _ c.loop-when-test.false

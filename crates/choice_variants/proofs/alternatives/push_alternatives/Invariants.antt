@@ -14,6 +14,6 @@ invariant-loop-when g l = record {
   kept : g.O.Oracle.admits l.oracle ≡ g.O.Oracle.admits l.fn.oracle;
   added : (n : List Bool) (rest : PlainTrees) → IsTrue (value (has n) (g.O.Oracle.admits l.fn.oracle))
       → AddedSoFar (has n) l.needed l.variant.parts.items rest l.when-items l.when-index (condition_of l.left) (seen (has n) (followed (has n) rest l.all.items))
-          (seen (has n) (followed (has n) rest l.fn.all.items) ++ under (value (has n) (condition_of l.variant.when)) (ahead (has n) l.needed l.variant.parts.items rest (plain_branches l.when-items) ∷ []));
+      (seen (has n) (followed (has n) rest l.fn.all.items) ++ under (value (has n) (condition_of l.variant.when)) (ahead (has n) l.needed l.variant.parts.items rest (plain_branches l.when-items) ∷ []));
   low : (n : ℕ) → branches_depth (plain_branches l.when-items) ≤ n → AreLow n l.variant.parts.items → AreAllLow n l.fn.all.items → AreAllLow n l.all.items;
 }

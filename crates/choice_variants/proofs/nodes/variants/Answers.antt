@@ -29,9 +29,9 @@ loop-place-preserved g c = record {
       c.in_ok-all-2.ensures.same n (parts_at (has n) c.args.kind (c.loop-place.place + 1) (plain_choices (drop (c.loop-place.place + 1) c.args.parts.now)))
       (ap (value (has n)) c.loop-place.invariant.kept ∙ admitted)
       ∙ (ap (λ all. seen (has n) (followed (has n) (with_part c.needs_statement.result (branch_at (has n) (plain_branches c.index-parts-place.result.branches.items))
-          (parts_at (has n) c.args.kind (c.loop-place.place + 1) (plain_choices (drop (c.loop-place.place + 1) c.args.parts.now)))) all)) c.deref.ensures.value
+      (parts_at (has n) c.args.kind (c.loop-place.place + 1) (plain_choices (drop (c.loop-place.place + 1) c.args.parts.now)))) all)) c.deref.ensures.value
       ∙ (ap (λ rest. seen (has n) (followed (has n) rest c.loop-place.all.items))
-          (sym (next_part (has n) c.args.kind c.args.parts.now c.loop-place.place c.index-parts-place.result c.needs_statement.result c.loop-place-test.true c.index-parts-place.is c.needs_statement.ensures))
+      (sym (next_part (has n) c.args.kind c.args.parts.now c.loop-place.place c.index-parts-place.result c.needs_statement.result c.loop-place-test.true c.index-parts-place.is c.needs_statement.ensures))
       ∙ c.loop-place.invariant.alone n admitted));
   low =
       c.in_ok-all-2.ensures.low (choices_depth (plain_choices c.args.parts.now))
