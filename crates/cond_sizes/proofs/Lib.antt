@@ -1,0 +1,4 @@
+pub mod Constants
+pub mod Variables
+pub mod Nameless
+pub mod Placing
