@@ -15,10 +15,10 @@ use Rattle.core_meaning.specs.Typing.{Typed, loaded}
 use Rattle.core_meaning.specs.Expressions as spec
 use Rattle.core_meaning.specs.Expressions.{judged, valued, first_token, callee, text_bytes, first_text, arithmetic_words}
 use Rattle.core_meaning.specs.Constancy.{is_constant, constant_value, count_of_value, value_if_constant}
-use Rattle.conditional.specs.Judgements.{Checked, fine, refused}
 use Rattle.operand_types.specs.OperandTypes.{outcome_as}
 use Rattle.operand_rules.proofs.Loads.{outcome_with}
 use Rattle.cond_sizes.specs.Laws.{CountsNeedNoNames}
+use Rattle.cond_sizes.specs.Sizes.{given}
 use Rattle.cond_sizes.proofs.Constants.{has_constant, is_constant_value, constant_operand, constant_typed, alike, single_alike, loaded_strict, loaded_alike, prefixed_strict, prefixed_alike, cast_operand_strict, cast_operand_alike, combined_by_strict, combined_by_alike, two_alike, on_two, condition_value_strict, condition_value_alike, results_strict, results_alike}
 use Rattle.cond_sizes.proofs.Variables.{nothing_after, texts_none, stepped_none, assigned_none, subscript_none, selected_none, called_none, called_without_none}
 
@@ -81,19 +81,15 @@ abbrev count_from : Option Typed → Option ℕ
 count_from None = None
 count_from (Some x) = if is_integer x.ty then count_of_value (constant_value x.core) else None
 
-abbrev found : Option ℕ → Checked ℕ (Unit {0})
-found None = refused tt
-found (Some n) = fine n
-
-found_so : (o : Option ℕ) (token : PlainToken) → outcome_as (λ (n : ℕ). n) (found_or o BadConstant token) ≡ found o
-found_so None token = refl
-found_so (Some n) token = refl
+given_so : (o : Option ℕ) (token : PlainToken) → outcome_as (λ (n : ℕ). n) (found_or o BadConstant token) ≡ given o
+given_so None token = refl
+given_so (Some n) token = refl
 
 counted : (token : PlainToken) (c : judging.Checked Typed)
-    → outcome_as (λ (n : ℕ). n) (c >>= (λ x. found_or (if is_integer x.ty then count_of_value (value_if_constant x.core) else None) BadConstant token)) ≡ found (count_from (constant_typed c))
+    → outcome_as (λ (n : ℕ). n) (c >>= (λ x. found_or (if is_integer x.ty then count_of_value (value_if_constant x.core) else None) BadConstant token)) ≡ given (count_from (constant_typed c))
 counted token (judging.fine x bindings) =
     outcome_with (λ (n : ℕ). n) bindings (found_or (if is_integer x.ty then count_of_value (value_if_constant x.core) else None) BadConstant token)
-    ∙ (found_so (if is_integer x.ty then count_of_value (value_if_constant x.core) else None) token ∙ ap found (by_test (is_constant x.core))) where
+    ∙ (given_so (if is_integer x.ty then count_of_value (value_if_constant x.core) else None) token ∙ ap given (by_test (is_constant x.core))) where
       no_count : (s : Bool) → (if s then count_of_value None else None) ≡ None
       no_count true = refl
       no_count false = refl
@@ -107,6 +103,6 @@ counted token judging.broken = refl
 pub counts_need_no_names_lem : CountsNeedNoNames
 counts_need_no_names_lem scope other tree behind before =
     counted (first_token tree behind) (valued scope tree)
-    ∙ (ap (λ o. found (count_from o)) (alike has_constant is_constant_value (loaded scope) (loaded other) (loaded_strict scope) (loaded_strict other) (loaded_alike scope other)
+    ∙ (ap (λ o. given (count_from o)) (alike has_constant is_constant_value (loaded scope) (loaded other) (loaded_strict scope) (loaded_strict other) (loaded_alike scope other)
     (judged scope tree) (judged other tree) (nameless scope other tree))
     ∙ sym (counted (first_token tree before) (valued other tree)))

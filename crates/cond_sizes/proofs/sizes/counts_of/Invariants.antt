@@ -5,11 +5,11 @@ use Rattle.c_tree.specs.Trees.{PlainTree}
 use Rattle.core_meaning.specs.Entities.{Scope}
 use Rattle.core_meaning.specs.Constancy.{judged_count}
 use Rattle.operand_types.specs.OperandTypes.{outcome_as}
-use Rattle.choice_expansions.specs.Expansions.{expanded}
+use Rattle.choice_expansions.specs.Expansions.{plain_expansion, expanded}
 use Rattle.cond_sizes.proofs.Placing.{PlacedSoFar}
 use Rattle.cond_sizes.proofs.sizes.counts_of.Given as goal
 
 abbrev pub invariant-loop-expansion : goal.invariant-loop-expansion
 invariant-loop-expansion l =
     (on : ℕ → Bool) (tree : PlainTree) → Stands on tree (expanded l.expansions) → (visible : Scope) (other : PlainToken)
-    → PlacedSoFar on tree (outcome_as (λ (n : ℕ). n) (judged_count visible tree other)) l.expansions l.expansion-index l.all
+    → PlacedSoFar on plain_expansion l.expansions tree (outcome_as (λ (n : ℕ). n) (judged_count visible tree other)) l.expansion-index l.all
