@@ -1,0 +1,4 @@
+pub mod Texts
+pub mod Roles
+pub mod Readings
+pub mod Progress
