@@ -2,6 +2,5 @@ pub mod BelowLemmas
 pub mod PlaceLemmas
 pub mod NameLemmas
 pub mod StepLemmas
-pub mod TableLemmas
 pub mod LocalLemmas
 pub mod WalkLemmas

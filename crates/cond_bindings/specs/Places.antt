@@ -1,17 +1,11 @@
 -- Places in a unit's list of declarations.
-use Rattle.std.specs.Prelude.{◌≡◌, ℕ, Bool, true, ◌&&◌, List, [], ◌∷◌, map, reverse, Option, Some, None, Vec, nat_lt, if◌then◌else◌}
+use Rattle.std.specs.Prelude.{◌≡◌, ℕ, Bool, true, ◌&&◌, List, [], ◌∷◌, map, reverse, Option, Some, None, nat_lt, if◌then◌else◌}
 use Rattle.std.specs.List.{list_all}
-use Rattle.std.specs.HashMap.{HashMap, get_by}
 use Rattle.std.specs.Str.{bytes_eq}
-use Rattle.std.specs.declared.alloc.Global.{Global}
 use Rattle.cond_bindings.specs.declared.unit_bindings.Identifier.{Identifier}
 use Rattle.cond_bindings.specs.declared.unit_bindings.Meaning.{Meaning}
 use Rattle.cond_bindings.specs.declared.unit_bindings.Meaning.TheVariants.{Use, Declares}
 use Rattle.cond_bindings.specs.declared.locals.LocalName.{LocalName}
-
--- what a table has for a name
-abbrev pub place_of : {S : Type 0} → HashMap (Vec ℕ Global) ℕ S → List ℕ → Option ℕ
-place_of table name = get_by (λ key. bytes_eq name key.items) table
 
 -- a name that a block declares, and the place of its declaration
 pub record LocalPlace : Type 0 where

@@ -6,7 +6,8 @@ use Rattle.cond_bindings.specs.declared.unit_bindings.Identifier.{Identifier}
 use Rattle.cond_bindings.specs.declared.names.Names.{Names}
 use Rattle.cond_bindings.specs.Bindings.{visible, plain_identifier}
 use Rattle.cond_bindings.specs.Names.{BlockName, PlainNames}
-use Rattle.cond_bindings.specs.Places.{LocalPlace, place_of, latest_first}
+use Rattle.name_places.specs.Places.{place_of}
+use Rattle.cond_bindings.specs.Places.{LocalPlace, latest_first}
 
 abbrev pub block_name : List Declaration → LocalPlace → BlockName
 block_name declarations l = record { name = l.name; visible = visible declarations (Some l.place) }

@@ -2,10 +2,12 @@
 
 ghost use Rattle.std.specs.Prelude.{◌≡◌, ◌≤◌, [], ◌∷◌, ◌++◌, length, IfOk, OnOk, OnErr};
 ghost use Rattle.core_meaning.specs.Entities.{with_entry};
-ghost use Rattle.cond_bindings.specs.Places.{place_of, TableBelow};
+ghost use Rattle.name_places.specs.Places.{place_of};
+ghost use Rattle.cond_bindings.specs.Places.{TableBelow};
 
 use crate::unit_bindings::Declaration;
 use cond_formula::{Formula, NoMemory};
+use name_places::{enter_place, place_in};
 use std::alloc::{AllocError, Global};
 use std::collections::HashMap;
 
@@ -27,26 +29,6 @@ pub fn declare(
     }
     declarations.push(declaration)?;
     Ok(count as u32)
-}
-
-/// The place that a table has for a name.
-pub fn place_in(table: &HashMap<Vec<u8>, u32>, name: &[u8]) -> Option<u32>
-    ensures { result ≡ place_of table.now name.now }
-{
-    table.get(name).copied()
-}
-
-fn enter(
-    alloc: Global,
-    table: &mut HashMap<Vec<u8>, u32>,
-    name: &[u8],
-    place: u32,
-) -> Result<(), NoMemory>
-    ensures ok { OnOk result (place_of table.new ≡ with_entry (place_of table.old) name.now place) }
-    ensures err { OnErr result (place_of table.new ≡ place_of table.old) }
-{
-    table.insert(Vec::from_slice(alloc, name)?, place)?;
-    Ok(())
 }
 
 /// One more declaration of a name, which hides the one that the table has.
@@ -72,6 +54,6 @@ pub fn show(
         hides,
     };
     let place = declare(declarations, declaration)?;
-    enter(alloc, table, name, place)?;
+    enter_place(alloc, table, name, place)?;
     Ok(())
 }

@@ -1,14 +1,16 @@
 //! What is visible at a place of a unit, in all configurations.
 
 ghost use Rattle.std.specs.Prelude.{length};
-ghost use Rattle.cond_bindings.specs.Places.{place_of, TableBelow, IdentifiersBelow, LocalsBelow};
+ghost use Rattle.name_places.specs.Places.{place_of};
+ghost use Rattle.cond_bindings.specs.Places.{TableBelow, IdentifiersBelow, LocalsBelow};
 
-use crate::declarations::{place_in, show};
+use crate::declarations::show;
 use crate::locals::{LocalName, innermost_place, show_local};
 use crate::occurrences::{Occurrence, Scope};
 use crate::undeclared::{where_undeclared, with_undeclared};
 use crate::unit_bindings::{Identifier, Meaning, UnitBindings};
 use cond_formula::{Formula, NoMemory, Oracle};
+use name_places::place_in;
 use path_conditions::conjoined;
 use std::alloc::Global;
 use std::collections::HashMap;

@@ -1,7 +1,8 @@
 use Rattle.std.proofs.Common.{◌≡◌, ◌+◌, length, sym, ap, subst, ◌∙◌, arith}
 use Rattle.std.proofs.lemmas.List.{length_push}
 use Rattle.core_meaning.specs.Entities.{with_entry}
-use Rattle.cond_bindings.specs.Places.{place_of, TableBelow}
+use Rattle.name_places.specs.Places.{place_of}
+use Rattle.cond_bindings.specs.Places.{TableBelow}
 use Rattle.cond_bindings.proofs.BelowLemmas.{table_longer, table_entered}
 use Rattle.cond_bindings.proofs.declarations.show.Goals as goal
 

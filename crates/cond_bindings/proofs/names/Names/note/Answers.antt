@@ -5,7 +5,8 @@ use Rattle.cond_formula.specs.Conditions.{condition_of}
 use Rattle.cond_bindings.specs.declared.unit_bindings.Identifier.{Identifier}
 use Rattle.cond_bindings.specs.Bindings.{PlainIdentifier, plain_identifier}
 use Rattle.cond_bindings.specs.PlainNames.{plain_names, names_of}
-use Rattle.cond_bindings.specs.Places.{place_of, latest_first}
+use Rattle.name_places.specs.Places.{place_of}
+use Rattle.cond_bindings.specs.Places.{latest_first}
 use Rattle.cond_bindings.proofs.BelowLemmas.{identifiers_noted_if}
 use Rattle.cond_bindings.proofs.names.Names.note.Goals as goal
 

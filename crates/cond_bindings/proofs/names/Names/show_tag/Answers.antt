@@ -1,7 +1,8 @@
 use Rattle.std.proofs.Common.{length, refl}
 use Rattle.cond_formula.specs.Conditions.{condition_of}
 use Rattle.cond_bindings.specs.declared.unit_bindings.Declaration.{Declaration}
-use Rattle.cond_bindings.specs.Places.{place_of, latest_first}
+use Rattle.name_places.specs.Places.{place_of}
+use Rattle.cond_bindings.specs.Places.{latest_first}
 use Rattle.cond_bindings.proofs.BelowLemmas.{table_longer, locals_longer, identifiers_longer}
 use Rattle.cond_bindings.proofs.NameLemmas.{tag_shown}
 use Rattle.cond_bindings.proofs.names.Names.show_tag.Goals as goal
