@@ -1,0 +1,38 @@
+-- How tables go on.
+use Rattle.std.specs.Prelude.{ℕ, suc, ◌==◌, Bool, true, false, List, ◌∷◌, Some, if◌then◌else◌}
+use Rattle.std.specs.Str.{bytes_eq}
+use Rattle.c_types.specs.Types.{PlainType}
+use Rattle.c_types.specs.Tags.{PlainMember}
+use Rattle.conditional.specs.Entries.{or_later}
+use Rattle.core_meaning.specs.Entities.{with_entry, Signature}
+use Rattle.type_tables.specs.Tables.{Tables, FileName}
+
+-- a struct is declared by its tag
+abbrev pub with_declared : List ℕ → ℕ → Tables → Tables
+with_declared name number t = record t { declared = λ n. if n == number then true else t.declared n; tags = with_entry t.tags name number }
+
+-- a struct is completed
+abbrev pub with_completed : ℕ → List PlainMember → Tables → Tables
+with_completed number ms t =
+    record t { complete = λ n. if n == number then true else t.complete n; members = λ n. if n == number then ms else t.members n }
+
+-- a name of file scope: what it was first is what it is
+abbrev pub with_name : List ℕ → FileName → Tables → Tables
+with_name name what t = record t { names = λ other. if bytes_eq other name then or_later (t.names other) (Some what) else t.names other }
+
+-- one more declaration of a function
+abbrev pub with_signature : ℕ → Signature → Tables → Tables
+with_signature number signature t = record t { signatures = λ n. if n == number then signature else t.signatures n }
+
+-- one more block is open
+abbrev pub entered : Tables → Tables
+entered t = record t { depth = suc t.depth }
+
+-- one more local, in the innermost block
+abbrev pub with_local : List ℕ → PlainType → Tables → Tables
+with_local name ty t = record t { locals = record { name = name; ty = ty; depth = t.depth } ∷ t.locals }
+
+-- a step where a condition is true
+abbrev pub where_true : Bool → (Tables → Tables) → Tables → Tables
+where_true true step t = step t
+where_true false step t = t

@@ -1,0 +1,14 @@
+//! What names and structs are known to be at a place of a unit in all configurations (ISO/IEC 9899:2011, 6.2.1 to 6.2.3).
+#![tactic(auto)]
+
+mod blocks;
+mod entries;
+mod names;
+mod structs;
+mod tables;
+
+pub use blocks::Outside;
+pub use entries::{
+    CondName, CondSignature, CondStruct, FileName, LocalName, Member, Parameter, Sort,
+};
+pub use tables::Tables;
