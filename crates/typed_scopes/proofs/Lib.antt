@@ -1,0 +1,5 @@
+pub mod Known
+pub mod Blocks
+pub mod Renumbering
+pub mod Structs
+pub mod Names
