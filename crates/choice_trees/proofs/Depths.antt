@@ -1,22 +1,10 @@
--- How deep items are, by which their projection is seen to end.
-use Rattle.std.proofs.Common.{ℕ, zero, suc, ◌<◌, ◌≤◌, max, List, [], ◌∷◌, length, get_or, arith}
+-- What is a part of an item isn't as deep.
+use Rattle.std.proofs.Common.{ℕ, zero, suc, ◌<◌, ◌≤◌, List, [], ◌∷◌, length, get_or, arith}
 use Rattle.cond_formula.specs.declared.formulas.Formula.{Formula}
 use Rattle.choice_trees.specs.declared.trees.Choice.{Choice}
 use Rattle.choice_trees.specs.declared.trees.Item.{Item}
-use Rattle.choice_trees.specs.ChoiceTrees.{PlainItem, PlainChoices, PlainBranches, token, inner, no_choice, choice, no_branch, branch, plain_item, plain_branches, plain_choices}
-
-abbrev mutual
-  pub depth : PlainItem → ℕ
-  depth (token number text) = 0
-  depth (inner kind parts) = suc (choices_depth parts)
-
-  pub choices_depth : PlainChoices → ℕ
-  choices_depth no_choice = 0
-  choices_depth (choice alternatives rest) = max (branches_depth alternatives) (choices_depth rest)
-
-  pub branches_depth : PlainBranches → ℕ
-  branches_depth no_branch = 0
-  branches_depth (branch when item rest) = max (depth item) (branches_depth rest)
+use Rattle.choice_trees.specs.ChoiceTrees.{plain_item, plain_branches, plain_choices}
+use Rattle.choice_trees.specs.Depths.{depth, choices_depth, branches_depth}
 
 pub choice_within : (list : List (Choice Item)) (i : ℕ) (c : Choice Item) → i < length list → branches_depth (plain_branches (get_or list i c).branches.items) ≤ choices_depth (plain_choices list)
 choice_within [] i c less = absurd (omega (arith, less))

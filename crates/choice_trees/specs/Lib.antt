@@ -1,3 +1,4 @@
 pub mod ChoiceTrees
 pub mod ItemLaws
 pub mod Leaves
+pub mod Depths

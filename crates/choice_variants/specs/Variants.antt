@@ -4,7 +4,7 @@ use Rattle.cond_formula.specs.Conditions.{condition_of}
 use Rattle.conditional.specs.Entries.{Entry}
 use Rattle.c_tree.specs.Trees.{PlainTree, PlainTrees, none, more}
 use Rattle.choice_trees.specs.ChoiceTrees.{plain_item, no_statement, item_at}
-use Rattle.choice_trees.proofs.Depths.{depth}
+use Rattle.choice_trees.specs.Depths.{depth}
 use Rattle.choice_variants.specs.declared.parts.Part.{Part}
 use Rattle.choice_variants.specs.declared.parts.Part.TheVariants.{Item, NoStatement}
 use Rattle.choice_variants.specs.declared.parts.Variant.{Variant}

@@ -5,7 +5,7 @@ ghost use Rattle.cond_formula.specs.Conditions.{condition_of, value};
 ghost use Rattle.conditional.specs.Entries.{seen, under};
 ghost use Rattle.c_tree.specs.Trees.{PlainTrees};
 ghost use Rattle.choice_trees.specs.ChoiceTrees.{plain_branches, with_part, branch_at};
-ghost use Rattle.choice_trees.proofs.Depths.{branches_depth};
+ghost use Rattle.choice_trees.specs.Depths.{branches_depth};
 ghost use Rattle.choice_variants.specs.Variants.{before, perhaps_before, followed, AreLow, AreAllLow, IsLowIfAny};
 
 use crate::parts::{Part, Variant, longer, part_left_out};

@@ -4,7 +4,7 @@ ghost use Rattle.cond_formula.specs.Features.{has};
 ghost use Rattle.cond_formula.specs.Conditions.{value};
 ghost use Rattle.conditional.specs.Entries.{seen, Stands};
 ghost use Rattle.choice_trees.specs.ChoiceTrees.{plain_choices, parts_at};
-ghost use Rattle.choice_trees.proofs.Depths.{choices_depth};
+ghost use Rattle.choice_trees.specs.Depths.{choices_depth};
 ghost use Rattle.choice_variants.specs.Variants.{shown, AreAllLow};
 
 use crate::alternatives::extended;

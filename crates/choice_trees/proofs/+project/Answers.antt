@@ -3,7 +3,8 @@ use Rattle.std.specs.Option.{option_map}
 use Rattle.cond_formula.specs.Features.{has}
 use Rattle.c_tree.specs.Trees.{plain_tree}
 use Rattle.choice_trees.specs.ChoiceTrees.{plain_item, plain_branches, plain_choices}
-use Rattle.choice_trees.proofs.Depths.{depth, branches_depth, choices_depth, branch_within, choice_within}
+use Rattle.choice_trees.specs.Depths.{depth, branches_depth, choices_depth}
+use Rattle.choice_trees.proofs.Depths.{branch_within, choice_within}
 use Rattle.choice_trees.proofs.Parts.{SoFar, one_part, no_part, left_out, parts_end}
 use Rattle.choice_trees.proofs.+project.Goals as goal
 use Rattle.choice_trees.proofs.+project.Goals.{projecting::trees_at-in-Some+in_ok-push-in-Some, projecting::trees_at-in-None+then-needs_statement+in_ok-no_statement-in-None+in_ok-push-in-None, projecting::trees_at-in-None+else-needs_statement}

@@ -2,7 +2,7 @@ use Rattle.std.proofs.Common.{◌≡◌, ◌+◌, ◌*◌, drop}
 use Rattle.cond_formula.specs.Features.{has}
 use Rattle.c_tree.specs.Trees.{plain_trees}
 use Rattle.choice_trees.specs.ChoiceTrees.{plain_item, plain_branches, plain_choices, branch_at, parts_at}
-use Rattle.choice_trees.proofs.Depths.{depth, branches_depth, choices_depth}
+use Rattle.choice_trees.specs.Depths.{depth, branches_depth, choices_depth}
 use Rattle.choice_trees.proofs.Parts.{also}
 use Rattle.choice_trees.proofs.+project.Given as goal
 

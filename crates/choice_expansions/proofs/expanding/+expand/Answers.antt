@@ -4,7 +4,7 @@ use Rattle.cond_formula.specs.Conditions.{condition_of, value}
 use Rattle.conditional.specs.Entries.{seen, under}
 use Rattle.c_tree.specs.Trees.{none}
 use Rattle.choice_trees.specs.ChoiceTrees.{plain_choices}
-use Rattle.choice_trees.proofs.Depths.{choices_depth}
+use Rattle.choice_trees.specs.Depths.{choices_depth}
 use Rattle.choice_variants.specs.Variants.{part_at, before, part_depth}
 use Rattle.choice_expansions.specs.Expansions.{expanded}
 use Rattle.choice_expansions.proofs.Crossing.{one_part, all_parts, one_variant, all_variants}

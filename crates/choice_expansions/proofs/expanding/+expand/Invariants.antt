@@ -4,7 +4,7 @@ use Rattle.cond_formula.specs.Conditions.{condition_of, value}
 use Rattle.conditional.specs.Entries.{seen, under}
 use Rattle.c_tree.specs.Trees.{none}
 use Rattle.choice_trees.specs.ChoiceTrees.{plain_item, plain_choices}
-use Rattle.choice_trees.proofs.Depths.{depth, choices_depth}
+use Rattle.choice_trees.specs.Depths.{depth, choices_depth}
 use Rattle.choice_variants.specs.Variants.{before, shown, part_depth}
 use Rattle.choice_expansions.specs.Expansions.{rows_before}
 use Rattle.choice_expansions.proofs.Deep.{parts_depth, variants_depth}

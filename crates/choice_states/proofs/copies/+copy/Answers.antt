@@ -1,7 +1,8 @@
 use Rattle.std.proofs.Common.{◌≤◌, map, subst, sym, ap, ◌∙◌, arith}
 use Rattle.std.proofs.lemmas.List.{take_all}
 use Rattle.choice_trees.specs.ChoiceTrees.{plain_item, plain_branches, plain_choices}
-use Rattle.choice_trees.proofs.Depths.{depth, branches_depth, choices_depth, branch_within, choice_within}
+use Rattle.choice_trees.specs.Depths.{depth, branches_depth, choices_depth}
+use Rattle.choice_trees.proofs.Depths.{branch_within, choice_within}
 use Rattle.choice_states.proofs.PlainForms.{plain_branch, plain_part, same_branches, same_parts}
 use Rattle.choice_states.proofs.copies.+copy.Goals as goal
 

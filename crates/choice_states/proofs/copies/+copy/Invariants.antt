@@ -1,6 +1,6 @@
 use Rattle.std.proofs.Common.{◌≡◌, ◌+◌, ◌*◌, map, take}
 use Rattle.choice_trees.specs.ChoiceTrees.{plain_item, plain_branches, plain_choices}
-use Rattle.choice_trees.proofs.Depths.{depth, branches_depth, choices_depth}
+use Rattle.choice_trees.specs.Depths.{depth, branches_depth, choices_depth}
 use Rattle.choice_states.proofs.PlainForms.{plain_branch, plain_part}
 use Rattle.choice_states.proofs.copies.+copy.Given as goal
 

@@ -3,7 +3,7 @@ use Rattle.cond_formula.specs.Features.{has}
 use Rattle.cond_formula.specs.Conditions.{value}
 use Rattle.c_tree.specs.Trees.{PlainTrees}
 use Rattle.choice_trees.specs.ChoiceTrees.{plain_branches, with_part, branch_at}
-use Rattle.choice_trees.proofs.Depths.{branches_depth}
+use Rattle.choice_trees.specs.Depths.{branches_depth}
 use Rattle.choice_variants.specs.Variants.{AreAllLow}
 use Rattle.choice_variants.proofs.Listing.{SoFar}
 use Rattle.choice_variants.proofs.alternatives.extended.Given as goal

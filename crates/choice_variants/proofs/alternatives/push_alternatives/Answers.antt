@@ -4,7 +4,8 @@ use Rattle.cond_formula.specs.Conditions.{Condition, condition_of, value}
 use Rattle.conditional.specs.Entries.{seen, under}
 use Rattle.c_tree.specs.Trees.{more}
 use Rattle.choice_trees.specs.ChoiceTrees.{plain_item, plain_branches, item_at}
-use Rattle.choice_trees.proofs.Depths.{depth, branches_depth, branch_within}
+use Rattle.choice_trees.specs.Depths.{depth, branches_depth}
+use Rattle.choice_trees.proofs.Depths.{branch_within}
 use Rattle.choice_variants.specs.Variants.{before, followed, AreLow}
 use Rattle.choice_variants.proofs.Listing.{ahead, one_alternative, no_alternative}
 use Rattle.choice_variants.proofs.alternatives.push_alternatives.Goals as goal

@@ -4,7 +4,7 @@ use Rattle.cond_formula.specs.Conditions.{condition_of, value}
 use Rattle.conditional.specs.Entries.{seen, under}
 use Rattle.c_tree.specs.Trees.{PlainTrees}
 use Rattle.choice_trees.specs.ChoiceTrees.{plain_branches}
-use Rattle.choice_trees.proofs.Depths.{branches_depth}
+use Rattle.choice_trees.specs.Depths.{branches_depth}
 use Rattle.choice_variants.specs.Variants.{followed, AreLow, AreAllLow}
 use Rattle.choice_variants.proofs.Listing.{ahead, AddedSoFar}
 use Rattle.choice_variants.proofs.alternatives.push_alternatives.Given as goal

@@ -5,7 +5,8 @@ use Rattle.cond_formula.specs.Conditions.{value}
 use Rattle.cond_formula.specs.ConditionLaws.{condition_of-True}
 use Rattle.conditional.specs.Entries.{seen}
 use Rattle.choice_trees.specs.ChoiceTrees.{plain_branches, plain_choices, with_part, branch_at, parts_at}
-use Rattle.choice_trees.proofs.Depths.{branches_depth, choices_depth, choice_within}
+use Rattle.choice_trees.specs.Depths.{branches_depth, choices_depth}
+use Rattle.choice_trees.proofs.Depths.{choice_within}
 use Rattle.choice_variants.specs.Variants.{followed, shown, AreAllLow}
 use Rattle.choice_variants.proofs.Adding.{stands_alone}
 use Rattle.choice_variants.proofs.Listing.{begins, low_begins, next_part, parts_end}

@@ -3,7 +3,7 @@ use Rattle.cond_formula.specs.Features.{has}
 use Rattle.cond_formula.specs.Conditions.{value}
 use Rattle.conditional.specs.Entries.{seen}
 use Rattle.choice_trees.specs.ChoiceTrees.{plain_choices, parts_at}
-use Rattle.choice_trees.proofs.Depths.{choices_depth}
+use Rattle.choice_trees.specs.Depths.{choices_depth}
 use Rattle.choice_variants.specs.Variants.{followed, AreAllLow}
 use Rattle.choice_variants.proofs.nodes.variants.Given as goal
 

@@ -6,7 +6,8 @@ use Rattle.cond_formula.specs.ConditionLaws.{condition_of-False}
 use Rattle.choice_trees.specs.ChoiceTrees.{inner, plain_item, plain_branches, plain_choices, item_at, branch_at, parts_at}
 use Rattle.choice_trees.specs.ItemLaws.{plain_item-Leaf, plain_item-Node}
 use Rattle.choice_trees.specs.Leaves.{item_leaves, branch_leaves, parts_leaves}
-use Rattle.choice_trees.proofs.Depths.{depth, branches_depth, choices_depth, branch_within, choice_within}
+use Rattle.choice_trees.specs.Depths.{depth, branches_depth, choices_depth}
+use Rattle.choice_trees.proofs.Depths.{branch_within, choice_within}
 use Rattle.scope_readings.specs.Walks.{declaration_in, ends_scope, walk_node, walk_parts}
 use Rattle.cond_bindings.specs.Names.{seen, Steps}
 use Rattle.cond_bindings.specs.PlainNames.{plain_names}

@@ -2,7 +2,7 @@ use Rattle.std.proofs.Common.{◌≡◌, ◌+◌, ◌*◌, Bool, List, IsTrue, d
 use Rattle.cond_formula.specs.Features.{has}
 use Rattle.cond_formula.specs.Conditions.{conditions_of, value, all_true}
 use Rattle.choice_trees.specs.ChoiceTrees.{plain_item, plain_branches, plain_choices}
-use Rattle.choice_trees.proofs.Depths.{depth, branches_depth, choices_depth}
+use Rattle.choice_trees.specs.Depths.{depth, branches_depth, choices_depth}
 use Rattle.cond_bindings.specs.Names.{Grows, TellsUndeclared}
 use Rattle.cond_bindings.specs.PlainNames.{plain_names}
 use Rattle.cond_scopes.proofs.Choosing.{ChoiceSoFar}

@@ -6,7 +6,8 @@ use Rattle.c_tree.specs.declared.kinds.Kind.TheVariants as k
 use Rattle.c_tree.specs.Trees.{node, none}
 use Rattle.conditional.specs.Entries.{Stands}
 use Rattle.choice_trees.specs.ChoiceTrees.{plain_branches, plain_choices, with_part, branch_at, parts_at}
-use Rattle.choice_trees.proofs.Depths.{branches_depth, choices_depth, choice_within}
+use Rattle.choice_trees.specs.Depths.{branches_depth, choices_depth}
+use Rattle.choice_trees.proofs.Depths.{choice_within}
 use Rattle.choice_variants.specs.Variants.{before, part_depth, shown, AreAllLow}
 use Rattle.expression_types.specs.Reading as spec
 use Rattle.cond_nodes.specs.declared.parts.CondParts.{CondParts}

@@ -4,7 +4,7 @@ use Rattle.cond_formula.specs.Conditions.{value}
 use Rattle.c_tree.specs.Trees.{none}
 use Rattle.c_tree.specs.declared.kinds.Kind.TheVariants as k
 use Rattle.choice_trees.specs.ChoiceTrees.{plain_item, plain_branches, plain_choices, parts_at}
-use Rattle.choice_trees.proofs.Depths.{depth, branches_depth, choices_depth}
+use Rattle.choice_trees.specs.Depths.{depth, branches_depth, choices_depth}
 use Rattle.choice_variants.specs.Variants.{before, part_depth}
 use Rattle.cond_typing.specs.Readings.{node_of, arguments_in}
 use Rattle.cond_typing.specs.Progress.{ShowsSoFar, ArgumentSoFar}

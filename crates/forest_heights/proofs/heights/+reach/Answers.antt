@@ -3,7 +3,8 @@ use Rattle.std.proofs.lemmas.Bool.Decides.{nat_tests}
 use Rattle.cond_formula.specs.Conditions.{condition_of, value}
 use Rattle.c_tree.specs.Heights.{highest_of}
 use Rattle.choice_trees.specs.ChoiceTrees.{plain_item, plain_branches, plain_choices, branch_at, parts_at}
-use Rattle.choice_trees.proofs.Depths.{depth, branches_depth, choices_depth, branch_within, choice_within}
+use Rattle.choice_trees.specs.Depths.{depth, branches_depth, choices_depth}
+use Rattle.choice_trees.proofs.Depths.{branch_within, choice_within}
 use Rattle.forest_heights.specs.Levels.{height_or}
 use Rattle.forest_heights.proofs.Choosing.{starts, one_alternative}
 use Rattle.forest_heights.proofs.Telling.{within}

@@ -2,7 +2,7 @@ use Rattle.std.proofs.Common.{◌≡◌, ℕ, ◌+◌, ◌*◌, min, nat_le, Boo
 use Rattle.cond_formula.specs.Conditions.{condition_of, value}
 use Rattle.c_tree.specs.Heights.{highest_of}
 use Rattle.choice_trees.specs.ChoiceTrees.{plain_item, plain_branches, plain_choices, parts_at}
-use Rattle.choice_trees.proofs.Depths.{depth, branches_depth, choices_depth}
+use Rattle.choice_trees.specs.Depths.{depth, branches_depth, choices_depth}
 use Rattle.forest_heights.specs.Levels.{height_or, Tells, TellFrom, values}
 use Rattle.forest_heights.proofs.Choosing.{SoFar}
 use Rattle.forest_heights.proofs.Reaching.{ReachedSoFar}
