@@ -4,3 +4,4 @@ pub mod Seen
 pub mod Steps
 pub mod Changes
 pub mod Blocks
+pub mod Questions

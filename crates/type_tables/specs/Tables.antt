@@ -1,8 +1,8 @@
 -- What is known of names and structs at a place of a unit, as a configuration sees it: structs by the numbers that their tags have in all
 -- configurations, functions by the numbers of their declarations (ISO/IEC 9899:2011, 6.2.1 to 6.2.3).
-use Rattle.std.specs.Prelude.{ℕ, Bool, true, false, List, [], ◌∷◌, Option, Some, None, option_map, if◌then◌else◌}
+use Rattle.std.specs.Prelude.{ℕ, ◌==◌, Bool, true, false, List, [], ◌∷◌, Option, Some, None, option_map, if◌then◌else◌}
 use Rattle.std.specs.Str.{bytes_eq}
-use Rattle.c_types.specs.Types.{PlainType}
+use Rattle.c_types.specs.Types.{PlainType, void, structure}
 use Rattle.c_types.specs.Tags.{PlainMember}
 use Rattle.core_meaning.specs.Entities.{Table, Signature}
 use Rattle.operand_types.specs.OperandTypes.{OperandType, rvalue, lvalue, struct_in}
@@ -44,12 +44,23 @@ abbrev pub local_named : List Local → List ℕ → Option Local
 local_named [] name = None
 local_named (l ∷ outer) name = if bytes_eq name l.name then Some l else local_named outer name
 
+-- the innermost block, in which so many are open, declares the local
+abbrev pub is_in_block : ℕ → Option Local → Bool
+is_in_block depth None = false
+is_in_block depth (Some l) = l.depth == depth
+
 -- the member of a name
 abbrev pub member_named : List PlainMember → List ℕ → Option PlainMember
 member_named [] name = None
 member_named (m ∷ rest) name = if bytes_eq name m.name then Some m else member_named rest name
 
 module _ (t : Tables) where
+  -- 6.2.5: objects may be of this type
+  abbrev pub is_complete_type : PlainType → Bool
+  is_complete_type void = false
+  is_complete_type (structure number) = t.complete number
+  is_complete_type other = true
+
   abbrev pub is_complete_in : Option ℕ → Bool
   is_complete_in None = true
   is_complete_in (Some n) = t.complete n

@@ -4,6 +4,7 @@
 mod blocks;
 mod entries;
 mod names;
+mod questions;
 mod structs;
 mod tables;
 

@@ -60,7 +60,7 @@ impl Tables {
     }
 
     /// The number of the struct of a tag.
-    fn found(&self, tag: &[u8]) -> Option<u32>
+    pub(crate) fn found(&self, tag: &[u8]) -> Option<u32>
         ensures place { IfSome result (λ number. place_of self.now.tags tag.now ≡ Some number) }
         ensures tag { IfSome result (λ number. has_tag_in self.now.structs.items number tag.now ≡ true) }
         ensures none { IfNone result (is_free self.now.structs.items (place_of self.now.tags tag.now) tag.now ≡ true) }

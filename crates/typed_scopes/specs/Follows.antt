@@ -8,7 +8,7 @@ use Rattle.core_meaning.specs.Entities as scopes
 use Rattle.core_meaning.specs.Declarations.{innermost}
 use Rattle.operand_types.specs.OperandTypes.{struct_in, renumbered}
 use Rattle.operand_types.specs.Laws.{KeepsApart}
-use Rattle.type_tables.specs.Tables.{Tables, Local, local_named, Sort, object, declared_function, FileName}
+use Rattle.type_tables.specs.Tables.{Tables, Local, local_named, Sort, object, declared_function, FileName, is_in_block}
 
 -- the struct that a type is made of is one of these
 abbrev pub IsThere : List Struct → PlainType → Type 0
@@ -26,11 +26,6 @@ types_of ms = map (λ m. m.ty) ms
 abbrev pub place_of : List PlainMember → List ℕ → Option ℕ
 place_of [] name = None
 place_of (m ∷ rest) name = if bytes_eq name m.name then Some 0 else option_map suc (place_of rest name)
-
--- the innermost block declares the name
-abbrev pub is_in_block : ℕ → Option Local → Bool
-is_in_block depth None = false
-is_in_block depth (Some l) = l.depth == depth
 
 -- no more blocks are open where a local is declared than now
 abbrev pub AreWithin : ℕ → List Local → Type 0

@@ -1,0 +1,120 @@
+//! What is asked of tables: conditions under which something is declared or complete.
+ghost use Rattle.std.specs.Prelude.{◌≡◌, ℕ, Bool, false, List, ◌∷◌, reverse, IfOk};
+ghost use Rattle.cond_formula.specs.Conditions.{condition_of, value};
+ghost use Rattle.type_tables.specs.Tables.{local_named, is_in_block};
+ghost use Rattle.type_tables.specs.Seen.{locals_in};
+ghost use Rattle.type_tables.specs.declared.entries.LocalName.{LocalName};
+
+use crate::entries::LocalName;
+use crate::tables::Tables;
+use c_types::CType;
+use cond_formula::{Formula, NoMemory};
+use reduced_conditions::{either, without};
+use std::alloc::Global;
+
+/// A condition that is never true.
+#[tactic(auto, using(cond_formula::specs::ConditionLaws::formula_kinds))]
+fn never() -> Result<Formula, NoMemory>
+    ensures { IfOk result (λ f. (on : ℕ → Bool) → value on (condition_of f) ≡ false) }
+{
+    Ok(Formula::False)
+}
+
+/// Where the innermost local of a name is declared in the block at this depth, with one more local.
+fn with_local(
+    alloc: Global,
+    found: Formula,
+    local: &LocalName,
+    name: &[u8],
+    depth: u32,
+) -> Result<Formula, NoMemory>
+    ensures { IfOk result (λ f. (on : ℕ → Bool) (outer : List LocalName) → value on (condition_of found) ≡ is_in_block depth (local_named (locals_in on outer) name.now)
+        → value on (condition_of f) ≡ is_in_block depth (local_named (locals_in on (local.now ∷ outer)) name.now)) }
+{
+    if name != local.name.as_slice() {
+        return Ok(found);
+    }
+    if local.depth == depth {
+        return either(alloc, found, local.when.try_clone(alloc)?);
+    }
+    without(alloc, found, &local.when)
+}
+
+/// Where the innermost local of a name is declared in the block at this depth.
+#[tactic(auto, using(cond_formula::specs::ConditionLaws::formula_kinds))]
+fn where_in_block(
+    alloc: Global,
+    locals: &[LocalName],
+    name: &[u8],
+    depth: u32,
+) -> Result<Formula, NoMemory>
+    ensures { IfOk result (λ f. (on : ℕ → Bool) → value on (condition_of f) ≡ is_in_block depth (local_named (locals_in on (reverse locals.now)) name.now)) }
+{
+    let mut found = Formula::False;
+    for local in locals {
+        found = with_local(alloc, found, local, name, depth)?;
+    }
+    Ok(found)
+}
+
+impl Tables {
+    ghost use Rattle.std.specs.Prelude.{◌≡◌, ℕ, Bool, IfOk};
+    ghost use Rattle.cond_formula.specs.Conditions.{condition_of, value};
+    ghost use Rattle.c_types.specs.Types.{plain_type};
+    ghost use Rattle.type_tables.specs.Tables.{local_named, is_in_block, is_complete_type};
+    ghost use Rattle.type_tables.specs.Seen.{seen_tables};
+    ghost use Rattle.type_tables.specs.Questions.{where_declared};
+
+    /// The number of the struct with this tag, which is visible where that struct is declared.
+    pub fn tagged(&self, tag: &[u8]) -> Option<u32>
+        ensures { (on : ℕ → Bool) → (seen_tables on self.now).tags tag.now ≡ where_declared (seen_tables on self.now) result }
+    {
+        self.found(tag)
+    }
+
+    /// Where a struct is declared.
+    pub fn where_declared(&self, alloc: Global, number: u32) -> Result<Formula, NoMemory>
+        ensures { IfOk result (λ f. (on : ℕ → Bool) → value on (condition_of f) ≡ (seen_tables on self.now).declared number) }
+    {
+        match self.structs.get(number as usize) {
+            Some(s) => s.declared.try_clone(alloc),
+            None => never(),
+        }
+    }
+
+    /// Where a type is complete (6.2.5).
+    #[tactic(auto, using(c_types::specs::TypeLaws::type_kinds, cond_formula::specs::ConditionLaws::formula_kinds))]
+    pub fn where_complete(&self, alloc: Global, ty: &CType) -> Result<Formula, NoMemory>
+        ensures { IfOk result (λ f. (on : ℕ → Bool) → value on (condition_of f) ≡ is_complete_type (seen_tables on self.now) (plain_type ty.now)) }
+    {
+        match ty {
+            CType::Void => Ok(Formula::False),
+            CType::Struct(number) => self.where_struct_complete(alloc, *number),
+            CType::Char
+            | CType::UChar
+            | CType::Int
+            | CType::UInt
+            | CType::Long
+            | CType::ULong
+            | CType::Pointer(_)
+            | CType::Array(..) => Ok(Formula::True),
+        }
+    }
+
+    /// Where a struct is complete.
+    fn where_struct_complete(&self, alloc: Global, number: u32) -> Result<Formula, NoMemory>
+        ensures { IfOk result (λ f. (on : ℕ → Bool) → value on (condition_of f) ≡ (seen_tables on self.now).complete number) }
+    {
+        match self.structs.get(number as usize) {
+            Some(s) => s.complete.try_clone(alloc),
+            None => never(),
+        }
+    }
+
+    /// Where the innermost block declares this name.
+    pub fn where_local(&self, alloc: Global, name: &[u8]) -> Result<Formula, NoMemory>
+        ensures { IfOk result (λ f. (on : ℕ → Bool) → value on (condition_of f) ≡ is_in_block (seen_tables on self.now).depth (local_named (seen_tables on self.now).locals name.now)) }
+    {
+        where_in_block(alloc, &self.locals, name, self.depth)
+    }
+}
