@@ -8,10 +8,10 @@ use Rattle.core_meaning.specs.Entities.{Table, no_entry, with_entry, or_else, St
 use Rattle.core_meaning.specs.Entities as scopes
 use Rattle.core_meaning.specs.Declarations.{innermost, with_local_in, with_local, with_block}
 use Rattle.operand_types.specs.OperandTypes.{renumbered}
-use Rattle.type_tables.specs.Tables.{Tables, Local, local_named}
+use Rattle.type_tables.specs.Tables.{Tables, Local, local_named, is_in_block}
 use Rattle.type_tables.specs.Steps as step
 use Rattle.type_tables.specs.Steps.{entered}
-use Rattle.typed_scopes.specs.Follows.{IsThere, is_in_block, AreWithin, LocalFollows, StructFollows, Follows, FollowsInBlock}
+use Rattle.typed_scopes.specs.Follows.{IsThere, AreWithin, LocalFollows, StructFollows, Follows, FollowsInBlock}
 
 -- ---- depths
 

@@ -1,5 +1,5 @@
 -- That tables say what a scope does, where structs have other numbers.
-use Rattle.std.specs.Prelude.{◌≡◌, ℕ, suc, ◌≤◌, Bool, true, false, ◌==◌, List, [], ◌∷◌, map, Option, Some, None, option_map, is_some, slice_get, ⊤, if◌then◌else◌}
+use Rattle.std.specs.Prelude.{◌≡◌, ℕ, suc, ◌≤◌, true, List, [], ◌∷◌, map, Option, Some, None, option_map, is_some, slice_get, ⊤, if◌then◌else◌}
 use Rattle.std.specs.Str.{bytes_eq}
 use Rattle.c_types.specs.Types.{PlainType}
 use Rattle.c_types.specs.Tags.{PlainMember}
