@@ -59,11 +59,11 @@ only_tree on x all is holds = rw (is, holds) refl
 
 -- ---- a row goes on by each of the expansions
 
-nothing_under : {P : Type 0} (k : Bool) (xs : List P) → xs ++ under k [] ≡ xs
+pub nothing_under : {P : Type 0} (k : Bool) (xs : List P) → xs ++ under k [] ≡ xs
 nothing_under true xs = append-nil xs
 nothing_under false xs = append-nil xs
 
-mapped_under :
+pub mapped_under :
     {A P : Type 0} (f : A → P) (k t : Bool) (what : A) (rest : List A) (now new all : List P) → now ++ under k (map f (if t then what ∷ rest else rest)) ≡ all
     → new ≡ now ++ under (k && t) (f what ∷ []) → new ++ under k (map f rest) ≡ all
 mapped_under {A} {P} f true true what rest now new all before added = ap (λ (list : List P). list ++ map f rest) added ∙ (append_assoc now (f what ∷ []) (map f rest) ∙ before)

@@ -1,3 +1,4 @@
+pub mod Choosing
 pub mod Crossing
 pub mod Deep
 pub mod StepByStep

@@ -1,9 +1,10 @@
 -- What a configuration sees of the trees that an item stands for.
-use Rattle.std.specs.Prelude.{List, [], ◌∷◌, map}
+use Rattle.std.specs.Prelude.{List, [], ◌∷◌, map, Option, option_map}
 use Rattle.cond_formula.specs.Conditions.{condition_of}
 use Rattle.conditional.specs.Entries.{Entry}
 use Rattle.c_tree.specs.declared.trees.Tree.{Tree}
 use Rattle.c_tree.specs.Trees.{PlainTree, PlainTrees, more, plain_tree}
+use Rattle.choice_expansions.specs.declared.alternatives.PartExpansion.{PartExpansion}
 use Rattle.choice_expansions.specs.declared.rows.Expansion.{Expansion}
 use Rattle.choice_expansions.specs.declared.rows.Row.{Row}
 
@@ -13,6 +14,13 @@ plain_expansion expansion = record { when = condition_of expansion.when; what = 
 -- each tree, under its condition
 abbrev pub expanded : List Expansion → List (Entry PlainTree)
 expanded expansions = map plain_expansion expansions
+
+abbrev pub plain_part : PartExpansion → Entry (Option PlainTree)
+plain_part part = record { when = condition_of part.when; what = option_map plain_tree part.tree }
+
+-- what stands for a part, under its condition
+abbrev pub parts_expanded : List PartExpansion → List (Entry (Option PlainTree))
+parts_expanded parts = map plain_part parts
 
 -- ---- rows, by which the code makes them
 

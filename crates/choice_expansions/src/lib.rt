@@ -2,10 +2,12 @@
 //! this is for small items: the words of a declaration, a declarator, a size.
 #![tactic(auto)]
 
+mod alternatives;
 mod expanding;
 mod rows;
 mod stepping;
 
+pub use alternatives::{PartExpansion, part_expansions};
 pub use expanding::expansions;
 pub use rows::Expansion;
 pub use stepping::{StepOnParts, StepOnTree, for_each_expansion, for_each_variant};
