@@ -2,7 +2,8 @@ use crate::items::{either, leaf, when};
 use c_text::TokenKind;
 use c_tree::{Kind, Tree, spell};
 use choice_expansions::{
-    Expansion, StepOnParts, StepOnTree, expansions, for_each_expansion, for_each_variant,
+    Expansion, PartExpansion, StepOnParts, StepOnTree, expansions, for_each_expansion,
+    for_each_variant, part_expansions,
 };
 use choice_trees::{Choice, Item};
 use choice_variants::Part;
@@ -47,6 +48,27 @@ fn each_configuration_has_one_expansion(rt: HostRuntime) -> Result<(), Fail> {
     assert_eq!(rt; spelled(alloc, &all, 1)?.as_slice(), b"x ".as_slice());
     assert_eq!(rt; spelled(alloc, &all, 2)?.as_slice(), b"z y ".as_slice());
     assert_eq!(rt; spelled(alloc, &all, 3)?.as_slice(), b"x y ".as_slice());
+    Ok(())
+}
+
+/// Whether a tree stands for the part in a configuration.
+fn is_there(all: &[PartExpansion], bits: u128) -> bool {
+    for expansion in all {
+        if expansion.when.value(Config { bits }) {
+            return expansion.tree.is_some();
+        }
+    }
+    false
+}
+
+#[test]
+fn a_part_is_nothing_where_no_alternative_holds(rt: HostRuntime) -> Result<(), Fail> {
+    let alloc = rt.alloc();
+    let part = when(alloc, Formula::Var(1), name(alloc, "y")?)?;
+    let all = part_expansions(alloc, &mut PlainOracle, &part)?;
+    assert_eq!(rt; all.len(), 2);
+    assert!(rt; is_there(&all, 2));
+    assert!(rt; !is_there(&all, 1));
     Ok(())
 }
 
