@@ -13,6 +13,7 @@ use Rattle.c_tree.specs.ReadingLaws.{ReadIsSpelt, SpeltIsRead}
 use Rattle.choice_trees.specs.declared.trees.Forest.{Forest}
 use Rattle.choice_trees.specs.ChoiceTrees.{forest_at}
 use Rattle.choice_trees.specs.Leaves.{texts, forest_leaves}
+use Rattle.exclusive_forests.specs.Apart.{ForestApart}
 use Rattle.cond_tokens.specs.declared.tokens.CondToken.{CondToken}
 use Rattle.cond_tokens.specs.Streams.{tokens_at}
 use Rattle.choice_states.specs.Seen.{seen_in}
@@ -76,3 +77,8 @@ parsed_so laws on tokens nodes true new forest nodes_are ended new_is =
 parsed_so laws on tokens nodes false new forest nodes_are ended new_is =
     subst (λ b. IsParsed on tokens b forest) (sym new_is)
     (low_parsed laws on tokens forest (ap finished_seen (sym nodes_are) ∙ ended ∙ ap Some (sym (laws.units on forest))) (nat_lt most_high (height_of (forest_at on forest))) refl)
+
+-- the same is said of trees whose alternatives have been set apart
+pub apart_parsed : (on : ℕ → Bool) (tokens : List CondToken) (refused : Bool) (old new : Forest) → ForestApart on old new → IsParsed on tokens refused old → IsParsed on tokens refused new
+apart_parsed on tokens true old new apart is = is
+apart_parsed on tokens false old new apart is = (subst (IsTreeOf (tokens_at on tokens)) (sym apart.tree_is) is.0, apart.leaves_are ∙ is.1)

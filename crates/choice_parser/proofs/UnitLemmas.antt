@@ -17,6 +17,7 @@ use Rattle.cond_tokens.specs.declared.tokens.CondToken.{CondToken}
 use Rattle.choice_lookahead.specs.Ahead.{next_kind}
 use Rattle.choice_states.specs.Seen.{Seen, Parts, of_seen, node_seen}
 use Rattle.choice_states.specs.Parts.{values}
+use Rattle.choice_states.specs.Lists.{whole_fits_in}
 use Rattle.choice_states.specs.States as states
 use Rattle.choice_states.specs.States.{Stay, Standing, dead, IsClean}
 use Rattle.choice_states.specs.Reading.{leaf_seen, read_seen, finished_seen}
@@ -73,6 +74,7 @@ wrong_ends (Some frames) wrong (leaf ∷ leaves) =
 -- one stands behind some tokens, and goes on by any token as the reader does
 pub record LeadsOn (nodes : Nodes) (standing : Standing) : Type 0 where
   pub sound : IsSound standing
+  pub fit_in : IsTrue (standing.fits_in None)
   pub still : standing.stay ≡ states.stays
   pub leads_are : (kind : Terminal) (token : Seen) → standing.leads [] kind token ≡ leading nodes kind token
 
@@ -84,6 +86,7 @@ leads_behind is_wrong next nodes_behind = nodes_behind
 dead_leads : (nodes : Nodes) → nodes ≡ None → LeadsOn nodes dead
 dead_leads nodes none = record {
   sound = record { fit = refl; clean = tt };
+  fit_in = refl;
   still = refl;
   leads_are = λ kind token. sym (ap (λ n. leading n kind token) none);
 }
@@ -96,12 +99,13 @@ reads_in_unit nodes kind token before after read is =
     ((elim before.stay as (λ stay. stay ≡ before.stay → LeadsOn (going_on (leading nodes kind token)) (if_left stay before)) [
       | states.stays ↦ λ same. record {
         sound = record { fit = read.fit; clean = subst IsClean same tt };
+        fit_in = read.fit_in;
         still = sym same;
         leads_are = leads_behind (leading nodes kind token) (before.leads []) (subst (λ s. IsRead s kind token (leading nodes kind token) (before.leads [])) (sym same) read.reads);
       }
       | states.leaves ↦ λ same. dead_leads (going_on (leading nodes kind token))
           (ap going_on (sym (subst (λ s. IsRead s kind token (leading nodes kind token) (before.leads [])) (sym same) read.reads)) ∙ is.ends (sym same) kind token)
-      | states.takes ↦ λ same. absurd (is.takes_none (sym same))
+      | states.takes ↦ λ same. absurd (is.takes_none read.fit_in (sym same))
       | states.astray ↦ λ same. absurd (subst (λ s. IsRead s kind token (leading nodes kind token) (before.leads [])) (sym same) read.reads)
     ]) refl)
 
@@ -119,28 +123,36 @@ pub left_closed : (kind : Option Kind) (ended : Place) (parts : Parts) → IsInU
 left_closed kind ended parts = record {
   new_is = refl;
   ends = λ left next token. going_arriving (states.made kind (values parts)) ended next token;
-  takes_none = λ taken. absurd (cc taken);
+  takes_none = λ fits_in taken. absurd (cc taken);
 }
 
 pub left_unbegun : (around : Place) → IsInUnit (states.unbegun around) dead
 left_unbegun around = record {
   new_is = refl;
   ends = λ left next token. refl;
-  takes_none = λ taken. absurd (cc taken);
+  takes_none = λ fits_in taken. absurd (cc taken);
+}
+
+-- no node takes it
+pub left_taken : (behind second : Place) (parts : Parts) → IsInUnit (states.taken behind second parts) dead
+left_taken behind second parts = record {
+  new_is = refl;
+  ends = λ left next token. absurd (cc left);
+  takes_none = λ fits_in. absurd (cc fits_in);
 }
 
 pub still_at : (place : Place) (parts : Parts) → IsInUnit (states.at_place place parts) (states.at_place place parts)
 still_at place parts = record {
   new_is = refl;
   ends = λ left next token. absurd (cc left);
-  takes_none = λ taken. absurd (cc taken);
+  takes_none = λ fits_in taken. absurd (cc taken);
 }
 
 pub still_dead : IsInUnit dead dead
 still_dead = record {
   new_is = refl;
   ends = λ left next token. absurd (cc left);
-  takes_none = λ taken. absurd (cc taken);
+  takes_none = λ fits_in taken. absurd (cc taken);
 }
 
 stays_inside : (stay : Stay) (standing : Standing) → standing ≡ if_left (states.stay_within stay) standing
@@ -165,7 +177,7 @@ pub still_within : (place : Place) (inner : Standing) (parts : Parts) → IsInUn
 still_within place inner parts = record {
   new_is = stays_inside inner.stay (states.within place inner parts);
   ends = λ left next token. absurd (never_leaves inner.stay left);
-  takes_none = never_takes inner.stay;
+  takes_none = λ fits_in. never_takes inner.stay;
 }
 
 still_split : (f : Bool) (first second one other : Standing) → IsInUnit first one → IsInUnit second other → IsInUnit (if f then first else second) (if f then one else other)
@@ -219,8 +231,8 @@ no_unit : (nodes : Nodes) (token : Seen) (standing : Standing) → HasRead nodes
 no_unit nodes token standing read ends =
     (elim standing.stay as (λ stay. standing.stay ≡ stay → whole (leading nodes Other token) ≡ None) [
       | states.stays ↦ λ same. behind_no_whole (leading nodes Other token) (standing.leads []) (subst (λ s. IsRead s Other token (leading nodes Other token) (standing.leads [])) same read.reads)
-      | states.leaves ↦ λ same. ap whole (sym (subst (λ s. IsRead s Other token (leading nodes Other token) (standing.leads [])) same read.reads)) ∙ ends.leaving same Other token
-      | states.takes ↦ λ same. absurd (ends.taking same)
+      | states.leaves ↦ λ same. ap whole (sym (subst (λ s. IsRead s Other token (leading nodes Other token) (standing.leads [])) same read.reads)) ∙ ends.leaving read.fit_in same Other token
+      | states.takes ↦ λ same. absurd (ends.taking read.fit_in same)
       | states.astray ↦ λ same. absurd (subst (λ s. IsRead s Other token (leading nodes Other token) (standing.leads [])) same read.reads)
     ]) refl
 
@@ -242,7 +254,7 @@ still_split_so f all new first second one other all_is new_is x y =
     subst (λ a. IsInUnit a new) (sym all_is) (subst (IsInUnit (if f then first else second)) (sym new_is) (still_split f first second one other x y))
 
 -- one still in the unit, by the kinds of states
-pub ruleset still_kinds = (left_closed, left_unbegun, still_at, still_dead, still_within)
+pub ruleset still_kinds = (left_closed, left_unbegun, left_taken, still_at, still_dead, still_within)
 
 -- ---- what is refused where the text ends
 
@@ -251,17 +263,27 @@ or_on old true new is = is
 or_on old false new is = is
 
 pub ends_at : (place : Place) (parts : Parts) (path old new : Bool) → new ≡ (old || path) → IsRefusedHere (states.at_place place parts) parts path old new
-ends_at place parts path old new is = (true, or_on old path new is, record { leaving = λ left kind token. absurd (cc left); taking = λ taken. absurd (cc taken) })
+ends_at place parts path old new is = (true, or_on old path new is, record { leaving = λ fits_in left kind token. absurd (cc left); taking = λ fits_in taken. absurd (cc taken) })
 
 pub ends_dead : (parts : Parts) (path old new : Bool) → new ≡ (old || path) → IsRefusedHere dead parts path old new
-ends_dead parts path old new is = (true, or_on old path new is, record { leaving = λ left kind token. absurd (cc left); taking = λ taken. absurd (cc taken) })
+ends_dead parts path old new is = (true, or_on old path new is, record { leaving = λ fits_in left kind token. absurd (cc left); taking = λ fits_in taken. absurd (cc taken) })
 
 pub ends_unbegun : (around : Place) (parts : Parts) (path old new : Bool) → new ≡ (old || path) → IsRefusedHere (states.unbegun around) parts path old new
-ends_unbegun around parts path old new is = (true, or_on old path new is, record { leaving = λ left kind token. refl; taking = λ taken. absurd (cc taken) })
+ends_unbegun around parts path old new is = (true, or_on old path new is, record { leaving = λ fits_in left kind token. refl; taking = λ fits_in taken. absurd (cc taken) })
 
 pub ends_within : (place : Place) (inner : Standing) (parts : Parts) (path old new : Bool) → new ≡ (old || path) → IsRefusedHere (states.within place inner parts) parts path old new
 ends_within place inner parts path old new is =
-    (true, or_on old path new is, record { leaving = λ left kind token. absurd (never_leaves inner.stay left); taking = never_takes inner.stay })
+    (true, or_on old path new is, record { leaving = λ fits_in left kind token. absurd (never_leaves inner.stay left); taking = λ fits_in. never_takes inner.stay })
+
+pub ends_taken : (behind second : Place) (parts : Parts) (path old new : Bool) → new ≡ (old || path) → IsRefusedHere (states.taken behind second parts) parts path old new
+ends_taken behind second parts path old new is =
+    (true, or_on old path new is, record { leaving = λ fits_in left kind token. absurd (cc left); taking = λ fits_in. absurd (cc fits_in) })
+
+-- what is whole as another node isn't in the unit's list
+pub ends_other : (kind : Option Kind) (ended : Place) (parts : Parts) (path old new : Bool) → whole_fits_in kind None ≡ false → new ≡ (old || path)
+    → IsRefusedHere (states.closed kind ended parts) parts path old new
+ends_other kind ended parts path old new other is =
+    (true, or_on old path new is, record { leaving = λ fits_in. absurd (cc (other, fits_in)); taking = λ fits_in taken. absurd (cc taken) })
 
 or_off : (old path : Bool) → old ≡ (old || (path && false))
 or_off true path = refl
@@ -297,7 +319,7 @@ ends_split_so f all first second parts path one_path other_path old mid new all_
     (ends_split f first second parts path old mid new (subst (λ p. IsRefusedHere first parts p old mid) one_is one) (subst (λ p. IsRefusedHere second parts p mid new) other_is other))
 
 -- what is refused where the text ends, by the kinds of states
-pub ruleset end_kinds = (ends_at, ends_dead, ends_unbegun, ends_within, ends_whole)
+pub ruleset end_kinds = (ends_at, ends_dead, ends_unbegun, ends_within, ends_whole, ends_taken, ends_other)
 
 -- ---- one token of the unit
 
@@ -320,13 +342,13 @@ wrong_next on number (entry ∷ rest) nodes wrong =
 
 -- behind a token, when what is dead has been refused
 so_far_behind : (on : ℕ → Bool) (number : ℕ) (rest : List CondToken) (nodes : Nodes) (new dies : Bool) (still last : Standing)
-    → IsSound still → still.stay ≡ states.stays → ((token : Seen) → still.leads [] (next_kind on rest) token ≡ leading nodes (next_kind on rest) token)
+    → IsSound still → IsTrue (still.fits_in None) → still.stay ≡ states.stays → ((token : Seen) → still.leads [] (next_kind on rest) token ≡ leading nodes (next_kind on rest) token)
     → (dies ≡ false → last ≡ still) → (dies ≡ true → (kind : Terminal) (token : Seen) → still.leads [] kind token ≡ is_wrong) → new ≡ dies
     → IsSoFar on number rest nodes new last
-so_far_behind on number rest nodes new false still last sound stays leads same wrong is =
+so_far_behind on number rest nodes new false still last sound fit_in stays leads same wrong is =
     subst (λ b. IsSoFar on number rest nodes b last) (sym is)
-    (subst (StandsBehind on rest nodes) (sym (same refl)) (record { sound = sound; still = stays; leads_are = leads }))
-so_far_behind on number rest nodes new true still last sound stays leads same wrong is =
+    (subst (StandsBehind on rest nodes) (sym (same refl)) (record { sound = sound; fit_in = fit_in; still = stays; leads_are = leads }))
+so_far_behind on number rest nodes new true still last sound fit_in stays leads same wrong is =
     subst (λ b. IsSoFar on number rest nodes b last) (sym is)
     (wrong_next on number rest nodes (λ token. sym (leads token) ∙ wrong refl (next_kind on rest) token))
 
@@ -348,12 +370,13 @@ stands_then on number entry rest nodes before read still last new dies true ther
     in
     subst (λ n. IsSoFar on (suc number) rest n new last) (sym (behind_there on number entry nodes there))
     (so_far_behind on (suc number) rest (going_on (leading nodes (terminal (plain_token entry.token)) (seen_of number entry))) new dies still last
-    leads.sound leads.still (λ token. leads.leads_are (next_kind on rest) token) first.same first.wrong first.refused_is)
+    leads.sound leads.fit_in leads.still (λ token. leads.leads_are (next_kind on rest) token) first.same first.wrong first.refused_is)
 stands_then on number entry rest nodes before read still last new dies false absent first stands =
     let stayed = first.absent absent stands in
     let same : still ≡ read = still_same read still first.in_unit stayed.still in
     subst (λ n. IsSoFar on (suc number) rest n new last) (sym (behind_absent on number entry nodes absent))
-    (so_far_behind on (suc number) rest nodes new dies still last (subst IsSound (sym same) stayed.sound) (ap (λ (s : Standing). s.stay) same ∙ stayed.still)
+    (so_far_behind on (suc number) rest nodes new dies still last (subst IsSound (sym same) stayed.sound) (ap (λ (s : Standing). s.fits_in None) same ∙ stayed.fit_in)
+    (ap (λ (s : Standing). s.stay) same ∙ stayed.still)
     (subst (λ kind. (token : Seen) → still.leads [] kind token ≡ leading nodes kind token) (next_absent on entry rest absent)
     (λ token. ap (λ (s : Standing). s.leads [] (next_kind on (entry ∷ rest)) token) same ∙ stayed.leads_are token)) first.same first.wrong first.refused_is)
 
@@ -410,7 +433,7 @@ begins_unit on tokens refused standing none is = record {
   nodes = Some start;
   reads = refl;
   so_far = subst (λ b. IsSoFar on 0 tokens (Some start) b standing) (sym none)
-      (subst (StandsBehind on tokens (Some start)) (sym is) (record { sound = record { fit = refl; clean = tt }; still = refl; leads_are = λ token. refl }));
+      (subst (StandsBehind on tokens (Some start)) (sym is) (record { sound = record { fit = refl; clean = tt }; fit_in = refl; still = refl; leads_are = λ token. refl }));
 }
 
 pub rest_of : (tokens : List CondToken) (i : ℕ) → take (length tokens - i) (drop i tokens) ≡ drop i tokens

@@ -28,10 +28,10 @@ is_dead = fold-State Deaths death_level
 abbrev pub if_left : Stay → Standing → Standing
 if_left leaves standing = dead
 if_left stays standing = standing
-if_left takes standing = standing
+if_left takes standing = dead
 if_left astray standing = standing
 
--- behind a unit no token stands
+-- behind a unit no token stands, and no node takes it
 abbrev pub within_unit : Standing → Standing
 within_unit standing = if_left standing.stay standing
 

@@ -10,6 +10,7 @@ use Rattle.c_tree.specs.Machine.{Frame, Outcome, is_whole, is_wrong, outcome, go
 use Rattle.choice_trees.specs.declared.trees.Forest.{Forest}
 use Rattle.choice_trees.specs.ChoiceTrees.{forest_at}
 use Rattle.choice_trees.specs.Leaves.{Leaf, forest_leaves}
+use Rattle.exclusive_forests.specs.Apart.{ForestApart}
 use Rattle.cond_tokens.specs.declared.tokens.CondToken.{CondToken}
 use Rattle.cond_tokens.specs.Streams.{tokens_at}
 use Rattle.choice_lookahead.specs.Ahead.{next_kind}
@@ -48,6 +49,7 @@ leading (Some frames) kind token = outcome of_seen kind token frames
 -- one stands in a unit behind some tokens: by the next of those ahead one goes on as the reader does
 pub record StandsBehind (on : ℕ → Bool) (ahead : List CondToken) (nodes : Nodes) (standing : Standing) : Type 0 where
   pub sound : IsSound standing
+  pub fit_in : IsTrue (standing.fits_in None)
   pub still : standing.stay ≡ stays
   pub leads_are : (token : Seen) → standing.leads [] (next_kind on ahead) token ≡ leading nodes (next_kind on ahead) token
 
@@ -58,13 +60,14 @@ nodes_behind on number entry nodes = read_seen nodes (numbered_at on number (ent
 -- a token has been read, or is still to be read behind the unit
 pub record HasRead (nodes : Nodes) (kind : Terminal) (token : Seen) (standing : Standing) : Type 0 where
   pub fit : IsTrue standing.fits
+  pub fit_in : IsTrue (standing.fits_in None)
   pub reads : IsRead standing.stay kind token (leading nodes kind token) (standing.leads [])
 
 -- one stands still in a unit: one that has been left is dead
 pub record IsInUnit (old new : Standing) : Type 0 where
   pub new_is : new ≡ within_unit old
   pub ends : old.stay ≡ leaves → (kind : Terminal) (token : Seen) → going_on (old.leads [] kind token) ≡ None
-  pub takes_none : old.stay ≡ takes → ⊥
+  pub takes_none : IsTrue (old.fits_in None) → old.stay ≡ takes → ⊥
 
 -- one stands behind some tokens, or it is known that they and those ahead are those of no unit
 abbrev pub IsSoFar : (ℕ → Bool) → ℕ → List CondToken → Nodes → Bool → Standing → Type 0
@@ -85,8 +88,8 @@ IsEnded nodes false parts = finished_seen nodes ≡ Some (node_seen k.Unit parts
 -- ---- where the text ends
 
 pub record EndsNoUnit (standing : Standing) : Type 0 where
-  pub leaving : standing.stay ≡ leaves → (kind : Terminal) (token : Seen) → whole (standing.leads [] kind token) ≡ None
-  pub taking : standing.stay ≡ takes → ⊥
+  pub leaving : IsTrue (standing.fits_in None) → standing.stay ≡ leaves → (kind : Terminal) (token : Seen) → whole (standing.leads [] kind token) ≡ None
+  pub taking : IsTrue (standing.fits_in None) → standing.stay ≡ takes → ⊥
 
 -- a unit with these parts is whole
 pub record EndsUnit (standing : Standing) (parts : Parts) : Type 0 where
@@ -107,3 +110,8 @@ pub record IsLowPart (parsed low : Parsed) : Type 0 where
   pub refused_is :
       (on : ℕ → Bool)
       → value on (condition_of low.refused) ≡ (value on (condition_of parsed.refused) || nat_lt most_high (height_of (forest_at on parsed.forest)))
+
+-- the same, with alternatives that exclude each other
+pub record IsSetApart (parsed apart : Parsed) : Type 0 where
+  pub forest_is : (on : ℕ → Bool) → ForestApart on parsed.forest apart.forest
+  pub refused_is : apart.refused ≡ parsed.refused

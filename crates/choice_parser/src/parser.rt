@@ -1,16 +1,17 @@
 //! The trees of a unit's tokens in all configurations.
 
-ghost use Rattle.std.specs.Prelude.{◌≡◌, ◌+◌, ◌<◌, Bool, List, [], ◌∷◌, true, false, IsTrue, IfOk, length};
+ghost use Rattle.std.specs.Prelude.{◌≡◌, ℕ, ◌+◌, ◌<◌, Bool, List, [], ◌∷◌, true, false, IsTrue, IfOk, length};
 ghost use Rattle.cond_formula.specs.Features.{has};
 ghost use Rattle.cond_formula.specs.Conditions.{condition_of, value};
 ghost use Rattle.c_text.specs.Token.{plain_token};
 ghost use Rattle.c_tree.specs.Terminals as terminals;
 ghost use Rattle.cond_tokens.specs.declared.tokens.CondToken.{CondToken as Entry};
+ghost use Rattle.exclusive_forests.specs.Exclusions.{ForestExcludes};
 ghost use Rattle.choice_lookahead.specs.Ahead.{next_kind};
 ghost use Rattle.choice_states.specs.Seen.{seen_in};
 ghost use Rattle.choice_states.specs.Parts.{values};
 ghost use Rattle.choice_settling.specs.Steps.{seen_of, stood};
-ghost use Rattle.choice_parser.specs.Units.{Nodes, StandsBehind, HasRead, nodes_behind, IsSoFar, Progress, IsEnded, IsLowPart, IsParsed};
+ghost use Rattle.choice_parser.specs.Units.{Nodes, StandsBehind, HasRead, nodes_behind, IsSoFar, Progress, IsEnded, IsLowPart, IsSetApart, IsParsed};
 
 use crate::refusals::buried;
 use crate::units::{end_of_text, refused_in, still_in_unit};
@@ -21,6 +22,7 @@ use choice_states::{State, leaves_are_the_tokens, trees_are_read, units_are_seen
 use choice_trees::{Choice, Forest, Item};
 use cond_formula::{Formula, NoMemory, Oracle};
 use cond_tokens::{CondStream, CondToken};
+use exclusive_forests::exclusive;
 use forest_heights::too_high;
 use grammar_moves::{Category, Place};
 use std::alloc::{AllocError, Global};
@@ -184,6 +186,15 @@ fn low_enough(alloc: Global, parsed: Parsed) -> Result<Parsed, NoMemory>
     Ok(Parsed { forest, refused })
 }
 
+/// The alternatives for each part exclude each other.
+fn set_apart(alloc: Global, parsed: Parsed) -> Result<Parsed, NoMemory>
+    ensures { IfOk result (IsSetApart parsed) }
+{
+    let Parsed { forest, refused } = parsed;
+    let forest = exclusive(alloc, forest)?;
+    Ok(Parsed { forest, refused })
+}
+
 /// The trees of the tokens of a unit in all configurations. A configuration is refused where its tokens are those of no unit, or of one that is
 /// more than 512 high.
 pub fn parse_all<O: Oracle>(
@@ -195,6 +206,7 @@ pub fn parse_all<O: Oracle>(
     ensures kept { O.admits oracle.new ≡ O.admits oracle.old }
     ensures parsed { IfOk result (λ parsed. (c : List Bool) → IsTrue (value (has c) (O.admits oracle.old))
         → IsParsed (has c) stream.now.tokens.items (value (has c) (condition_of parsed.refused)) parsed.forest) }
+    ensures exclude { IfOk result (λ parsed. (on : ℕ → Bool) → ForestExcludes on parsed.forest) }
 {
     what_is_read_is_spelt();
     what_is_spelt_is_read();
@@ -204,5 +216,6 @@ pub fn parse_all<O: Oracle>(
     let so_far = read_tokens(alloc, &stream.tokens, oracle)?;
     let parsed = read_end(alloc, so_far, oracle)?;
     let low = low_enough(alloc, parsed)?;
-    Ok(low)
+    let apart = set_apart(alloc, low)?;
+    Ok(apart)
 }

@@ -1,12 +1,13 @@
 //! The list of a unit's items: what has left it, and what is whole where the text ends.
 
-ghost use Rattle.std.specs.Prelude.{◌≡◌, ℕ, Bool, ◌||◌, Some, IsTrue, IfOk};
+ghost use Rattle.std.specs.Prelude.{◌≡◌, ℕ, Bool, false, ◌||◌, Some, None, IsTrue, IfOk};
 ghost use Rattle.c_tree.specs.declared.kinds.Kind.TheVariants.{Unit};
 ghost use Rattle.cond_formula.specs.Conditions.{condition_of, conditions_of, value, all_true};
 ghost use Rattle.c_text.specs.Token.{plain_token};
 ghost use Rattle.c_tree.specs.declared.terminals.Terminal.TheVariants.{Other};
 ghost use Rattle.c_tree.specs.Terminals.{terminal};
 ghost use Rattle.choice_states.specs.Seen.{Parts};
+ghost use Rattle.choice_states.specs.Lists.{whole_fits_in};
 ghost use Rattle.choice_states.specs.States.{standing};
 ghost use Rattle.choice_parser.specs.Units.{IsInUnit, IsRefusedHere};
 
@@ -16,7 +17,7 @@ use choice_states::{State, split};
 use cond_formula::{Formula, NoMemory};
 use cond_tokens::CondToken;
 use path_conditions::{conjoined, with, without};
-use std::alloc::{AllocError, Global};
+use std::alloc::Global;
 use text_edits::Span;
 
 /// The end of the text, as a token that no unit has.
@@ -43,7 +44,7 @@ pub fn end_of_text(alloc: Global) -> CondToken
     }
 }
 
-/// What has left the unit is dead.
+/// What has left the unit is dead; and so is what a node around it would take, since none is around it.
 #[tactic(auto, using(choice_states::specs::StateLaws::state_kinds, crate::proofs::UnitLemmas::still_kinds))]
 pub fn still_in_unit(alloc: Global, state: State) -> Result<State, NoMemory>
     ensures { IfOk result (λ new. (on : ℕ → Bool) (parts : Parts) → IsInUnit (standing state on parts) (standing new on parts)) }
@@ -51,7 +52,7 @@ pub fn still_in_unit(alloc: Global, state: State) -> Result<State, NoMemory>
     match state {
         State::Closed(_) => Ok(State::Dead),
         State::Unbegun(..) => Ok(State::Dead),
-        State::Taken(..) => Err(AllocError),
+        State::Taken(..) => Ok(State::Dead),
         State::Split(f, first, second) => {
             let first = still_in_unit(alloc, Box::into_inner(first))?;
             let second = still_in_unit(alloc, Box::into_inner(second))?;
@@ -65,7 +66,8 @@ pub fn still_in_unit(alloc: Global, state: State) -> Result<State, NoMemory>
 }
 
 fn is_unit(kind: Option<Kind>) -> bool
-    ensures { IsTrue result → kind ≡ Some Unit }
+    ensures unit { IsTrue result → kind ≡ Some Unit }
+    ensures other { result ≡ false → whole_fits_in kind None ≡ false }
 {
     match kind {
         Some(Kind::Unit) => true,
@@ -95,9 +97,9 @@ pub fn refused_in(
         State::Closed(closing) => if is_unit(closing.kind) {
             Ok(refused)
         } else {
-            Err(AllocError)
+            refused_on(alloc, path, refused)
         },
-        State::Taken(..) => Err(AllocError),
+        State::Taken(..) => refused_on(alloc, path, refused),
         State::Split(f, first, second) => {
             let first_path = with(alloc, path, f)?;
             let refused = refused_in(alloc, first, &first_path, refused)?;

@@ -18,26 +18,27 @@ use Rattle.choice_states.specs.declared.states.After.{After}
 use Rattle.choice_states.specs.declared.states.After.TheVariants as after_variant
 use Rattle.choice_states.specs.Seen.{Seen, Parts, of_seen, choice_seen, seen_in}
 use Rattle.choice_states.specs.Parts.{values, parts_fit_within, Pushed}
-use Rattle.choice_states.specs.Lists.{frames_at}
+use Rattle.choice_states.specs.Lists.{frames_at, place_fits_in}
 use Rattle.choice_states.specs.States.{Standing, at_place, within, arriving, arrived, unbegun, standing, becoming}
 use Rattle.choice_states.specs.StateLaws.{standing-Dead, standing-In, becoming-Dead, becoming-Open, becoming-Whole, becoming-Unbegun, becoming-Split}
 use Rattle.choice_states.specs.Alike.{StandsAsSplit}
 use Rattle.choice_settling.specs.Leaving.{IsLeft}
-use Rattle.choice_settling.specs.Steps.{stood, SameElsewhere, IsSound, Reads, ReadsSo, ReadsAfter}
+use Rattle.choice_settling.specs.Steps.{stood, place_around, SameElsewhere, IsSound, ReadsIfThere, ReadsSo, ReadsAfter}
 use Rattle.choice_settling.proofs.FrameLemmas.{frames_inside, arrives_so}
-use Rattle.choice_settling.proofs.SettlingLemmas.{both_of, sound_in}
-use Rattle.choice_reading.proofs.ReadingLemmas.{reads_finished, reads_open, reads_dead, fits_arrived, alike_behind, seen_there, reads_from}
+use Rattle.choice_settling.proofs.SettlingLemmas.{both_of, sound_in, inner_fits_in}
+use Rattle.choice_settling.proofs.UnitPlaces.{back_fits_in, around_fits_in}
+use Rattle.choice_reading.proofs.ReadingLemmas.{reads_finished, reads_open, reads_dead, fits_arrived, reads_fits_in, alike_behind, seen_there, reads_from}
 use Rattle.choice_reading.proofs.ReadSplits.{each_becomes}
 use Rattle.choice_settling.proofs.Divisions.{Divides}
 use Rattle.choice_reading.proofs.TokenFits.{back_fit}
 use Rattle.choice_settling.proofs.ListLaws.{around_inside, around_fits}
 
 -- what becomes of the part is what it is where it is read
-left_reads : (there : Bool) (outer : Option Spot) (kind : Terminal) (token : Seen) (path : List Formula) (when : Formula) (on : ℕ → Bool) (a b c : Standing)
-    → IsTrue (all_true on (conditions_of path)) → there ≡ value on (condition_of when) → IsLeft path when on b c → Reads there outer kind token a b → Reads there outer kind token a c
-left_reads there outer kind token path when on a b c p is left reads =
-    let found = left (fits_arrived there outer kind token a b reads) in
-    reads_finished there outer kind token a b c found.0 (λ t l. found.2 p (sym is ∙ t) l) (λ fits. found.1) reads
+left_reads : (there : Bool) (behind : Spot) (kind : Terminal) (token : Seen) (path : List Formula) (when : Formula) (on : ℕ → Bool) (a b c : Standing)
+    → IsTrue (all_true on (conditions_of path)) → there ≡ value on (condition_of when) → IsLeft path when on b c → ReadsIfThere there (Some behind) kind token a b → ReadsIfThere there (Some behind) kind token a c
+left_reads there behind kind token path when on a b c p is left reads =
+    let found = left (fits_arrived there (Some behind) kind token a b reads) in
+    reads_finished there behind kind token a b c found.0 (λ t l. found.2 p (sym is ∙ t) l) (λ fits. found.1) reads
 
 -- in a part of the node
 pub reads_in : (admits admits_behind : Condition) (when : Condition) (path here path_inside nowhere : List Formula) (outer outer_inside : Option Spot) (place : Spot) (kind : Terminal) (token : Seen)
@@ -50,10 +51,10 @@ reads_in admits admits_behind when path here path_inside nowhere outer outer_ins
     let is : stood state parts (has c) ≡ within (plain_place place) (stood rest.value inner.items (has c)) (seen_in (has c) parts) =
     ap (λ s. standing s (has c) (seen_in (has c) parts)) state_is ∙ standing-In place inner rest (has c) (seen_in (has c) parts) in
     let is_sound : IsSound (within (plain_place place) (stood rest.value inner.items (has c)) (seen_in (has c) parts)) = subst IsSound is sound in
-    subst (λ s. Reads (value (has c) when) outer kind token s (stood new parts_new (has c))) (sym is)
+    subst (λ s. ReadsIfThere (value (has c) when) outer kind token s (stood new parts_new (has c))) (sym is)
     (behind c (ap (value (has c)) kept ∙ admitted) p h (stood rest.value inner.items (has c)) is_sound
-    (subst (λ s. Reads (value (has c) when) (Some place) kind token (stood s inner.items (has c)) (stood inside_new inner_new (has c))) rest_is
-    (subst (λ o. Reads (value (has c) when) o kind token (stood rest_at inner.items (has c)) (stood inside_new inner_new (has c))) around
+    (subst (λ s. ReadsIfThere (value (has c) when) (Some place) kind token (stood s inner.items (has c)) (stood inside_new inner_new (has c))) rest_is
+    (subst (λ o. ReadsIfThere (value (has c) when) o kind token (stood rest_at inner.items (has c)) (stood inside_new inner_new (has c))) around
     (inside c admitted (ap (λ fs. all_true (has c) (conditions_of fs)) same ∙ p) (ap (λ fs. all_true (has c) (conditions_of fs)) none) (subst (λ s. IsSound (stood s inner.items (has c))) (sym rest_is) (sound_in (plain_place place) (stood rest.value inner.items (has c)) (seen_in (has c) parts) is_sound))))))
 
 -- what has become of the part is read behind it
@@ -62,7 +63,7 @@ pub reads_behind : (admits : Condition) (when : Formula) (path here : List Formu
     → ((on : ℕ → Bool) → IsLeft path when on (inside on) (after on))
     → ReadsAfter admits path here (condition_of when) outer place kind token after parts new → ReadsAfter admits path here (condition_of when) outer place kind token inside parts new
 reads_behind admits when path here outer place kind token inside after parts new left behind = λ c admitted p h inner sound reads.
-    behind c admitted p h inner sound (left_reads (value (has c) (condition_of when)) (Some place) kind token path when (has c) inner (inside (has c)) (after (has c)) p refl (left (has c)) reads)
+    behind c admitted p h inner sound (left_reads (value (has c) (condition_of when)) place kind token path when (has c) inner (inside (has c)) (after (has c)) p refl (left (has c)) reads)
 
 -- ---- behind a part
 
@@ -71,31 +72,33 @@ module _
   where
     pub after_dead : after ≡ after_variant.Dead → state ≡ Dead → ReadsAfter admits path here when outer place kind token (becoming after) (λ on. seen_in on old) (stood state new)
     after_dead after_is state_is = λ c admitted p h inner sound reads.
-        subst (λ s. Reads (value (has c) when) outer kind token (within (plain_place place) inner (seen_in (has c) old)) s) (sym (ap (λ s. standing s (has c) (seen_in (has c) new)) state_is ∙ standing-Dead (has c) (seen_in (has c) new)))
+        subst (λ s. ReadsIfThere (value (has c) when) outer kind token (within (plain_place place) inner (seen_in (has c) old)) s) (sym (ap (λ s. standing s (has c) (seen_in (has c) new)) state_is ∙ standing-Dead (has c) (seen_in (has c) new)))
         (reads_dead (value (has c) when) outer kind token (plain_place place) inner (seen_in (has c) old) place refl
-        (subst (λ s. Reads (value (has c) when) (Some place) kind token inner s) (ap (λ a. becoming a (has c)) after_is ∙ becoming-Dead (has c)) reads))
+        (subst (λ s. ReadsIfThere (value (has c) when) (Some place) kind token inner s) (ap (λ a. becoming a (has c)) after_is ∙ becoming-Dead (has c)) reads))
 
     pub after_open : (inside : Vec (Choice Item) Global) (rest : Box State Global) → after ≡ after_variant.Open inside rest → state ≡ In place inside rest → new ≡ old
         → ReadsAfter admits path here when outer place kind token (becoming after) (λ on. seen_in on old) (stood state new)
     after_open inside rest after_is state_is same = λ c admitted p h inner sound reads.
-        subst (λ s. Reads (value (has c) when) outer kind token (within (plain_place place) inner (seen_in (has c) old)) s)
+        subst (λ s. ReadsIfThere (value (has c) when) outer kind token (within (plain_place place) inner (seen_in (has c) old)) s)
         (sym (ap (λ s. standing s (has c) (seen_in (has c) new)) state_is ∙ standing-In place inside rest (has c) (seen_in (has c) new) ∙ ap (λ ps. within (plain_place place) (standing rest.value (has c) (seen_in (has c) inside.items)) (seen_in (has c) ps)) same))
         (reads_open (value (has c) when) outer kind token place inner (standing rest.value (has c) (seen_in (has c) inside.items)) (seen_in (has c) old) sound
-        (subst (λ s. Reads (value (has c) when) (Some place) kind token inner s) (ap (λ a. becoming a (has c)) after_is ∙ becoming-Open inside rest (has c)) reads))
+        (subst (λ s. ReadsIfThere (value (has c) when) (Some place) kind token inner s) (ap (λ a. becoming a (has c)) after_is ∙ becoming-Open inside rest (has c)) reads))
 
     pub after_whole : (part : Choice Item) (ended behind : Spot) (pushed : List (Choice Item)) → after ≡ after_variant.Whole part ended → plain_place behind ≡ back (plain_place place) (plain_place ended)
         → ((on : ℕ → Bool) (v : Seen) → IsTrue (all_true on (conditions_of here)) → choice_seen on part ≡ Some v → IsTrue (parts_fit_within (plain_place behind) (seen_in on old)) → Pushed (plain_place behind) (seen_in on old) (seen_in on pushed) v)
         → ReadsSo admits path here when outer kind token (λ on. at_place (plain_place behind) (seen_in on pushed)) (stood state new)
         → ReadsAfter admits path here when outer place kind token (becoming after) (λ on. seen_in on old) (stood state new)
     after_whole part ended behind pushed after_is behind_is pushes next = λ c admitted p h inner sound reads.
-        let whole : Reads (value (has c) when) (Some place) kind token inner (arrived (choice_seen (has c) part) (plain_place ended)) =
-        subst (λ s. Reads (value (has c) when) (Some place) kind token inner s) (ap (λ a. becoming a (has c)) after_is ∙ becoming-Whole part ended (has c)) reads in
+        let whole : ReadsIfThere (value (has c) when) (Some place) kind token inner (arrived (choice_seen (has c) part) (plain_place ended)) =
+        subst (λ s. ReadsIfThere (value (has c) when) (Some place) kind token inner s) (ap (λ a. becoming a (has c)) after_is ∙ becoming-Whole part ended (has c)) reads in
         let found : (v : Seen) × (choice_seen (has c) part ≡ Some v) =
         seen_there (choice_seen (has c) part) (fits_arrived (value (has c) when) (Some place) kind token inner (arrived (choice_seen (has c) part) (plain_place ended)) whole) in
         let fits : IsTrue (parts_fit_within (plain_place behind) (seen_in (has c) old)) =
         ap (λ b. parts_fit_within b (seen_in (has c) old)) behind_is ∙ back_fit (plain_place place) (plain_place ended) (seen_in (has c) old) (both_of (parts_fit_within (plain_place place) (seen_in (has c) old)) inner.fits sound.fit) in
         let grown : Pushed (plain_place behind) (seen_in (has c) old) (seen_in (has c) pushed) found.0 = pushes (has c) found.0 h found.1 fits in
         reads_from (value (has c) when) outer kind token (within (plain_place place) inner (seen_in (has c) old)) (at_place (plain_place behind) (seen_in (has c) pushed)) (stood state new (has c)) (λ left. cc left)
+        (λ fits_in. subst (λ p. IsTrue (place_fits_in p (place_around outer))) (sym behind_is) (back_fits_in (plain_place place) (plain_place ended) (place_around outer)
+        (both_of (place_fits_in (plain_place place) (place_around outer)) (inner.fits_in (Some (plain_place place))) fits_in)))
         (alike_behind (value (has c) when) outer kind token place inner (arrived (choice_seen (has c) part) (plain_place ended)) (at_place (plain_place behind) (seen_in (has c) pushed)) (seen_in (has c) old) refl whole (λ frames k t.
         ap (λ vs. outcome of_seen k t (frames_at (plain_place behind) vs frames)) grown.values_are
         ∙ ap (λ b. outcome of_seen k t (frames_at b (values (seen_in (has c) old) ++ found.0 ∷ []) frames)) behind_is
@@ -107,10 +110,12 @@ module _
         → ReadsSo admits path here when outer kind token (λ on. at_place (plain_place around) (seen_in on old)) (stood state new)
         → ReadsAfter admits path here when outer place kind token (becoming after) (λ on. seen_in on old) (stood state new)
     after_unbegun around after_is next = λ c admitted p h inner sound reads.
-        let left : Reads (value (has c) when) (Some place) kind token inner (unbegun (plain_place around)) =
-        subst (λ s. Reads (value (has c) when) (Some place) kind token inner s) (ap (λ a. becoming a (has c)) after_is ∙ becoming-Unbegun around (has c)) reads in
+        let left : ReadsIfThere (value (has c) when) (Some place) kind token inner (unbegun (plain_place around)) =
+        subst (λ s. ReadsIfThere (value (has c) when) (Some place) kind token inner s) (ap (λ a. becoming a (has c)) after_is ∙ becoming-Unbegun around (has c)) reads in
         let fits : IsTrue (unbegun (plain_place around)).fits = fits_arrived (value (has c) when) (Some place) kind token inner (unbegun (plain_place around)) left in
         reads_from (value (has c) when) outer kind token (within (plain_place place) inner (seen_in (has c) old)) (at_place (plain_place around) (seen_in (has c) old)) (stood state new (has c)) (λ left. cc left)
+        (λ fits_in. around_fits_in (plain_place place) (plain_place around) (place_around outer)
+        (inner_fits_in (plain_place place) (place_around outer) inner (unbegun (plain_place around)) (reads_fits_in (value (has c) when) (Some place) kind token inner (unbegun (plain_place around)) left) fits_in))
         (alike_behind (value (has c) when) outer kind token place inner (unbegun (plain_place around)) (at_place (plain_place around) (seen_in (has c) old)) (seen_in (has c) old) refl left (λ frames k t.
         ap (λ fs. outcome of_seen k t fs) (frames_inside (plain_place around) (values (seen_in (has c) old)) frames (around_inside (plain_place around) fits))))
         (next c admitted p h (record { fit = around_fits (plain_place around) (seen_in (has c) old) fits; clean = tt }))
@@ -124,7 +129,7 @@ pub after_split :
     → ReadsAfter admits_behind second_path second_here when outer_second place kind token (becoming second_at) (λ on. seen_in on mid) (stood second_new new)
     → ReadsAfter admits path here when outer place kind token (becoming after) (λ on. seen_in on old) (stood state new)
 after_split admits admits_behind when path here first_path first_here second_path second_here f outer place kind token old mid new after first second first_at second_at first_new second_new state outer_first outer_second around around_too after_is first_is second_is kept paths heres one other is a b = λ c admitted p h inner sound reads.
-    each_becomes (λ became parts now. IsSound (within (plain_place place) inner parts) → Reads (value (has c) when) (Some place) kind token inner became → Reads (value (has c) when) outer kind token (within (plain_place place) inner parts) now)
+    each_becomes (λ became parts now. IsSound (within (plain_place place) inner parts) → ReadsIfThere (value (has c) when) (Some place) kind token inner became → ReadsIfThere (value (has c) when) outer kind token (within (plain_place place) inner parts) now)
     (value (has c) (condition_of f)) (all_true (has c) (conditions_of path)) (all_true (has c) (conditions_of here)) (all_true (has c) (conditions_of first_path)) (all_true (has c) (conditions_of first_here))
     (all_true (has c) (conditions_of second_path)) (all_true (has c) (conditions_of second_here)) (seen_in (has c) old) (seen_in (has c) mid) (seen_in (has c) new)
     (becoming first_at (has c)) (becoming second_at (has c)) (standing first_new (has c)) (standing second_new (has c)) (becoming after (has c)) (stood state new (has c))

@@ -11,7 +11,7 @@ use Rattle.grammar_moves.specs.PlainPlaces.{plain_place, plain_around}
 use Rattle.choice_states.specs.declared.states.State.{State, At, In}
 use Rattle.choice_states.specs.Seen.{Seen, Parts, nothing_seen, of_seen, seen_in}
 use Rattle.choice_states.specs.Parts.{values, parts_fit, parts_fit_within, Pushed}
-use Rattle.choice_states.specs.Lists.{frames_at}
+use Rattle.choice_states.specs.Lists.{frames_at, place_fits_in}
 use Rattle.choice_states.specs.States.{stays, stay_within, Standing, at_place, within, standing}
 use Rattle.choice_states.specs.StateLaws.{standing-At, standing-In}
 use Rattle.choice_reading.specs.Beginnings.{StandsIn, nested_in, first_values, all_fit, FirstFits, StandsFirst, BeginsFitting, StandsBegun}
@@ -98,6 +98,10 @@ nested_fits (first ∷ rest) inner all fits =
     of_both (parts_fit_within first []) (nested_in rest inner []).fits (first_of_both (parts_fit_within first []) (all_fit rest) all)
     (nested_fits rest inner (second_of_both (parts_fit_within first []) (all_fit rest) all) fits)
 
+nested_fits_in : (places : List Place) (inner : Place) (firsts : Parts) (behind : Place) → IsTrue ((nested_in places (at_place inner firsts) []).fits_in (Some behind))
+nested_fits_in [] inner firsts behind = refl
+nested_fits_in (first ∷ rest) inner firsts behind = nested_fits_in rest inner firsts first
+
 nested_stays : (places : List Place) (inner : Standing) (parts : Parts) → inner.stay ≡ stays → (nested_in places inner parts).stay ≡ stays
 nested_stays [] inner parts is = is
 nested_stays (first ∷ rest) inner parts is = ap stay_within (nested_stays rest inner [] is)
@@ -117,6 +121,8 @@ pub stands_begun :
     → new ≡ nested_in (behind ∷ places) (at_place inner firsts) parts → StandsBegun behind (begins places skipped inner) token parts new
 stands_begun behind places skipped inner token firsts parts new values_are fits all within_fits is = subst (λ s. StandsBegun behind (begins places skipped inner) token parts s) (sym is) (record {
   fit = of_both (parts_fit_within behind parts) (nested_in places (at_place inner firsts) []).fits within_fits (nested_fits places (at_place inner firsts) all fits);
+  fit_in = λ outer fits_in.
+      of_both (place_fits_in behind outer) ((nested_in places (at_place inner firsts) []).fits_in (Some behind)) fits_in (nested_fits_in places inner firsts behind);
   stay = nested_stays (behind ∷ places) (at_place inner firsts) parts refl;
   begins = λ frames.
       subst (λ o. IsBehind o ((nested_in (behind ∷ places) (at_place inner firsts) parts).leads frames)) (sym (begun_first places skipped inner token (frame behind (values parts) ∷ frames))) (λ k t.

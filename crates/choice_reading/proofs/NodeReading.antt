@@ -17,13 +17,14 @@ use Rattle.grammar_moves.specs.PlainMoves.{skipping, plain_action, begun_by}
 use Rattle.choice_states.specs.declared.states.State.{State, Dead, At, Taken}
 use Rattle.choice_states.specs.Seen.{Seen, Parts, node_seen, of_seen, seen_in}
 use Rattle.choice_states.specs.Parts.{is_empty, first_of, values, parts_fit, parts_fit_within, parts_are_whole, Pushed}
-use Rattle.choice_states.specs.Lists.{left_out, frames_at}
+use Rattle.choice_states.specs.Lists.{left_out, frames_at, place_fits_in, whole_fits_in}
 use Rattle.choice_states.specs.States.{takes, Standing, dead, at_place, arriving, made, closed, taken, standing}
 use Rattle.choice_states.specs.StateLaws.{standing-Dead, standing-At, standing-Taken}
 use Rattle.choice_settling.specs.LeftOut.{LeavesOut, LeftOut}
 use Rattle.choice_reading.specs.Beginnings.{BeginsFitting, StandsBegun}
-use Rattle.choice_settling.specs.Steps.{stood, in_node, ClosesAlike, IsBehind, IsRead, ReadsThere, ReadsAll}
+use Rattle.choice_settling.specs.Steps.{stood, place_around, in_node, ClosesAlike, IsBehind, IsRead, ReadsThere, ReadsAll}
 use Rattle.choice_settling.proofs.FrameLemmas.{frames_pushed, moved_skipping, back_left_out, arriving_alike}
+use Rattle.choice_settling.proofs.UnitPlaces.{shifts_fit_in, enters_fit_in, takes_fit_in, finishes_fit_in, passes_fit_in}
 use Rattle.choice_reading.proofs.TokenFits.{shifts_fit, enters_fit, takes_fit, finishes_fit, passes_fit, begins_fit, taken_fit}
 
 of_both : (a b : Bool) → IsTrue a → IsTrue b → IsTrue (a && b)
@@ -51,9 +52,13 @@ module _
     leads_so : (m : Move) → next ≡ m → (frames : List (Frame Seen)) → outcome of_seen kind token (frame place (values old) ∷ frames) ≡ leads_to m frames
     leads_so m e frames = in_between frames ∙ ap (λ x. leads_to x frames) e
 
+    is_so : (m : Move) → next ≡ m → move place kind ≡ skipping count m
+    is_so m e = is ∙ ap (λ x. skipping count x) e
+
     pub node_shifts : (behind : Place) (new : Parts) → next ≡ shifts behind → Pushed behind between new token → ReadsThere outer kind token (in_node place old) (at_place behind new)
     node_shifts behind new e pushed = record {
       fit = pushed.fit;
+      fit_in = λ fits_in. shifts_fit_in place behind kind count (place_around outer) (is_so (shifts behind) e) fits_in;
       reads = λ frames around. subst (λ o. IsBehind o (λ k t. outcome of_seen k t (frames_at behind (values new) frames))) (sym (leads_so (shifts behind) e frames)) (λ k t.
           ap (λ vs. outcome of_seen k t (frames_at behind vs frames)) pushed.values_are ∙ ap (λ fs. outcome of_seen k t fs) (frames_pushed behind (values between) token frames));
     }
@@ -61,6 +66,7 @@ module _
     pub node_enters : (behind : Place) (beginning : Beginning) (new : Standing) → next ≡ enters behind beginning → StandsBegun behind beginning token between new → ReadsThere outer kind token (in_node place old) new
     node_enters behind beginning new e begins = record {
       fit = begins.fit;
+      fit_in = λ fits_in. begins.fit_in (place_around outer) (enters_fit_in place behind beginning kind count (place_around outer) (is_so (enters behind beginning) e) fits_in);
       reads = λ frames around. subst (λ s. IsRead s kind token (outcome of_seen kind token (frame place (values old) ∷ frames)) (new.leads frames)) (sym begins.stay)
           (subst (λ o. IsBehind o (new.leads frames)) (sym (leads_so (enters behind beginning) e frames)) (begins.begins frames));
     }
@@ -69,6 +75,7 @@ module _
         → ReadsThere outer kind token (in_node place old) (taken behind second new)
     node_takes behind second new e fits pushed = record {
       fit = of_both (parts_fit_within behind []) (parts_fit second new) fits pushed.fit;
+      fit_in = λ fits_in. takes_fit_in place behind second kind count (place_around outer) (is_so (takes behind second) e) fits_in;
       reads = λ frames around. subst (λ o. IsBehind o (λ k t. outcome of_seen k t (frames_at second (values new) (frame behind [] ∷ frames)))) (sym (leads_so (takes behind second) e frames)) (λ k t.
           ap (λ vs. outcome of_seen k t (frames_at second vs (frame behind [] ∷ frames))) pushed.values_are
           ∙ ap (λ fs. outcome of_seen k t fs) (frames_pushed second (values between) token (frame behind [] ∷ frames)));
@@ -77,10 +84,12 @@ module _
     -- the node is whole without it
     node_closed : (whole : Option Kind) (value : Seen) (ended : Place) (m : Move) (new : Standing) → next ≡ m
         → ((frames : List (Frame Seen)) → leads_to m frames ≡ arrives of_seen kind token value place frames)
+        → (IsTrue (place_fits_in place (place_around outer)) → IsTrue (whole_fits_in whole (place_around outer)))
         → made whole (values between) ≡ Some value → ended ≡ left_out count place → IsTrue (parts_are_whole whole between) → ClosesAlike (closed whole ended between) new
         → ReadsThere outer kind token (in_node place old) new
-    node_closed whole value ended m new e ends makes ended_is fits closes = record {
+    node_closed whole value ended m new e ends fit_in makes ended_is fits closes = record {
       fit = closes.fits_are ∙ fits;
+      fit_in = λ fits_in. closes.fits_in_is (place_around outer) ∙ fit_in fits_in;
       reads = λ frames around. subst (λ s. IsRead s kind token (outcome of_seen kind token (frame place (values old) ∷ frames)) (new.leads frames)) (sym closes.stay_is)
           (closes.leads_are frames kind token
           ∙ ap (λ part. arriving part ended frames kind token) makes
@@ -92,16 +101,19 @@ module _
     pub node_finishes : (whole : Kind) (ended : Place) (new : Standing) → next ≡ finishes whole → ended ≡ left_out count place → IsTrue (parts_are_whole (Some whole) between)
         → ClosesAlike (closed (Some whole) ended between) new → ReadsThere outer kind token (in_node place old) new
     node_finishes whole ended new e ended_is fits closes =
-        node_closed (Some whole) (node_seen whole (values between)) ended (finishes whole) new e (λ frames. refl) refl ended_is fits closes
+        node_closed (Some whole) (node_seen whole (values between)) ended (finishes whole) new e (λ frames. refl)
+        (finishes_fit_in place whole kind count (place_around outer) (is_so (finishes whole) e)) refl ended_is fits closes
 
     pub node_passes : (ended : Place) (new : Standing) → next ≡ passes → ended ≡ left_out count place → IsTrue (parts_are_whole None between)
         → ClosesAlike (closed None ended between) new → ReadsThere outer kind token (in_node place old) new
     node_passes ended new e ended_is fits closes =
-        node_closed None (alone of_seen (values between)) ended passes new e (λ frames. refl) (first_alone (values between) fits) ended_is fits closes
+        node_closed None (alone of_seen (values between)) ended passes new e (λ frames. refl)
+        (passes_fit_in place kind count (place_around outer) (is_so passes e)) (first_alone (values between) fits) ended_is fits closes
 
     pub node_fails : next ≡ fails → ReadsThere outer kind token (in_node place old) dead
     node_fails e = record {
       fit = refl;
+      fit_in = λ fits_in. refl;
       reads = λ frames around. subst (λ o. IsBehind o (λ k t. is_wrong)) (sym (leads_so fails e frames)) (λ k t. refl);
     }
 

@@ -23,6 +23,7 @@ use Rattle.choice_settling.specs.Steps.{stood, in_node, IsAround, IsSound, Reads
 use Rattle.choice_settling.proofs.FrameLemmas.{begun_some, begun_no_list}
 use Rattle.choice_reading.proofs.ReadingLemmas.{reads_there_from}
 use Rattle.choice_settling.proofs.ListLaws.{begins_in_list}
+use Rattle.choice_settling.proofs.UnitPlaces.{list_fits_in}
 
 module _ (path here : List Formula) (outer : Option Spot) (kind : Terminal) (token : Seen) (place : Spot) (old : List (Choice Item)) where
   -- what the token leads to at the place is what it leads to in the node
@@ -32,7 +33,7 @@ module _ (path here : List Formula) (outer : Option Spot) (kind : Terminal) (tok
       → ReadsAll [] here outer kind token (λ on. in_node (plain_place place) (seen_in on old)) after
       → ReadsAll path here outer kind token (λ on. at_place (plain_place place) (seen_in on old)) after
   leads_in_node after same reads = λ on p h sound.
-      reads_there_from outer kind token (at_place (plain_place place) (seen_in on old)) (in_node (plain_place place) (seen_in on old)) (after on) (same on p)
+      reads_there_from outer kind token (at_place (plain_place place) (seen_in on old)) (in_node (plain_place place) (seen_in on old)) (after on) (λ fits_in. fits_in) (same on p)
       (reads on refl h (record { fit = sound.fit; clean = tt }))
 
   -- in no list
@@ -88,6 +89,7 @@ module _
     at_unbegun : (on : ℕ → Bool) → is_empty (values (seen_in on old)) ≡ true → ReadsThere outer kind token (at_place (plain_place place) (seen_in on old)) (unbegun (plain_place around))
     at_unbegun on none = record {
       fit = around_fits place around outer list;
+      fit_in = λ fits_in. list_fits_in outer place around list;
       reads = λ frames is. unbegun_leads place around outer kind token (values (seen_in on old)) frames list none is;
     }
 
@@ -115,7 +117,7 @@ module _
             → ReadsThere outer kind token (at_place (plain_place place) (seen_in on old)) after
         by_some true on begun_so unbegun_so after b_is after_is not_begun sound reads =
             subst (λ s. ReadsThere outer kind token (at_place (plain_place place) (seen_in on old)) s) (sym after_is)
-            (reads_there_from outer kind token (at_place (plain_place place) (seen_in on old)) (in_node (plain_place place) (seen_in on old)) begun_so (λ frames around_is.
+            (reads_there_from outer kind token (at_place (plain_place place) (seen_in on old)) (in_node (plain_place place) (seen_in on old)) begun_so (λ fits_in. fits_in) (λ frames around_is.
             ap (λ fs. outcome of_seen kind token fs) (begun_some outer (plain_place place) (seen_in on old) (not_empty (is_empty (values (seen_in on old))) (sym b_is)) frames around_is)) reads)
         by_some false on begun_so unbegun_so after b_is after_is not_begun sound reads =
             subst (λ s. ReadsThere outer kind token (at_place (plain_place place) (seen_in on old)) s) (sym (after_is ∙ not_begun)) (at_unbegun on (empty (is_empty (values (seen_in on old))) (sym b_is)))

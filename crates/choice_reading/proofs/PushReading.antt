@@ -26,10 +26,11 @@ use Rattle.choice_states.specs.Alike.{StandsAsSplit}
 use Rattle.choice_settling.specs.Leaving.{spot_at}
 use Rattle.choice_reading.specs.SpotLaws.{spot_at-Split}
 use Rattle.choice_reading.specs.Pushing.{Pushes, PushesThere, StandsThere, MovesThere, ReadsPlaces}
-use Rattle.choice_settling.specs.Steps.{stood, IsSound, IsBehind, ReadsThere, ReadsAll}
+use Rattle.choice_settling.specs.Steps.{stood, place_around, IsSound, IsBehind, ReadsThere, ReadsAll}
 use Rattle.choice_settling.proofs.FrameLemmas.{frames_pushed}
 use Rattle.choice_reading.proofs.TokenFits.{shifts_fit}
 use Rattle.choice_settling.proofs.ListLaws.{shifts_in_no_list}
+use Rattle.choice_settling.proofs.UnitPlaces.{shifts_fit_in}
 
 frames_no_list : (place : Place) (values : List Seen) (frames : List (Frame Seen)) → ((other : Place) → around_of place other ≡ []) → frames_at place values frames ≡ frame place values ∷ frames
 frames_no_list place [] [] none = refl
@@ -48,6 +49,7 @@ reads_pushed outer kind token spot old new pushes fits grown =
     let pushed : Pushed pushes.behind old new token = pushed_unnumbered pushes.behind old new token pushes.none within_fits grown in
     record {
       fit = pushed.fit;
+      fit_in = λ fits_in. shifts_fit_in (plain_place spot) pushes.behind kind 0 (place_around outer) pushes.is fits_in;
       reads = λ frames around.
           subst (λ o. IsBehind o (λ k t. outcome of_seen k t (frames_at pushes.behind (values new) frames)))
           (sym (ap (λ fs. outcome of_seen kind token fs) (frames_no_list (plain_place spot) (values old) frames (λ other. shifts_in_no_list (plain_place spot) other pushes.behind kind pushes.is))

@@ -16,7 +16,7 @@ use Rattle.choice_states.specs.Alike.{StandsAsSplit}
 use Rattle.choice_settling.specs.Leaving.{IsThere, spot_at}
 use Rattle.choice_reading.specs.Pushing.{ReadsPlaces}
 use Rattle.choice_settling.proofs.Divisions.{Divides}
-use Rattle.choice_settling.specs.Steps.{stood, SameElsewhere, IsSound, ReadsThere, Keeps, Reads, ReadsSo}
+use Rattle.choice_settling.specs.Steps.{stood, SameElsewhere, IsSound, ReadsThere, Keeps, ReadsIfThere, ReadsSo}
 
 -- The alternatives are dealt with one after the other, and neither changes what is seen where the other is taken: what is said of each where it stands in a node is said of both
 pub each_stands :
@@ -56,16 +56,16 @@ each_becomes A false path here first_path first_here second_path second_here old
 -- ---- where a token is there, and elsewhere
 
 pub keeps_same : (outer : Option Spot) (s : Standing) → IsSound s → Keeps outer s s
-keeps_same outer s sound = record { sound = sound; still = λ unleft. unleft; leads_are = λ frames around kind token. refl }
+keeps_same outer s sound = record { sound = sound; fit_in = λ fits_in. fits_in; still = λ unleft. unleft; leads_are = λ frames around kind token. refl }
 
 pub reads_present : (there : Bool) (outer : Option Spot) (kind : Terminal) (token : Seen) (before after : Standing) → there ≡ true → ReadsThere outer kind token before after
-    → Reads there outer kind token before after
-reads_present there outer kind token before after is reads = subst (λ b. Reads b outer kind token before after) (sym is) reads
+    → ReadsIfThere there outer kind token before after
+reads_present there outer kind token before after is reads = subst (λ b. ReadsIfThere b outer kind token before after) (sym is) reads
 
 pub reads_absent : (there : Bool) (outer : Option Spot) (kind : Terminal) (token : Seen) (before after : Standing) → there ≡ false → after ≡ before → IsSound before
-    → Reads there outer kind token before after
+    → ReadsIfThere there outer kind token before after
 reads_absent there outer kind token before after is same sound =
-    subst (λ b. Reads b outer kind token before after) (sym is) (subst (λ s. Keeps outer before s) (sym same) (keeps_same outer before sound))
+    subst (λ b. ReadsIfThere b outer kind token before after) (sym is) (subst (λ s. Keeps outer before s) (sym same) (keeps_same outer before sound))
 
 -- it is read where it is there
 pub reads_divided :
@@ -73,7 +73,7 @@ pub reads_divided :
     → (IsTrue path → left ≡ when) → path_there ≡ (path && left) → here_there ≡ (here && left)
     → (here_there ≡ false → new ≡ old) → otherwise old ≡ before → after ≡ (if left then there new else otherwise new)
     → (IsTrue path_there → IsTrue here_there → IsSound before → ReadsThere outer kind token before (there new))
-    → IsTrue path → IsTrue here → IsSound before → Reads when outer kind token before after
+    → IsTrue path → IsTrue here → IsSound before → ReadsIfThere when outer kind token before after
 reads_divided outer kind token when true path here path_there here_there old new there otherwise before after left_is pt ht same stood is reads p h sound =
     reads_present when outer kind token before after (sym (left_is p))
     (subst (λ s. ReadsThere outer kind token before s) (sym is) (reads (pt ∙ ap (λ b. b && true) p) (ht ∙ ap (λ b. b && true) h) sound))
@@ -120,7 +120,7 @@ module _
 
     pub reads_so_split : (admits when : Condition) → ReadsSo admits first_path first_here when outer kind token (stood first old) (stood first_new mid)
         → ReadsSo admits second_path second_here when outer kind token (stood second mid) (stood second_new new) → ReadsSo admits path here when outer kind token (stood state old) (stood result new)
-    reads_so_split admits when a b = λ c admitted. each_reads (λ on s t. Reads (value on when) outer kind token s t) (has c) (a c admitted) (b c admitted)
+    reads_so_split admits when a b = λ c admitted. each_reads (λ on s t. ReadsIfThere (value on when) outer kind token s t) (has c) (a c admitted) (b c admitted)
 
     -- in each alternative that is at a place
     pub reads_places_split : ((on : ℕ → Bool) → spot_at state on ≡ (if value on (condition_of f) then spot_at first on else spot_at second on))
@@ -138,7 +138,7 @@ pub reads_where : (path here path_there here_there : List Formula) (f : Formula)
     → all_true on (conditions_of here_there) ≡ (all_true on (conditions_of here) && value on (condition_of f))
     → SameElsewhere here_there old new → stood otherwise old on ≡ before → StandsAsSplit f there otherwise result
     → (IsTrue (all_true on (conditions_of path_there)) → IsTrue (all_true on (conditions_of here_there)) → IsSound before → ReadsThere outer kind token before (stood there new on))
-    → IsTrue (all_true on (conditions_of path)) → IsTrue (all_true on (conditions_of here)) → IsSound before → Reads (value on when) outer kind token before (stood result new on)
+    → IsTrue (all_true on (conditions_of path)) → IsTrue (all_true on (conditions_of here)) → IsSound before → ReadsIfThere (value on when) outer kind token before (stood result new on)
 reads_where path here path_there here_there f when old new outer kind token there otherwise result before on left pt ht same alike is =
     reads_divided outer kind token (value on when) (value on (condition_of f)) (all_true on (conditions_of path)) (all_true on (conditions_of here)) (all_true on (conditions_of path_there)) (all_true on (conditions_of here_there))
     (seen_in on old) (seen_in on new) (standing there on) (standing otherwise on) before (stood result new on) left pt ht (same on) alike (is on (seen_in on new))

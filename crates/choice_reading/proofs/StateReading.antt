@@ -20,7 +20,7 @@ use Rattle.choice_states.specs.Alike.{StandsAsSplit}
 use Rattle.choice_settling.specs.Leaving.{spot_at}
 use Rattle.choice_reading.specs.Pushing.{ReadsPlaces}
 use Rattle.choice_reading.specs.SpotLaws.{spot_at-Split}
-use Rattle.choice_settling.specs.Steps.{stood, SameElsewhere, IsSound, Reads, ReadsSo}
+use Rattle.choice_settling.specs.Steps.{stood, SameElsewhere, IsSound, ReadsIfThere, ReadsSo}
 use Rattle.choice_reading.proofs.ReadingLemmas.{reads_left, reads_still_dead}
 use Rattle.choice_reading.proofs.ReadSplits.{reads_so_split, reads_places_split}
 use Rattle.choice_settling.proofs.Divisions.{Divides}
@@ -73,7 +73,7 @@ module _
         → ReadsSo admits path here when outer kind token (λ on. at_place (plain_place place) (seen_in on old)) after → ReadsSo admits path here when outer kind token (stood state old) after
     so_at place waits after is reads = λ c admitted p h sound.
         let at : stood state old (has c) ≡ at_place (plain_place place) (seen_in (has c) old) = ap (λ s. standing s (has c) (seen_in (has c) old)) is ∙ standing-At place waits (has c) (seen_in (has c) old) in
-        subst (λ s. Reads (value (has c) when) outer kind token s (after (has c))) (sym at) (reads c admitted p h (subst IsSound at sound))
+        subst (λ s. ReadsIfThere (value (has c) when) outer kind token s (after (has c))) (sym at) (reads c admitted p h (subst IsSound at sound))
 
     -- as a state that is the same
     pub so_as : (other : State) (after : (ℕ → Bool) → Standing) → state ≡ other → ReadsSo admits path here when outer kind token (stood other old) after → ReadsSo admits path here when outer kind token (stood state old) after
@@ -90,7 +90,7 @@ module _
 
     pub so_dead : state ≡ Dead → ReadsSo admits path here when outer kind token (stood state old) (stood Dead old)
     so_dead is = so_as Dead (stood Dead old) is (λ c admitted p h sound.
-        subst (λ s. Reads (value (has c) when) outer kind token s s) (sym (standing-Dead (has c) (seen_in (has c) old))) (reads_still_dead (value (has c) when) outer kind token))
+        subst (λ s. ReadsIfThere (value (has c) when) outer kind token s s) (sym (standing-Dead (has c) (seen_in (has c) old))) (reads_still_dead (value (has c) when) outer kind token))
 
     pub so_taken : (behind second : Spot) → state ≡ Taken behind second → ReadsSo admits path here when outer kind token (stood state old) (stood (Taken behind second) old)
     so_taken behind second is = so_as (Taken behind second) (stood (Taken behind second) old) is (λ c admitted p h sound.

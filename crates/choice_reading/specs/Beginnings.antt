@@ -7,6 +7,7 @@ use Rattle.grammar_moves.specs.PlainPlaces.{plain_place}
 use Rattle.choice_states.specs.declared.states.State.{State}
 use Rattle.choice_states.specs.Seen.{Seen, Parts, of_seen, nothing_seen}
 use Rattle.choice_states.specs.Parts.{values, parts_fit, parts_fit_within}
+use Rattle.choice_states.specs.Lists.{place_fits_in}
 use Rattle.choice_states.specs.States.{stays, Standing, within, standing}
 use Rattle.choice_states.specs.Alike.{StandAlike}
 use Rattle.choice_settling.specs.Steps.{IsBehind}
@@ -49,5 +50,6 @@ BeginsFitting (begins places skipped inner) = IsTrue (all_fit places) × FirstFi
 -- one stands behind a token with which nodes begin in a node with these parts
 pub record StandsBegun (behind : Place) (beginning : Beginning) (token : Seen) (parts : Parts) (new : Standing) : Type 0 where
   pub fit : IsTrue new.fits
+  pub fit_in : (outer : Option Place) → IsTrue (place_fits_in behind outer) → IsTrue (new.fits_in outer)
   pub stay : new.stay ≡ stays
   pub begins : (frames : List (Frame Seen)) → IsBehind (begun of_seen beginning token (frame behind (values parts) ∷ frames)) (new.leads frames)

@@ -3,4 +3,4 @@
 
 mod reading;
 
-pub use reading::{Reading, Setting, read};
+pub use reading::{Reading, Setting, read, read_behind};

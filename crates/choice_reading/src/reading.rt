@@ -361,7 +361,7 @@ pub fn read<O: Oracle>(
 }
 
 /// The token has been read in a part, behind which is this place, or is still to be read behind it: it is read in the node.
-fn read_behind<O: Oracle>(
+pub fn read_behind<O: Oracle>(
     state: State,
     inner: Vec<Choice<Item>>,
     place: Place,

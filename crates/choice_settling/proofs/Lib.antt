@@ -4,5 +4,6 @@ pub mod FrameLemmas
 pub mod PlaceLemmas
 pub mod TableLaws
 pub mod ListLaws
+pub mod UnitPlaces
 pub mod Splits
 pub mod SettlingLemmas

@@ -18,6 +18,7 @@ pub closes_alike : (kind : Option Kind) (ended other : Place) (parts : Parts) (s
     → standing ≡ closed kind other parts → ClosesAlike (closed kind ended parts) standing
 closes_alike kind ended other parts standing same is = subst (λ s. ClosesAlike (closed kind ended parts) s) (sym is) (record {
   fits_are = refl;
+  fits_in_is = λ outer. refl;
   stay_is = refl;
   leads_are = λ frames token_kind token. arriving_alike (made kind (values parts)) ended other frames token_kind token same;
 })

@@ -24,24 +24,26 @@ use Rattle.choice_states.specs.Alike.{StandsAsSplit}
 use Rattle.choice_states.specs.StateLaws.{standing-Dead, standing-At, standing-In, standing-Unbegun, standing-Split, becoming-Dead, becoming-Open, becoming-Whole, becoming-Unbegun, becoming-Split}
 use Rattle.choice_states.specs.Seen.{Seen, Parts, of_seen, choice_seen, seen_in}
 use Rattle.choice_states.specs.Parts.{is_empty, values, parts_fit, parts_fit_within, parts_are_whole, Pushed}
-use Rattle.choice_states.specs.Lists.{around_of, is_around_list, without_list, frames_at, left_out}
+use Rattle.choice_states.specs.Lists.{around_of, is_around_list, without_list, frames_at, left_out, place_fits_in}
 use Rattle.choice_states.specs.States.{Stay, stays, leaves, takes, astray, IsClean, stay_within, Standing, dead, at_place, within, arriving, arrived, made, closed, without_entry, unbegun, open_node, standing, becoming, Finishes, IsFinished}
 use Rattle.choice_settling.specs.Around.{IsListAround}
 use Rattle.choice_settling.specs.LeftOut.{nothings, LeavesOut, LeftOut}
 use Rattle.choice_settling.specs.Leaving.{IsLeft}
-use Rattle.choice_settling.specs.Steps.{stood, IsAround, IsSound, SameElsewhere, HasBegun, ClosesAlike, Settles, SettlesSo}
+use Rattle.choice_settling.specs.Steps.{stood, IsAround, place_around, IsSound, SameElsewhere, HasBegun, ClosesAlike, Settles, SettlesSo}
 use Rattle.choice_settling.proofs.FrameLemmas.{frames_inside, begun_some, arrives_so, moved_skipping, back_left_out, arriving_alike}
 use Rattle.choice_settling.proofs.Divisions.{Divides}
 use Rattle.choice_settling.proofs.Splits.{both_true, not_true, not_false, one_false, in_each}
 use Rattle.choice_settling.proofs.TableLaws.{Suits, within_back, moved_suits}
 use Rattle.choice_settling.proofs.ListLaws.{AroundList, around_list, around_inside, around_fits}
+use Rattle.choice_settling.proofs.UnitPlaces.{back_fits_in, around_fits_in, list_fits_in, before_list_fits_in, whole_fits_inside}
 
 pub settles_same : (outer : Option Spot) (kind : Terminal) (s : Standing) → IsSound s → Settles outer kind s s
-settles_same outer kind s sound = record { sound = sound; still = λ none unleft. unleft; leads_are = λ frames around token. refl }
+settles_same outer kind s sound = record { sound = sound; fit_in = λ fits_in. fits_in; still = λ none unleft. unleft; leads_are = λ frames around token. refl }
 
 pub settles_then : (outer : Option Spot) (kind : Terminal) (a b c : Standing) → Settles outer kind a b → Settles outer kind b c → Settles outer kind a c
 settles_then outer kind a b c one other = record {
   sound = other.sound;
+  fit_in = λ fits_in. other.fit_in (one.fit_in fits_in);
   still = λ none unleft. other.still none (one.still none unleft);
   leads_are = λ frames around token. other.leads_are frames around token ∙ one.leads_are frames around token;
 }
@@ -87,6 +89,13 @@ sound_in place inner parts sound = record {
   clean = clean_within inner.stay sound.clean;
 }
 
+-- a part that may be there in a node, as the one before
+pub inner_fits_in : (place : Place) (outer : Option Place) (inner after : Standing) → (IsTrue (inner.fits_in (Some place)) → IsTrue (after.fits_in (Some place)))
+    → IsTrue (place_fits_in place outer && inner.fits_in (Some place)) → IsTrue (place_fits_in place outer && after.fits_in (Some place))
+inner_fits_in place outer inner after fit_in fits_in =
+    of_both (place_fits_in place outer) (after.fits_in (Some place)) (both_of (place_fits_in place outer) (inner.fits_in (Some place)) fits_in)
+    (fit_in (other_of (place_fits_in place outer) (inner.fits_in (Some place)) fits_in))
+
 pub settles_in : (outer : Option Spot) (kind : Terminal) (place : Spot) (inner after : Standing) (parts : Parts)
     → IsSound (within (plain_place place) inner parts) → Settles (Some place) kind inner after
     → Settles outer kind (within (plain_place place) inner parts) (within (plain_place place) after parts)
@@ -95,6 +104,7 @@ settles_in outer kind place inner after parts sound settles = record {
     fit = of_both (parts_fit_within (plain_place place) parts) after.fits (both_of (parts_fit_within (plain_place place) parts) inner.fits sound.fit) settles.sound.fit;
     clean = within_clean after.stay settles.sound.clean;
   };
+  fit_in = λ fits_in. inner_fits_in (plain_place place) (place_around outer) inner after settles.fit_in fits_in;
   still = λ none unleft. never_left after.stay;
   leads_are = λ frames around token. settles.leads_are (frame (plain_place place) (values parts) ∷ frames) refl token;
 }
@@ -114,11 +124,12 @@ finished_open takes owed after clean is unleft left = absurd clean
 finished_open astray owed after clean is unleft left = absurd clean
 
 -- the node is finished behind it
-pub settles_finished : (outer : Option Spot) (kind : Terminal) (a b c : Standing) (owed : Bool) → Settles outer kind a b → (IsTrue b.fits → Finishes b owed c) → Settles outer kind a c
-settles_finished outer kind a b c owed settles finishes =
+pub settles_finished : (behind : Spot) (kind : Terminal) (a b c : Standing) (owed : Bool) → Settles (Some behind) kind a b → (IsTrue b.fits → Finishes b owed c) → Settles (Some behind) kind a c
+settles_finished behind kind a b c owed settles finishes =
     let done : Finishes b owed c = finishes settles.sound.fit in
     record {
       sound = record { fit = done.fit; clean = finished_clean b.stay owed c.stay settles.sound.clean done.stay };
+      fit_in = λ fits_in. done.fit_in (plain_place behind) (settles.fit_in fits_in);
       still = λ none unleft. finished_open b.stay owed c.stay settles.sound.clean done.stay (settles.still none unleft);
       leads_are = λ frames around token. done.leads_are frames kind token ∙ settles.leads_are frames around token;
     }
@@ -133,13 +144,14 @@ opened_clean astray h = h
 
 -- no unit goes on so
 pub settles_dead : (outer : Option Spot) (kind : Terminal) (place : Place) (parts : Parts) → Settles outer kind (within place dead parts) dead
-settles_dead outer kind place parts = record { sound = record { fit = refl; clean = tt }; still = λ none unleft left. cc left; leads_are = λ frames around token. refl }
+settles_dead outer kind place parts = record { sound = record { fit = refl; clean = tt }; fit_in = λ fits_in. refl; still = λ none unleft left. cc left; leads_are = λ frames around token. refl }
 
 -- one stays in it
 pub settles_open : (outer : Option Spot) (kind : Terminal) (place : Place) (inner : Standing) (parts : Parts) → IsSound (within place (open_node inner) parts)
     → Settles outer kind (within place (open_node inner) parts) (within place inner parts)
 settles_open outer kind place inner parts sound = record {
   sound = record { fit = sound.fit; clean = opened_clean inner.stay sound.clean };
+  fit_in = λ fits_in. fits_in;
   still = λ none unleft. never_left inner.stay;
   leads_are = λ frames around token. refl;
 }
@@ -148,6 +160,7 @@ settles_pushed : (outer : Option Spot) (kind : Terminal) (place ended : Place) (
     → Settles outer kind (within place (arrived (Some part) ended) old) (at_place (back place ended) new)
 settles_pushed outer kind place ended part old new pushed = record {
   sound = record { fit = pushed.fit; clean = tt };
+  fit_in = λ fits_in. back_fits_in place ended (place_around outer) (both_of (place_fits_in place (place_around outer)) true fits_in);
   still = λ none unleft left. cc left;
   leads_are = λ frames around token.
       ap (λ vs. outcome of_seen kind token (frames_at (back place ended) vs frames)) pushed.values_are ∙ arrives_so place ended (values old) part frames kind token;
@@ -168,6 +181,7 @@ settles_unbegun outer kind place around parts sound =
     let is : IsTrue (is_around_list around) = other_of (parts_fit_within place parts) (is_around_list around) sound.fit in
     record {
       sound = record { fit = around_fits around parts is; clean = tt };
+      fit_in = λ fits_in. around_fits_in place around (place_around outer) fits_in;
       still = λ none unleft left. cc left;
       leads_are = λ frames in_frames token. ap (λ fs. outcome of_seen kind token fs) (frames_inside around (values parts) frames (around_inside around is));
     }
@@ -197,6 +211,7 @@ pub settles_without_entries : (outer : Option Spot) (kind : Terminal) (place aro
     → Settles outer kind (at_place (plain_place place) parts) (unbegun (plain_place around))
 settles_without_entries outer kind place around parts list none = record {
   sound = record { fit = list_around outer place around list; clean = tt };
+  fit_in = λ fits_in. list_fits_in outer place around list;
   still = λ none. absurd (in_node_around outer place around list none);
   leads_are = λ frames in_frames token. without_entries outer place around (values parts) frames kind token list none in_frames;
 }
@@ -206,6 +221,7 @@ pub settles_before_list : (outer : Option Spot) (kind : Terminal) (place behind 
     → AroundList before behind place → Settles outer kind (at_place place parts) (within behind (at_place before []) parts)
 settles_before_list outer kind place behind before parts list is laws = record {
   sound = record { fit = of_both (parts_fit_within behind parts) (parts_fit before []) (laws.fit_behind parts) (laws.fit_before []); clean = tt };
+  fit_in = λ fits_in. before_list_fits_in place behind before (place_around outer) is fits_in;
   still = λ none unleft left. cc left;
   leads_are = λ frames around token.
       ap (λ places. outcome of_seen kind token (without_list places before (frame behind (values parts)) frames)) list
@@ -254,6 +270,7 @@ settles_ended outer kind place count end old new after inside begun moves out cl
     let whole : IsTrue (parts_are_whole end new) = ends_whole end (left_out count (plain_place place)) new (moved_suits place kind count (ended_by end) moves) out.fit in
     record {
       sound = record { fit = closes.fits_are ∙ whole; clean = subst IsClean (sym closes.stay_is) tt };
+      fit_in = λ fits_in. closes.fits_in_is (place_around outer) ∙ whole_fits_inside outer end inside;
       still = λ none. absurd (inside none);
       leads_are = λ frames around token.
           closes.leads_are frames kind token ∙ ended_leads outer kind (plain_place place) count end old new frames token (begun frames around) moves out.values_are whole;
@@ -264,11 +281,11 @@ settles_ended outer kind place count end old new after inside begun moves out cl
 pub settles_as : (outer : Option Spot) (kind : Terminal) (a b : Standing) → b ≡ a → IsSound a → Settles outer kind a b
 settles_as outer kind a b is sound = subst (λ s. Settles outer kind a s) (sym is) (settles_same outer kind a sound)
 
-settles_left : (outer : Option Spot) (kind : Terminal) (path : List Formula) (when : Formula) (on : ℕ → Bool) (a b c : Standing) → Settles outer kind a b → IsLeft path when on b c
-    → Settles outer kind a c
-settles_left outer kind path when on a b c settles left =
+settles_left : (behind : Spot) (kind : Terminal) (path : List Formula) (when : Formula) (on : ℕ → Bool) (a b c : Standing) → Settles (Some behind) kind a b → IsLeft path when on b c
+    → Settles (Some behind) kind a c
+settles_left behind kind path when on a b c settles left =
     let l : (owed : Bool) × Finishes b owed c × (IsTrue (all_true on (conditions_of path)) → IsTrue (value on (condition_of when)) → b.stay ≡ leaves → owed ≡ true) = left settles.sound.fit in
-    settles_finished outer kind a b c l.0 settles (λ fits. l.1)
+    settles_finished behind kind a b c l.0 settles (λ fits. l.1)
 
 -- in a node what is settled in the part is settled, and what becomes of the part then
 pub settles_through : (outer : Option Spot) (kind : Terminal) (path : List Formula) (when : Formula) (on : ℕ → Bool) (place : Spot) (whole inner soon after new : Standing) (parts : Parts)
@@ -277,7 +294,7 @@ pub settles_through : (outer : Option Spot) (kind : Terminal) (path : List Formu
 settles_through outer kind path when on place whole inner soon after new parts was settles left behind sound =
     let sound_there : IsSound (within (plain_place place) inner parts) = subst IsSound was sound in
     let to_part : Settles (Some place) kind inner after =
-    settles_left (Some place) kind path when on inner soon after (settles (sound_in (plain_place place) inner parts sound_there)) left in
+    settles_left place kind path when on inner soon after (settles (sound_in (plain_place place) inner parts sound_there)) left in
     let to_node : Settles outer kind (within (plain_place place) inner parts) (within (plain_place place) after parts) =
     settles_in outer kind place inner after parts sound_there to_part in
     subst (λ s. Settles outer kind s new) (sym was)

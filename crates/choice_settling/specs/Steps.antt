@@ -15,7 +15,7 @@ use Rattle.grammar_moves.specs.PlainPlaces.{plain_place}
 use Rattle.choice_states.specs.declared.states.State.{State}
 use Rattle.choice_states.specs.Seen.{Seen, Parts, of_seen, seen_in, token_seen}
 use Rattle.choice_states.specs.Parts.{values, parts_fit}
-use Rattle.choice_states.specs.Lists.{frames_at}
+use Rattle.choice_states.specs.Lists.{frames_at, place_fits_in}
 use Rattle.choice_states.specs.States.{Stay, stays, leaves, takes, astray, IsClean, Standing, within, standing}
 use Rattle.choice_lookahead.specs.Ahead.{next_kind}
 
@@ -34,6 +34,15 @@ IsAround None (outer ∷ frames) = ⊥
 IsAround (Some behind) [] = ⊥
 IsAround (Some behind) (outer ∷ frames) = outer.place ≡ plain_place behind
 
+-- the place behind it in the node around
+abbrev pub place_around : Option Spot → Option Place
+place_around None = None
+place_around (Some behind) = Some (plain_place behind)
+
+-- in a node around, or in none, in which one may stand by the first, one may stand by the other
+abbrev pub FitsAlike : Option Spot → Standing → Standing → Type 0
+FitsAlike outer before after = IsTrue (before.fits_in (place_around outer)) → IsTrue (after.fits_in (place_around outer))
+
 -- the node has the parts that it should have, and is left or not
 pub record IsSound (standing : Standing) : Type 0 where
   pub fit : IsTrue standing.fits
@@ -51,6 +60,7 @@ SameElsewhere here old new = (on : ℕ → Bool) → all_true on (conditions_of 
 abbrev pub in_node : Place → Parts → Standing
 in_node place parts = record {
   fits = parts_fit place parts;
+  fits_in = place_fits_in place;
   stay = stays;
   leads = λ frames kind token. outcome of_seen kind token (frame place (values parts) ∷ frames);
 }
@@ -63,6 +73,7 @@ HasBegun outer place parts =
 -- whole in the same way, whatever nodes are around
 pub record ClosesAlike (before after : Standing) : Type 0 where
   pub fits_are : after.fits ≡ before.fits
+  pub fits_in_is : (outer : Option Place) → after.fits_in outer ≡ before.fits_in outer
   pub stay_is : after.stay ≡ before.stay
   pub leads_are : (frames : List (Frame Seen)) (kind : Terminal) (token : Seen) → after.leads frames kind token ≡ before.leads frames kind token
 
@@ -71,6 +82,7 @@ pub record ClosesAlike (before after : Standing) : Type 0 where
 -- What a token of this kind leads to is the same, whatever it is in itself. A node that is in no other isn't left.
 pub record Settles (outer : Option Spot) (kind : Terminal) (before after : Standing) : Type 0 where
   pub sound : IsSound after
+  pub fit_in : FitsAlike outer before after
   pub still : outer ≡ None → StaysOpen before after
   pub leads_are : (frames : List (Frame Seen)) → IsAround outer frames → (token : Seen) → after.leads frames kind token ≡ before.leads frames kind token
 
@@ -97,38 +109,40 @@ IsRead astray kind token before next = ⊥
 
 pub record ReadsThere (outer : Option Spot) (kind : Terminal) (token : Seen) (before after : Standing) : Type 0 where
   pub fit : IsTrue after.fits
+  pub fit_in : FitsAlike outer before after
   pub reads : (frames : List (Frame Seen)) → IsAround outer frames → IsRead after.stay kind token (before.leads frames kind token) (after.leads frames)
 
 pub record Keeps (outer : Option Spot) (before after : Standing) : Type 0 where
   pub sound : IsSound after
+  pub fit_in : FitsAlike outer before after
   pub still : StaysOpen before after
   pub leads_are :
       (frames : List (Frame Seen)) → IsAround outer frames → (kind : Terminal) (token : Seen) → after.leads frames kind token ≡ before.leads frames kind token
 
 -- the token is read if it is there
-abbrev pub Reads : Bool → Option Spot → Terminal → Seen → Standing → Standing → Type 0
-Reads true outer kind token before after = ReadsThere outer kind token before after
-Reads false outer kind token before after = Keeps outer before after
+abbrev pub ReadsIfThere : Bool → Option Spot → Terminal → Seen → Standing → Standing → Type 0
+ReadsIfThere true outer kind token before after = ReadsThere outer kind token before after
+ReadsIfThere false outer kind token before after = Keeps outer before after
 
 -- it is read in each configuration that is admitted and on the path
 abbrev pub ReadsSo : Condition → List Formula → List Formula → Condition → Option Spot → Terminal → Seen → ((ℕ → Bool) → Standing) → ((ℕ → Bool) → Standing) → Type 0
 ReadsSo admits path here when outer kind token before after =
     (c : List Bool) → IsTrue (value (has c) admits) → IsTrue (all_true (has c) (conditions_of path)) → IsTrue (all_true (has c) (conditions_of here))
-    → IsSound (before (has c)) → Reads (value (has c) when) outer kind token (before (has c)) (after (has c))
+    → IsSound (before (has c)) → ReadsIfThere (value (has c) when) outer kind token (before (has c)) (after (has c))
 
 -- it is read wherever it is there
 abbrev pub ReadsOn : List Formula → List Formula → Condition → Option Spot → Terminal → Seen → ((ℕ → Bool) → Standing) → ((ℕ → Bool) → Standing) → Type 0
 ReadsOn path here when outer kind token before after =
     (on : ℕ → Bool) → IsTrue (all_true on (conditions_of path)) → IsTrue (all_true on (conditions_of here))
-    → IsSound (before on) → Reads (value on when) outer kind token (before on) (after on)
+    → IsSound (before on) → ReadsIfThere (value on when) outer kind token (before on) (after on)
 
 -- it is read in the part behind which is this place, or still to be read behind it: then it is read in the node
 abbrev pub ReadsAfter : Condition → List Formula → List Formula → Condition → Option Spot → Spot → Terminal → Seen → ((ℕ → Bool) → Standing) → ((ℕ → Bool) → Parts) → ((ℕ → Bool) → Standing) → Type 0
 ReadsAfter admits path here when outer place kind token after parts new =
     (c : List Bool) → IsTrue (value (has c) admits) → IsTrue (all_true (has c) (conditions_of path)) → IsTrue (all_true (has c) (conditions_of here))
     → (inner : Standing) → IsSound (within (plain_place place) inner (parts (has c)))
-    → Reads (value (has c) when) (Some place) kind token inner (after (has c))
-    → Reads (value (has c) when) outer kind token (within (plain_place place) inner (parts (has c))) (new (has c))
+    → ReadsIfThere (value (has c) when) (Some place) kind token inner (after (has c))
+    → ReadsIfThere (value (has c) when) outer kind token (within (plain_place place) inner (parts (has c))) (new (has c))
 
 -- it is there and is read, wherever the path and the formulas are true
 abbrev pub ReadsAll : List Formula → List Formula → Option Spot → Terminal → Seen → ((ℕ → Bool) → Standing) → ((ℕ → Bool) → Standing) → Type 0

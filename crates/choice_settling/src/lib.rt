@@ -8,4 +8,4 @@ mod settling;
 
 pub use alternatives::left;
 pub use places::{around_here, left_out, whole};
-pub use settling::{Ahead, settled};
+pub use settling::{Ahead, settled, settled_after};

@@ -71,7 +71,7 @@ pub fn settled(
 }
 
 /// What becomes of a part, behind which is this place, is known: what becomes of the node.
-fn settled_after(
+pub fn settled_after(
     after: After,
     place: Place,
     parts: &mut Vec<Choice<Item>>,

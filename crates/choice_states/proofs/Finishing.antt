@@ -21,12 +21,12 @@ left_so astray owed is = tt
 -- the node is left
 pub finishes_left : (before after : Standing) (owed : Bool) → IsTrue before.fits → before.stay ≡ leaves → after ≡ before → Finishes before owed after
 finishes_left before after owed fits left is =
-    subst (λ now. Finishes before owed now) (sym is) (record { fit = fits; leads_are = λ frames kind token. refl; stay = left_so before.stay owed left })
+    subst (λ now. Finishes before owed now) (sym is) (record { fit = fits; leads_are = λ frames kind token. refl; stay = left_so before.stay owed left; fit_in = λ behind fits_in. fits_in })
 
 -- one stays in it
 pub finishes_open : (before after : Standing) (owed : Bool) → IsTrue before.fits → MayStay before owed → after ≡ open_node before → Finishes before owed after
 finishes_open before after owed fits may is =
-    subst (λ now. Finishes before owed now) (sym is) (record { fit = fits; leads_are = λ frames kind token. refl; stay = may })
+    subst (λ now. Finishes before owed now) (sym is) (record { fit = fits; leads_are = λ frames kind token. refl; stay = may; fit_in = λ behind fits_in. fits_in })
 
 pub may_stay_within : (inner : Stay) (owed : Bool) → IsFinished (stay_within inner) owed (stay_within (stay_within inner))
 may_stay_within stays owed = refl

@@ -13,7 +13,7 @@ use Rattle.choice_trees.specs.ChoiceTrees.{PlainItem, PlainChoices, PlainBranche
 use Rattle.choice_trees.specs.Leaves.{Leaf, item_leaves, parts_leaves, branch_leaves}
 use Rattle.choice_states.specs.Seen.{Seen, leaves_of, node_seen, Parts, in_front, seen_at, branch_seen, parts_seen}
 use Rattle.choice_states.specs.Parts.{is_empty, is_there, first_of, values, aligned, is_numbered, if_numbered, is_aligned, parts_are_whole}
-use Rattle.choice_states.specs.States.{arriving, arrived, made, closed}
+use Rattle.choice_states.specs.States.{arriving, arrived, made, closed, as_part}
 use Rattle.choice_states.specs.States as states
 use Rattle.choice_states.proofs.PartLists.{values-none}
 
@@ -155,6 +155,7 @@ made_fits : (kind : Option Kind) (parts : Parts) → IsTrue (parts_are_whole kin
 made_fits None parts h = first_there (values parts)
 made_fits (Some kind) parts h = sym h
 
-pub whole_stands : (kind : Option Kind) (ended : Place) (parts : Parts) (seen : Option Seen) → IsTrue (parts_are_whole kind parts) → seen ≡ made kind (values parts) → arrived seen ended ≡ closed kind ended parts
+pub whole_stands : (kind : Option Kind) (ended : Place) (parts : Parts) (seen : Option Seen) → IsTrue (parts_are_whole kind parts) → seen ≡ made kind (values parts)
+    → arrived seen ended ≡ as_part (closed kind ended parts)
 whole_stands kind ended parts seen h is =
-    ap (λ s. arrived s ended) is ∙ ap (λ b. record { fits = b; stay = states.leaves; leads = arriving (made kind (values parts)) ended }) (made_fits kind parts h)
+    ap (λ s. arrived s ended) is ∙ ap (λ b. record { fits = b; fits_in = λ outer. is_there outer; stay = states.leaves; leads = arriving (made kind (values parts)) ended }) (made_fits kind parts h)

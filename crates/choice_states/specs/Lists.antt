@@ -1,6 +1,7 @@
 -- Lists that have begun only where they have an entry, and parts that are left out.
-use Rattle.std.specs.Prelude.{ℕ, ◌==◌, Bool, true, false, List, [], ◌∷◌, drop, length, Option, Some, None, if◌then◌else◌}
+use Rattle.std.specs.Prelude.{ℕ, ◌==◌, Bool, true, false, not, List, [], ◌∷◌, drop, length, Option, Some, None, if◌then◌else◌}
 use Rattle.c_tree.specs.declared.kinds.Kind.{Kind}
+use Rattle.c_tree.specs.declared.kinds.Kind.TheVariants as k
 use Rattle.c_tree.specs.declared.kinds.Kind.TheVariants.{Block, StructDefinition, Call, Braces, LocalDeclaration, Member, Items, Members, Arguments, Initialisers}
 use Rattle.c_tree.specs.Grammar.{expression, initialiser, item, items, member, members, arguments, initialisers, declarators, local, member_of, Slot, needed, optional}
 use Rattle.c_tree.specs.Places.{Place, inside, in_brackets, in_list, separated_from, declarator_next}
@@ -68,3 +69,29 @@ left_out count place = place
 abbrev pub IsInside : Place → Type 0
 IsInside (inside kind slots) = Unit {0}
 IsInside other = ⊥
+
+-- ---- the list of a unit's items, which is in no other node
+
+abbrev pub is_unit_kind : Kind → Bool
+is_unit_kind k.Unit = true
+is_unit_kind kind = false
+
+abbrev pub is_unit_list : Place → Bool
+is_unit_list (in_list kind category) = is_unit_kind kind
+is_unit_list place = false
+
+-- whether one may be at a place in a node behind which is this place in the node around it; or in none around it
+abbrev pub place_fits_in : Place → Option Place → Bool
+place_fits_in place None = is_unit_list place
+place_fits_in place (Some behind) = true
+
+-- whether a whole node of a kind, or the one part, may be there
+abbrev pub whole_fits_in : Option Kind → Option Place → Bool
+whole_fits_in None None = false
+whole_fits_in (Some kind) None = is_unit_kind kind
+whole_fits_in kind (Some behind) = true
+
+-- whether a list may be there that has begun only where it has an entry
+abbrev pub unbegun_fits_in : Option Place → Bool
+unbegun_fits_in None = false
+unbegun_fits_in (Some behind) = not (is_unit_list behind)

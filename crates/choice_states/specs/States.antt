@@ -16,7 +16,7 @@ use Rattle.choice_states.specs.declared.states.After.TheOpen as after
 use Rattle.choice_states.specs.declared.states.After.TheFolds.{fold-After}
 use Rattle.choice_states.specs.Seen.{Seen, node_seen, of_seen, Parts, choice_seen, seen_in}
 use Rattle.choice_states.specs.Parts.{first_of, is_there, values, parts_fit, parts_fit_within, parts_are_whole}
-use Rattle.choice_states.specs.Lists.{is_around_list, frames_at}
+use Rattle.choice_states.specs.Lists.{is_around_list, frames_at, place_fits_in, whole_fits_in, unbegun_fits_in}
 
 -- what the next token leads to, in the nodes around
 abbrev pub Leading : Type 0
@@ -43,17 +43,20 @@ stay_within astray = astray
 pub record Standing : Type 0 where
   -- the node and those in it have the parts that they have where one stands so
   pub fits : Bool
+  -- one may stand so in a node behind which is this place in the node around it, or in one that is in no other
+  pub fits_in : Option Place → Bool
   pub stay : Stay
   pub leads : Leading
 
 -- no unit goes on so
 abbrev pub dead : Standing
-dead = record { fits = true; stay = stays; leads = λ frames kind token. is_wrong }
+dead = record { fits = true; fits_in = λ outer. true; stay = stays; leads = λ frames kind token. is_wrong }
 
 -- at a place behind these parts
 abbrev pub at_place : Place → Parts → Standing
 at_place place parts = record {
   fits = parts_fit place parts;
+  fits_in = place_fits_in place;
   stay = stays;
   leads = λ frames kind token. outcome of_seen kind token (frames_at place (values parts) frames);
 }
@@ -62,6 +65,7 @@ at_place place parts = record {
 abbrev pub within : Place → Standing → Parts → Standing
 within place inner parts = record {
   fits = parts_fit_within place parts && inner.fits;
+  fits_in = λ outer. place_fits_in place outer && inner.fits_in (Some place);
   stay = stay_within inner.stay;
   leads = λ frames. inner.leads (frame place (values parts) ∷ frames);
 }
@@ -72,7 +76,7 @@ arriving None ended frames kind token = is_wrong
 arriving (Some part) ended frames kind token = arrives of_seen kind token part ended frames
 
 abbrev pub arrived : Option Seen → Place → Standing
-arrived part ended = record { fits = is_there part; stay = leaves; leads = arriving part ended }
+arrived part ended = record { fits = is_there part; fits_in = λ outer. is_there outer; stay = leaves; leads = arriving part ended }
 
 -- a whole node of a kind, or the one part
 abbrev pub made : Option Kind → List Seen → Option Seen
@@ -80,7 +84,16 @@ made None parts = first_of parts
 made (Some kind) parts = Some (node_seen kind parts)
 
 abbrev pub closed : Option Kind → Place → Parts → Standing
-closed kind ended parts = record { fits = parts_are_whole kind parts; stay = leaves; leads = arriving (made kind (values parts)) ended }
+closed kind ended parts = record {
+  fits = parts_are_whole kind parts;
+  fits_in = whole_fits_in kind;
+  stay = leaves;
+  leads = arriving (made kind (values parts)) ended;
+}
+
+-- a whole node, as a part of another
+abbrev pub as_part : Standing → Standing
+as_part whole = record whole { fits_in = λ outer. is_there outer }
 
 -- a list that hasn't begun, in the node around it at this place
 abbrev pub without_entry : Place → Leading
@@ -88,11 +101,11 @@ without_entry around [] kind token = is_wrong
 without_entry around (outer ∷ frames) kind token = outcome of_seen kind token (frame around outer.parts ∷ frames)
 
 abbrev pub unbegun : Place → Standing
-unbegun around = record { fits = is_around_list around; stay = leaves; leads = without_entry around }
+unbegun around = record { fits = is_around_list around; fits_in = unbegun_fits_in; stay = leaves; leads = without_entry around }
 
 -- a node whose first parts are those of another
 abbrev pub taken : Place → Place → Parts → Standing
-taken behind second parts = record (within behind (at_place second parts) []) { stay = takes }
+taken behind second parts = record (within behind (at_place second parts) []) { fits_in = λ outer. is_there outer; stay = takes }
 
 abbrev pub Stands : Type 0
 Stands = (ℕ → Bool) → Parts → Standing
@@ -164,6 +177,8 @@ pub record Finishes (before : Standing) (owed : Bool) (after : Standing) : Type 
   pub fit : IsTrue after.fits
   pub leads_are : (frames : List (Frame Seen)) (kind : Terminal) (token : Seen) → after.leads frames kind token ≡ before.leads frames kind token
   pub stay : IsFinished before.stay owed after.stay
+  -- in a node around in which one may stand as before one may stand so
+  pub fit_in : (behind : Place) → IsTrue (before.fits_in (Some behind)) → IsTrue (after.fits_in (Some behind))
 
 -- one may stay in a node for now
 abbrev pub MayStay : Standing → Bool → Type 0

@@ -5,7 +5,7 @@ ghost use Rattle.cond_formula.specs.Conditions.{condition_of, value};
 ghost use Rattle.grammar_moves.specs.PlainPlaces.{plain_place};
 ghost use Rattle.choice_states.specs.Seen.{node_seen, Parts, choice_seen, seen_in};
 ghost use Rattle.choice_states.specs.Parts.{values, parts_are_whole};
-ghost use Rattle.choice_states.specs.States.{at_place, within, made, closed, open_node, standing, becoming, owes, Finishes, MayStay};
+ghost use Rattle.choice_states.specs.States.{at_place, within, made, closed, as_part, open_node, standing, becoming, owes, Finishes, MayStay};
 
 use crate::copies::{parts_elsewhere, parts_where};
 use crate::parts::{as_one, certain};
@@ -92,7 +92,7 @@ fn whole_part(
 #[tactic(auto, using(crate::specs::StateLaws::after_kinds))]
 fn whole(alloc: Global, parts: Vec<Choice<Item>>, closing: Closing) -> Result<After, NoMemory>
     ensures { IfOk result (λ after. (on : ℕ → Bool) → IsTrue (closed closing.kind (plain_place closing.ended) (seen_in on parts.items)).fits
-        → becoming after on ≡ closed closing.kind (plain_place closing.ended) (seen_in on parts.items)) }
+        → becoming after on ≡ as_part (closed closing.kind (plain_place closing.ended) (seen_in on parts.items))) }
 {
     let part = whole_part(alloc, parts, closing.kind)?;
     Ok(After::Whole(part, closing.ended))
