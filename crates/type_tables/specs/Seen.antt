@@ -9,7 +9,7 @@ use Rattle.conditional.specs.Entries.{seen, first, listed}
 use Rattle.core_meaning.specs.Entities.{Signature}
 use Rattle.name_places.specs.Places.{place_of}
 use Rattle.type_tables.specs.Tables as plain
-use Rattle.type_tables.specs.Forms.{member_form, parameter_form, file_name_form}
+use Rattle.type_tables.specs.Forms.{member_form, declared_type_form, file_name_form}
 use Rattle.type_tables.specs.declared.entries.CondStruct.{CondStruct}
 use Rattle.type_tables.specs.declared.entries.CondSignature.{CondSignature}
 use Rattle.type_tables.specs.declared.entries.CondName.{CondName}
@@ -56,7 +56,7 @@ module _ (on : ℕ → Bool) where
 
   abbrev pub signature_of : Option CondSignature → Signature
   signature_of None = no_signature
-  signature_of (Some s) = record { result = plain_type s.result; parameters = seen on (listed parameter_form s.parameters) }
+  signature_of (Some s) = record { result = plain_type s.result; parameters = seen on (listed declared_type_form s.parameters) }
 
   abbrev pub local_form : LocalName → plain.Local
   local_form l = record { name = l.name.items; ty = plain_type l.ty; depth = l.depth }

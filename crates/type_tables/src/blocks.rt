@@ -58,7 +58,7 @@ impl Tables {
 
     /// A block ends: the locals are those that were visible outside it.
     pub fn leave(&mut self, outside: Outside)
-        ensures { (before : TheTables) → IsOutside before outside → KeepsOutside before self.old → self.new ≡ record self.old { locals = self.new.locals; depth = before.depth } × (self.new.locals.items ≡ before.locals.items) }
+        ensures { (before : TheTables) → IsOutside before outside → KeepsOutside before self.old → (self.new ≡ record self.old { locals = self.new.locals; depth = before.depth }) × (self.new.locals.items ≡ before.locals.items) }
     {
         self.locals.truncate(outside.locals);
         self.depth = outside.depth;

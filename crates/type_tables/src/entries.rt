@@ -3,7 +3,7 @@ ghost use Rattle.std.specs.Prelude.{◌≡◌, IsTrue};
 ghost use Rattle.c_types.specs.Types.{PlainType, plain_type};
 ghost use Rattle.c_types.specs.Tags.{PlainMember};
 ghost use Rattle.type_tables.specs.Tables as plain;
-ghost use Rattle.type_tables.specs.Forms.{member_form, parameter_form, sort_form, file_name_form};
+ghost use Rattle.type_tables.specs.Forms.{member_form, declared_type_form, sort_form, file_name_form};
 
 use c_types::CType;
 use cond_formula::{Formula, NoMemory};
@@ -47,24 +47,24 @@ pub struct CondStruct {
     pub members: CondList<Member>,
 }
 
-/// The type of a parameter.
+/// The type that a declaration gives: of a parameter, of an object, or of what a function returns.
 #[derive(Drop)]
-pub struct Parameter {
+pub struct DeclaredType {
     pub ty: CType,
 }
 
-impl Plain for Parameter {
+impl Plain for DeclaredType {
     ghost Form = { PlainType };
 
-    ghost form = { parameter_form };
+    ghost form = { declared_type_form };
 
-    fn is_same(&self, other: &Parameter) -> bool {
+    fn is_same(&self, other: &DeclaredType) -> bool {
         is_equal_type(&self.ty, &other.ty)
     }
 
-    fn try_clone(&self, alloc: Global) -> Result<Parameter, NoMemory> {
+    fn try_clone(&self, alloc: Global) -> Result<DeclaredType, NoMemory> {
         let ty = copied(alloc, &self.ty)?;
-        Ok(Parameter { ty })
+        Ok(DeclaredType { ty })
     }
 }
 
@@ -72,7 +72,7 @@ impl Plain for Parameter {
 #[derive(Drop)]
 pub struct CondSignature {
     pub result: CType,
-    pub parameters: CondList<Parameter>,
+    pub parameters: CondList<DeclaredType>,
 }
 
 /// What a name of file scope stands for.

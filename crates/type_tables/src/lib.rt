@@ -10,6 +10,6 @@ mod tables;
 
 pub use blocks::Outside;
 pub use entries::{
-    CondName, CondSignature, CondStruct, FileName, LocalName, Member, Parameter, Sort,
+    CondName, CondSignature, CondStruct, DeclaredType, FileName, LocalName, Member, Sort,
 };
 pub use tables::Tables;
