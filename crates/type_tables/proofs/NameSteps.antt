@@ -18,7 +18,7 @@ use Rattle.type_tables.specs.Changes.{IsNothing, Means, has_name_in, is_unnamed,
 use Rattle.type_tables.specs.declared.entries.CondName.{CondName}
 use Rattle.type_tables.specs.declared.tables.Tables.{Tables}
 use Rattle.type_tables.proofs.Lists.{set_there, set_other}
-use Rattle.type_tables.proofs.StructSteps.{seen_whole}
+use Rattle.type_tables.proofs.StructSteps.{same_text, seen_whole}
 
 module _ (on : ℕ → Bool) where
   abbrev with_names : Tables → List CondName → (List ℕ → Option ℕ) → plain.Tables
@@ -142,9 +142,6 @@ module _ (on : ℕ → Bool) where
               ap (λ n. name_in on (slice_set old.declared.items place now) n (place_of old.names n)) same ∙ after change.name_is ∙ change.meanings ∙ later_none _
               ∙ sym before ∙ sym (ap (λ n. name_in on old.declared.items n (place_of old.names n)) same)
           one other false h = others other h change.name_is (place_of old.names other)
-
-same_text : (name : List ℕ) → bytes_eq name name ≡ true
-same_text name = (bytes_decides name name).1 refl
 
 pub place_named : (name : List ℕ) (place : ℕ) (old new : Tables) → AddsName name place old new → place_of new.names name ≡ Some place
 place_named name place old new a = ap (λ p. p name) a.places_are ∙ ap (λ b. if b then Some place else place_of old.names name) (same_text name)

@@ -202,8 +202,8 @@ module _ (on : ℕ → Bool) where
           (each_same (members_of on) old.structs.items number s now found change.members_are)
           (λ other. tag_kept old.structs.items number s now found change.tag_is change.declared other (place_of old.tags other))
 
-same_text : (tag : List ℕ) → bytes_eq tag tag ≡ true
-same_text tag = (bytes_decides tag tag).1 refl
+pub same_text : (text : List ℕ) → bytes_eq text text ≡ true
+same_text text = (bytes_decides text text).1 refl
 
 pub place_added : (tag : List ℕ) (number : ℕ) (old new : Tables) → AddsStruct tag number old new → place_of new.tags tag ≡ Some number
 place_added tag number old new a = ap (λ p. p tag) a.places_are ∙ ap (λ b. if b then Some number else place_of old.tags tag) (same_text tag)

@@ -3,22 +3,19 @@ use Rattle.std.specs.Prelude.{ℕ, Bool, false, ◌&&◌, List, [], ◌∷◌, r
 use Rattle.std.specs.Str.{bytes_eq}
 use Rattle.cond_formula.specs.declared.formulas.Formula.{Formula}
 use Rattle.cond_formula.specs.Conditions.{condition_of, value}
-use Rattle.c_types.specs.Types.{void, plain_type}
+use Rattle.c_types.specs.Types.{plain_type}
 use Rattle.c_types.specs.Tags.{PlainMember}
 use Rattle.conditional.specs.Entries.{seen, first, listed}
 use Rattle.core_meaning.specs.Entities.{Signature}
 use Rattle.name_places.specs.Places.{place_of}
 use Rattle.type_tables.specs.Tables as plain
+use Rattle.type_tables.specs.Tables.{no_signature}
 use Rattle.type_tables.specs.Forms.{member_form, declared_type_form, file_name_form}
 use Rattle.type_tables.specs.declared.entries.CondStruct.{CondStruct}
 use Rattle.type_tables.specs.declared.entries.CondSignature.{CondSignature}
 use Rattle.type_tables.specs.declared.entries.CondName.{CondName}
 use Rattle.type_tables.specs.declared.entries.LocalName.{LocalName}
 use Rattle.type_tables.specs.declared.tables.Tables.{Tables}
-
--- a declaration that is none of the list's
-abbrev pub no_signature : Signature
-no_signature = record { result = void; parameters = [] }
 
 module _ (on : ℕ → Bool) where
   abbrev pub holds : Formula → Bool

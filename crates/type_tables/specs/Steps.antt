@@ -1,11 +1,24 @@
 -- How tables go on.
-use Rattle.std.specs.Prelude.{ℕ, suc, ◌==◌, Bool, true, false, List, ◌∷◌, Some, if◌then◌else◌}
+use Rattle.std.specs.Prelude.{ℕ, suc, ◌==◌, Bool, true, false, List, [], ◌∷◌, Some, if◌then◌else◌}
 use Rattle.std.specs.Str.{bytes_eq}
 use Rattle.c_types.specs.Types.{PlainType}
 use Rattle.c_types.specs.Tags.{PlainMember}
 use Rattle.conditional.specs.Entries.{or_later}
-use Rattle.core_meaning.specs.Entities.{with_entry, Signature}
-use Rattle.type_tables.specs.Tables.{Tables, FileName}
+use Rattle.core_meaning.specs.Entities.{no_entry, with_entry, Signature}
+use Rattle.type_tables.specs.Tables.{Tables, FileName, no_signature}
+
+-- before the first unit
+abbrev pub no_tables : Tables
+no_tables = record {
+  declared = λ n. false;
+  complete = λ n. false;
+  members = λ n. [];
+  tags = no_entry;
+  names = no_entry;
+  signatures = λ n. no_signature;
+  locals = [];
+  depth = 0;
+}
 
 -- a struct is declared by its tag
 abbrev pub with_declared : List ℕ → ℕ → Tables → Tables

@@ -39,6 +39,10 @@ pub record Tables : Type 0 where
   -- how many blocks are open
   pub depth : ℕ
 
+-- a declaration that is none of a list's
+abbrev pub no_signature : Signature
+no_signature = record { result = void; parameters = [] }
+
 -- the innermost declaration of a name in the blocks that are open
 abbrev pub local_named : List Local → List ℕ → Option Local
 local_named [] name = None

@@ -5,14 +5,11 @@ ghost use Rattle.type_tables.specs.Forms.{file_name_form};
 ghost use Rattle.type_tables.specs.Changes.{IsNothing, Means, BecomesAt};
 
 use crate::entries::{CondName, CondSignature, FileName};
-use crate::tables::Tables;
+use crate::tables::{LAST_NUMBER, Tables};
 use cond_formula::{Formula, NoMemory};
 use conditional::CondList;
 use name_places::{enter_place, place_in};
 use std::alloc::{AllocError, Global};
-
-/// The greatest number of a declaration.
-const LAST_NUMBER: usize = 4_294_967_294;
 
 /// A name that stands for nothing.
 fn nameless(alloc: Global, name: &[u8]) -> Result<CondName, NoMemory>

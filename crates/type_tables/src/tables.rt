@@ -25,8 +25,8 @@ pub struct Tables {
     pub depth: u32,
 }
 
-/// The greatest number of a struct.
-const LAST_NUMBER: usize = 4_294_967_294;
+/// The greatest number of a struct, a name or a declaration of a function.
+pub(crate) const LAST_NUMBER: usize = 4_294_967_294;
 
 impl Tables {
     ghost use Rattle.std.specs.Prelude.{◌≡◌, ℕ, ◌<◌, Bool, true, Some, length, IfOk, IfSome, IfNone, OnOk};
@@ -35,11 +35,13 @@ impl Tables {
     ghost use Rattle.conditional.specs.Entries.{seen, listed};
     ghost use Rattle.type_tables.specs.Forms.{member_form};
     ghost use Rattle.type_tables.specs.Seen.{seen_tables};
-    ghost use Rattle.type_tables.specs.Steps.{with_declared, with_completed, where_true};
+    ghost use Rattle.type_tables.specs.Steps.{no_tables, with_declared, with_completed, where_true};
     ghost use Rattle.type_tables.specs.Changes.{has_tag_in, is_free, AddsStruct};
 
     /// Before the first unit: nothing.
-    pub fn new(alloc: Global) -> Tables {
+    pub fn new(alloc: Global) -> Tables
+        ensures { (on : ℕ → Bool) → seen_tables on result ≡ no_tables }
+    {
         Tables {
             structs: Vec::new(alloc),
             tags: HashMap::new(alloc),

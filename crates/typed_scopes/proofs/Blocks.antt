@@ -12,6 +12,7 @@ use Rattle.type_tables.specs.Tables.{Tables, Local, local_named, is_in_block}
 use Rattle.type_tables.specs.Steps as step
 use Rattle.type_tables.specs.Steps.{entered}
 use Rattle.typed_scopes.specs.Follows.{IsThere, AreWithin, LocalFollows, StructFollows, Follows, FollowsInBlock}
+use Rattle.typed_scopes.proofs.Options.{some_same}
 
 -- ---- depths
 
@@ -22,9 +23,6 @@ deeper depth (l ∷ ls) h = (omega (arith, h.0), deeper depth ls h.1)
 not_there : (depth : ℕ) (o : Option Local) → ((l : Local) → o ≡ Some l → l.depth ≤ depth) → false ≡ is_in_block (suc depth) o
 not_there depth None h = refl
 not_there depth (Some l) h = sym (ne_eqb l.depth (suc depth) (λ e. let same_ : l.depth ≡ suc depth = e in omega (arith, h l refl, same_)))
-
-some_same : {A : Type 0} (x y : A) → Some x ≡ Some y → x ≡ y
-some_same x y e = cc
 
 first_within : (b : Bool) (depth : ℕ) (x : Local) (rest : Option Local) (l : Local) → x.depth ≤ depth → (rest ≡ Some l → l.depth ≤ depth) → (if b then Some x else rest) ≡ Some l → l.depth ≤ depth
 first_within true depth x rest l h later e = subst (λ (y : Local). y.depth ≤ depth) (some_same x l e) h

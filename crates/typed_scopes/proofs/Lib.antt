@@ -1,3 +1,4 @@
+pub mod Options
 pub mod Known
 pub mod Blocks
 pub mod Renumbering

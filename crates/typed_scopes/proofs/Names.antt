@@ -7,8 +7,9 @@ use Rattle.core_meaning.specs.Entities.{no_entry, Struct, Signature, Numbers, Sc
 use Rattle.core_meaning.specs.Entities as scopes
 use Rattle.core_meaning.specs.UnitNames.{with_file_name, unit_start}
 use Rattle.type_tables.specs.Tables.{Tables, FileName, Sort, object, declared_function}
-use Rattle.type_tables.specs.Steps.{with_name, with_signature}
+use Rattle.type_tables.specs.Steps.{no_tables, with_name, with_signature}
 use Rattle.typed_scopes.specs.Follows.{SortFollows, NameFollows, SortIsThere, Follows}
+use Rattle.typed_scopes.proofs.Options.{some_same}
 
 -- ---- a name
 
@@ -21,9 +22,6 @@ either_name by signatures true n o before (Some x) h i new = absurd (never (new 
     never : Some x ≡ None → ⊥
     never e = cc
 either_name by signatures false n o before other h i new = i
-
-some_same : {A : Type 0} (x y : A) → Some x ≡ Some y → x ≡ y
-some_same x y e = cc
 
 either_there : (structs : List Struct) (b : Bool) (n : scopes.FileName) (before : Option scopes.FileName) → SortIsThere structs n.sort
     → ((x : scopes.FileName) → before ≡ Some x → SortIsThere structs x.sort) → (x : scopes.FileName) → (if b then Some n else before) ≡ Some x → SortIsThere structs x.sort
@@ -87,6 +85,21 @@ unit_begun t scope f numbers = record {
   by = f.by;
   apart = f.apart;
   structs = λ m s e. let is = f.structs m s e in record { declared = is.declared; complete = is.complete; members = is.members; numbers = is.numbers; there = is.there };
+  tags = λ name. refl;
+  tagged = λ name n e. absurd cc;
+  names = λ name. tt;
+  names_there = λ name n e. absurd cc;
+  locals = λ name. tt;
+  locals_there = λ name l e. absurd cc;
+  within = tt;
+}
+
+-- before the first unit
+pub nothing_begun : (numbers : Numbers) → Follows no_tables (unit_start [] numbers).scope
+nothing_begun numbers = record {
+  by = λ n. n;
+  apart = record { apart = λ m n. refl };
+  structs = λ m s e. absurd cc;
   tags = λ name. refl;
   tagged = λ name n e. absurd cc;
   names = λ name. tt;

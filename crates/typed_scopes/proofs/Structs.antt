@@ -11,6 +11,7 @@ use Rattle.bindings.proofs.Tags.{kept_left, last_there}
 use Rattle.type_tables.specs.Tables.{Tables, local_named}
 use Rattle.type_tables.specs.Steps.{with_declared, with_completed}
 use Rattle.typed_scopes.specs.Follows.{AreThere, types_of, place_of, renumbered_member, StructFollows, Follows}
+use Rattle.typed_scopes.proofs.Options.{some_same}
 use Rattle.typed_scopes.proofs.Renumbering.{Agree, members_same, name_follows, local_follows, Has, still_there, all_still_there, sort_still_there, swapped, swapped_second, swapped_other, swapped_apart}
 
 -- ---- a struct that is declared
@@ -69,9 +70,6 @@ module _ (t : Tables) (scope : Scope) (f : Follows t scope) (name : List ℕ) (n
     numbers = λ c. absurd (false≢true (sym (ap (λ (s : Struct). s.complete) e) ∙ c));
     there = λ c. absurd (false≢true (sym (ap (λ (s : Struct). s.complete) e) ∙ c));
   }
-
-  some_same : {A : Type 0} (x y : A) → Some x ≡ Some y → x ≡ y
-  some_same x y e = cc
 
   each_struct : (n : ℕ) (s : Struct) → slice_get more n ≡ Some s → StructFollows by_swapped (with_declared name number t) more n s
   each_struct n s e = at (n == last) refl
