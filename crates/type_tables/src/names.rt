@@ -61,7 +61,7 @@ impl Tables {
     }
 
     /// The place of a name.
-    fn name_found(&self, name: &[u8]) -> Option<u32>
+    pub(crate) fn name_found(&self, name: &[u8]) -> Option<u32>
         ensures place { IfSome result (λ place. place_of self.now.names name.now ≡ Some place) }
         ensures name { IfSome result (λ place. has_name_in self.now.declared.items place name.now ≡ true) }
         ensures none { IfNone result (is_unnamed self.now.declared.items (place_of self.now.names name.now) name.now ≡ true) }

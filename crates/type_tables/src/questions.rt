@@ -1,11 +1,13 @@
 //! What is asked of tables: conditions under which something is declared or complete.
-ghost use Rattle.std.specs.Prelude.{◌≡◌, ℕ, Bool, false, List, ◌∷◌, reverse, IfOk};
+ghost use Rattle.std.specs.Prelude.{◌≡◌, ℕ, Bool, true, false, List, ◌∷◌, reverse, IfOk};
 ghost use Rattle.cond_formula.specs.Conditions.{condition_of, value};
 ghost use Rattle.type_tables.specs.Tables.{local_named, is_in_block};
 ghost use Rattle.type_tables.specs.Seen.{locals_in};
 ghost use Rattle.type_tables.specs.declared.entries.LocalName.{LocalName};
+ghost use Rattle.c_types.specs.Types.{plain_type};
+ghost use Rattle.operand_types.specs.OperandTypes as operands;
 
-use crate::entries::LocalName;
+use crate::entries::{CondName, LocalName};
 use crate::tables::Tables;
 use c_types::CType;
 use cond_formula::{Formula, NoMemory};
@@ -18,6 +20,33 @@ fn never() -> Result<Formula, NoMemory>
     ensures { IfOk result (λ f. (on : ℕ → Bool) → value on (condition_of f) ≡ false) }
 {
     Ok(Formula::False)
+}
+
+/// A condition that is always true.
+#[tactic(auto, using(cond_formula::specs::ConditionLaws::formula_kinds))]
+fn always() -> Result<Formula, NoMemory>
+    ensures { IfOk result (λ f. (on : ℕ → Bool) → value on (condition_of f) ≡ true) }
+{
+    Ok(Formula::True)
+}
+
+/// The struct that a type is made of, if there is one.
+#[tactic(auto, using(c_types::specs::TypeLaws::type_kinds))]
+fn struct_in(ty: &CType) -> Option<u32>
+    ensures { result ≡ operands.struct_in (plain_type ty.now) }
+{
+    match ty {
+        CType::Pointer(target) => struct_in(target),
+        CType::Array(element, _) => struct_in(element),
+        CType::Struct(number) => Some(*number),
+        CType::Void
+        | CType::Char
+        | CType::UChar
+        | CType::Int
+        | CType::UInt
+        | CType::Long
+        | CType::ULong => None,
+    }
 }
 
 /// Where the innermost local of a name is declared in the block at this depth, with one more local.
@@ -58,10 +87,13 @@ fn where_in_block(
 }
 
 impl Tables {
-    ghost use Rattle.std.specs.Prelude.{◌≡◌, ℕ, Bool, IfOk};
+    ghost use Rattle.std.specs.Prelude.{◌≡◌, ℕ, Bool, None, IfOk, IfSome, IfNone};
+    ghost use Rattle.conditional.specs.Entries.{seen, first, listed};
     ghost use Rattle.cond_formula.specs.Conditions.{condition_of, value};
     ghost use Rattle.c_types.specs.Types.{plain_type};
-    ghost use Rattle.type_tables.specs.Tables.{local_named, is_in_block, is_complete_type};
+    ghost use Rattle.operand_types.specs.OperandTypes as operands;
+    ghost use Rattle.type_tables.specs.Tables.{local_named, is_in_block, is_complete_type, is_complete_in};
+    ghost use Rattle.type_tables.specs.Forms.{file_name_form};
     ghost use Rattle.type_tables.specs.Seen.{seen_tables};
     ghost use Rattle.type_tables.specs.Questions.{where_declared};
 
@@ -70,6 +102,15 @@ impl Tables {
         ensures { (on : ℕ → Bool) → (seen_tables on self.now).tags tag.now ≡ where_declared (seen_tables on self.now) result }
     {
         self.found(tag)
+    }
+
+    /// What a name of file scope stands for, if it is declared in any configuration.
+    pub fn named(&self, name: &[u8]) -> Option<&CondName>
+        ensures some { IfSome result (λ n. (on : ℕ → Bool) → (seen_tables on self.now).names name.now ≡ first (seen on (listed file_name_form n.now.meanings))) }
+        ensures none { IfNone result ((on : ℕ → Bool) → (seen_tables on self.now).names name.now ≡ None) }
+    {
+        let place = self.name_found(name)?;
+        self.declared.get(place as usize)
     }
 
     /// Where a struct is declared.
@@ -108,6 +149,16 @@ impl Tables {
         match self.structs.get(number as usize) {
             Some(s) => s.complete.try_clone(alloc),
             None => never(),
+        }
+    }
+
+    /// Where the struct that a type is made of is complete; everywhere, if it is made of none.
+    pub fn where_struct_in_complete(&self, alloc: Global, ty: &CType) -> Result<Formula, NoMemory>
+        ensures { IfOk result (λ f. (on : ℕ → Bool) → value on (condition_of f) ≡ is_complete_in (seen_tables on self.now) (operands.struct_in (plain_type ty.now))) }
+    {
+        match struct_in(ty) {
+            Some(number) => self.where_struct_complete(alloc, number),
+            None => always(),
         }
     }
 
