@@ -113,6 +113,21 @@ fn no_token(alloc: Global) -> Token {
     }
 }
 
+/// What comes of a size that is one tree. It is the same whatever is visible and whatever stands behind it.
+pub fn count_of_tree(alloc: Global, size: &Tree) -> Result<Result<Count, Refused>, NoMemory>
+    ensures { IfOk result (λ r. (visible : entities.Scope) (behind : PlainToken)
+        → checked plain_count reason r ≡ outcome_as (λ (n : ℕ). n) (judged_count visible (plain_tree size.now) behind)) }
+{
+    let numbers = Numbers {
+        globals: HashMap::new(alloc),
+        functions: HashMap::new(alloc),
+    };
+    let literals = HashMap::new(alloc);
+    let scope = nothing_visible(alloc, &numbers, &literals);
+    let behind = no_token(alloc);
+    count_of(alloc, &scope, &behind, size)
+}
+
 /// The size of an array in all configurations: a count, or a refusal where the size is no constant from 1 to the limit. It is the same
 /// whatever is visible and whatever stands behind it. Equal counts are one.
 pub fn counts<O: Oracle>(
