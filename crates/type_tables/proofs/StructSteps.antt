@@ -13,6 +13,7 @@ use Rattle.name_places.specs.Places.{place_of}
 use Rattle.type_tables.specs.Tables as plain
 use Rattle.type_tables.specs.Seen.{holds, is_declared, is_complete, members_of, is_of_tag, tag_in, name_in, signature_of, locals_in, seen_tables}
 use Rattle.type_tables.specs.Steps.{with_declared, with_completed, where_true}
+use Rattle.type_tables.specs.Questions.{where_declared}
 use Rattle.type_tables.specs.Changes.{IsUndeclared, Declares, Completes, has_tag_in, is_free, AddsStruct}
 use Rattle.type_tables.specs.declared.entries.CondStruct.{CondStruct}
 use Rattle.type_tables.specs.declared.entries.CondName.{CondName}
@@ -222,6 +223,15 @@ tag_has structs number tag h = by (slice_get structs number) refl h
         → (s : CondStruct) × (slice_get structs number ≡ Some s) × (bytes_eq tag s.tag.items ≡ true)
     by None e h = absurd (false≢true h)
     by (Some s) e h = (s, e, h)
+
+-- a tag is visible where its struct is declared
+pub tag_visible : (on : ℕ → Bool) (t : Tables) (tag : List ℕ) (number : ℕ) (s : CondStruct) → place_of t.tags tag ≡ Some number → slice_get t.structs.items number ≡ Some s → bytes_eq tag s.tag.items ≡ true
+    → (seen_tables on t).tags tag ≡ where_declared (seen_tables on t) (Some number)
+tag_visible on t tag number s placed found has =
+    ap (tag_in on t.structs.items tag) placed
+    ∙ ap (λ o. if is_of_tag on tag o then Some number else None) found
+    ∙ ap (λ b. if b && holds on s.declared then Some number else None) has
+    ∙ sym (ap (λ o. if is_declared on o then Some number else None) found)
 
 -- the tables that differ in names of file scope
 pub seen_whole : (on : ℕ → Bool) (old new : Tables) → new.structs ≡ old.structs → new.tags ≡ old.tags → new.signatures ≡ old.signatures → new.locals ≡ old.locals → new.depth ≡ old.depth

@@ -36,6 +36,7 @@ impl Tables {
     ghost use Rattle.type_tables.specs.Forms.{member_form};
     ghost use Rattle.type_tables.specs.Seen.{seen_tables};
     ghost use Rattle.type_tables.specs.Steps.{no_tables, with_declared, with_completed, where_true};
+    ghost use Rattle.type_tables.specs.Questions.{where_declared};
     ghost use Rattle.type_tables.specs.Changes.{has_tag_in, is_free, AddsStruct};
 
     /// Before the first unit: nothing.
@@ -100,14 +101,16 @@ impl Tables {
         Ok(number)
     }
 
-    /// A struct is declared by its tag where the condition is true. The answer is its number.
+    /// A struct is declared by its tag where the condition is true. The answer is its number, which the tag has wherever it is visible.
     pub fn declare_struct(
         &mut self,
         alloc: Global,
         tag: &[u8],
         when: Formula,
     ) -> Result<u32, NoMemory>
-        ensures { IfOk result (λ number. (on : ℕ → Bool) → seen_tables on self.new ≡ where_true (value on (condition_of when)) (with_declared tag.now number) (seen_tables on self.old)) }
+        ensures tag { IfOk result (λ number. (on : ℕ → Bool) → (seen_tables on self.old).tags tag.now ≡ where_declared (seen_tables on self.old) (Some number)) }
+        ensures there { IfOk result (λ number. number < length self.new.structs.items) }
+        ensures seen { IfOk result (λ number. (on : ℕ → Bool) → seen_tables on self.new ≡ where_true (value on (condition_of when)) (with_declared tag.now number) (seen_tables on self.old)) }
     {
         let number = self.numbered(alloc, tag)?;
         declare_at(alloc, &mut self.structs, number, when)?;
