@@ -106,6 +106,11 @@ module _ (t : Tables) (scope : Scope) (f : Follows t scope) (name : List ℕ) (n
     within = f.within;
   }
 
+  -- the structs that were there keep their numbers
+  pub numbers_kept : Agree scope.structs f.by struct_declared.by
+  unfolding struct_declared
+  numbers_kept = agree
+
 -- ---- a struct that is completed
 
 got_completed : (structs : List Struct) (n : ℕ) (s : Struct) (known : Members) → slice_get structs n ≡ Some s → slice_get (with_members_at n known structs) n ≡ Some (completed known s)
