@@ -68,24 +68,6 @@ fn count_of(
     outcome(count(alloc, scope, &mut used, tree, behind))
 }
 
-/// What comes of the sizes, each where its condition is true.
-fn counts_of(
-    alloc: Global,
-    scope: &Scope,
-    behind: &Token,
-    expansions: &[Expansion],
-) -> Result<Outcomes<Count, Refused>, NoMemory>
-    ensures { IfOk result (λ all. (on : ℕ → Bool) (tree : PlainTree) → Stands on tree (expanded expansions.now) → (visible : entities.Scope) (other : PlainToken)
-        → ShowsCount on (outcome_as (λ (n : ℕ). n) (judged_count visible tree other)) all) }
-{
-    let mut all = Outcomes::nothing(alloc);
-    for expansion in expansions {
-        let count = count_of(alloc, scope, behind, &expansion.tree)?;
-        all.place(alloc, expansion.when.try_clone(alloc)?, count)?;
-    }
-    Ok(all)
-}
-
 /// A scope in which nothing is visible.
 fn nothing_visible<'a>(
     alloc: Global,
@@ -128,6 +110,22 @@ pub fn count_of_tree(alloc: Global, size: &Tree) -> Result<Result<Count, Refused
     count_of(alloc, &scope, &behind, size)
 }
 
+/// What comes of the sizes, each where its condition is true.
+fn counts_of(
+    alloc: Global,
+    expansions: &[Expansion],
+) -> Result<Outcomes<Count, Refused>, NoMemory>
+    ensures { IfOk result (λ all. (on : ℕ → Bool) (tree : PlainTree) → Stands on tree (expanded expansions.now) → (visible : entities.Scope) (other : PlainToken)
+        → ShowsCount on (outcome_as (λ (n : ℕ). n) (judged_count visible tree other)) all) }
+{
+    let mut all = Outcomes::nothing(alloc);
+    for expansion in expansions {
+        let count = count_of_tree(alloc, &expansion.tree)?;
+        all.place(alloc, expansion.when.try_clone(alloc)?, count)?;
+    }
+    Ok(all)
+}
+
 /// The size of an array in all configurations: a count, or a refusal where the size is no constant from 1 to the limit. It is the same
 /// whatever is visible and whatever stands behind it. Equal counts are one.
 pub fn counts<O: Oracle>(
@@ -140,12 +138,5 @@ pub fn counts<O: Oracle>(
         → ShowsCount (has c) (outcome_as (λ (n : ℕ). n) (judged_count visible (item_at (has c) (plain_item size.now)) behind)) all) }
 {
     let expansions = expansions(alloc, oracle, size)?;
-    let numbers = Numbers {
-        globals: HashMap::new(alloc),
-        functions: HashMap::new(alloc),
-    };
-    let literals = HashMap::new(alloc);
-    let scope = nothing_visible(alloc, &numbers, &literals);
-    let behind = no_token(alloc);
-    counts_of(alloc, &scope, &behind, &expansions)
+    counts_of(alloc, &expansions)
 }
