@@ -1,0 +1,4 @@
+pub mod Searches
+pub mod Lookups
+pub mod Calls
+pub mod Numbers
