@@ -13,8 +13,8 @@ ghost use Rattle.expression_types.specs.Reading as spec;
 ghost use Rattle.expression_types.specs.Reading.{Read, is_result};
 ghost use Rattle.cond_nodes.specs.Reads.{ShowsEach};
 ghost use Rattle.type_tables.specs.Forms.{declared_type_form};
-ghost use Rattle.type_tables.specs.Tables.{value_of, callable_in};
-ghost use Rattle.type_tables.specs.Seen.{no_signature, seen_tables, signature_of};
+ghost use Rattle.type_tables.specs.Tables.{value_of, callable_in, no_signature};
+ghost use Rattle.type_tables.specs.Seen.{seen_tables, signature_of};
 ghost use Rattle.known_tables.specs.Calls.{refusal_in, callable_of};
 
 use crate::operands::{operand_of_type, refuse};
