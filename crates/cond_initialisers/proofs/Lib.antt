@@ -1,0 +1,7 @@
+pub mod Refused
+pub mod Read
+pub mod Followed
+pub mod Seen
+pub mod Numbered
+pub mod Members
+pub mod Entries
