@@ -1,0 +1,86 @@
+-- What tables are to what is visible.
+use Rattle.std.proofs.Common.{◌≡◌, ℕ, Bool, true, false, List, sym, subst}
+use Rattle.c_tree.specs.declared.kinds.Kind.{Kind}
+use Rattle.c_tree.specs.declared.kinds.Kind.TheVariants as k
+use Rattle.core_meaning.specs.Entities.{Struct, Scope}
+use Rattle.core_meaning.specs.Declarations.{with_block}
+use Rattle.type_tables.specs.Tables.{Tables}
+use Rattle.type_tables.specs.Steps.{entered}
+use Rattle.typed_scopes.specs.Follows.{StructFollows, Follows}
+use Rattle.typed_scopes.proofs.Blocks.{block_entered}
+use Rattle.statement_readings.specs.Walks.{State}
+use Rattle.cond_statements.specs.Declared.{FollowsBy, FollowsInBlockBy}
+use Rattle.cond_statements.specs.Readings.{Stand, is_quiet, Arrives}
+
+pub followed : (by : ℕ → ℕ) (t : Tables) (scope : Scope) → FollowsInBlockBy by t scope → FollowsBy by t scope
+followed by t scope f = record { follows = f.follows.follows; numbers = f.numbers }
+
+-- a block in which nothing is declared
+pub outer_followed : (by : ℕ → ℕ) (t : Tables) (scope : Scope) → FollowsInBlockBy by t (with_block scope) → FollowsBy by t scope
+outer_followed by t scope f =
+    let g : Follows t (with_block scope) = f.follows.follows in
+    record {
+      follows = record {
+        by = g.by;
+        apart = g.apart;
+        structs = g.structs;
+        tags = g.tags;
+        tagged = g.tagged;
+        names = g.names;
+        names_there = g.names_there;
+        locals = g.locals;
+        locals_there = g.locals_there;
+        within = g.within;
+      };
+      numbers = f.numbers;
+    }
+
+structs_entered : (by : ℕ → ℕ) (t : Tables) (structs : List Struct) (n : ℕ) (s : Struct) → StructFollows by t structs n s → StructFollows by (entered t) structs n s
+structs_entered by t structs n s is = record { declared = is.declared; complete = is.complete; members = is.members; numbers = is.numbers; there = is.there }
+
+-- the structs keep their numbers where a block is entered
+pub entered_followed : (by : ℕ → ℕ) (t : Tables) (scope : Scope) → FollowsBy by t scope → FollowsInBlockBy by (entered t) (with_block scope)
+entered_followed by t scope f =
+    let g : Follows t scope = f.follows in
+    record {
+      follows = record {
+        follows = record {
+          by = g.by;
+          apart = g.apart;
+          structs = λ n s e. structs_entered g.by t scope.structs n s (g.structs n s e);
+          tags = g.tags;
+          tagged = g.tagged;
+          names = g.names;
+          names_there = g.names_there;
+          locals = g.locals;
+          locals_there = g.locals_there;
+          within = (block_entered t scope g).follows.within;
+        };
+        innermost = (block_entered t scope g).innermost;
+      };
+      numbers = f.numbers;
+    }
+
+-- behind the first node
+pub later : (kind : Kind) (first : Bool) (by : ℕ → ℕ) (t : Tables) (scope : Scope) → Stand kind first by t scope → Stand kind false by t scope
+later k.Items first by t scope stand = stand
+later k.Block first by t scope stand = stand
+later k.For true by t scope stand = outer_followed by t scope stand
+later k.For false by t scope stand = stand
+later _ first by t scope stand = stand
+
+pub standing : (kind : Kind) (first : Bool) (by : ℕ → ℕ) (t : Tables) (scope : Scope) → Stand kind first by t scope → FollowsBy by t scope
+standing k.Items first by t scope stand = followed by t scope stand
+standing k.Block first by t scope stand = followed by t scope stand
+standing k.For true by t scope stand = outer_followed by t scope stand
+standing k.For false by t scope stand = stand
+standing _ first by t scope stand = stand
+
+-- neither the tables nor what is visible has changed
+pub still_there : (kind : Kind) (first : Bool) (by : ℕ → ℕ) (old new : Tables) (refused : Bool) (s t : State) → (t.refused ≡ false → new ≡ old) → (t.refused ≡ false → t.scope ≡ s.scope) → refused ≡ t.refused
+    → Stand kind first by old s.scope → Arrives kind first by old new refused t
+still_there kind first by old new refused s t same there is stand = record {
+  refused_is = is;
+  stands = λ e. subst (λ (u : Tables). Stand kind first by u t.scope) (sym (same e)) (subst (Stand kind first by old) (sym (there e)) stand);
+  same = λ q e. same e;
+}
