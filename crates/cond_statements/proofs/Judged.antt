@@ -3,6 +3,8 @@ use Rattle.std.proofs.Common.{◌≡◌, ℕ, Bool, true, false, not, ◌||◌, 
 use Rattle.std.specs.Prelude.{Option, Some, None}
 use Rattle.c_text.specs.Token.{PlainToken}
 use Rattle.c_types.specs.Types.{PlainType, void, char, unsigned_char, int, unsigned_int, long, unsigned_long, pointer_to, array_of, structure}
+use Rattle.c_tree.specs.declared.kinds.Kind.{Kind}
+use Rattle.c_tree.specs.declared.kinds.Kind.TheVariants as k
 use Rattle.c_tree.specs.Trees.{PlainTree}
 use Rattle.core_meaning.specs.declared.refusals.TypeKind.{TypeKind}
 use Rattle.core_meaning.specs.declared.refusals.TypeKind.TheVariants.{Misplaced, BadOperand}
@@ -25,7 +27,7 @@ use Rattle.statement_readings.specs.Walks.{Use, condition, discarded, returned, 
 use Rattle.statement_readings.specs.Walks as walks
 use Rattle.statement_readings.proofs.Steps.{same_then}
 use Rattle.cond_statements.specs.Ready.{IsExpression}
-use Rattle.cond_statements.specs.Results.{is_refused, return_refused, operand_refused}
+use Rattle.cond_statements.specs.Results.{is_refused, absence_refused, return_refused, operand_refused}
 
 outcome_refused : {A P : Type 0} (f : A → P) (m : judged.Checked A) → is_refused (outcome_as f m) ≡ walks.is_refused m
 outcome_refused f (judged.fine x bindings) = refl
@@ -64,6 +66,10 @@ same_void by unsigned_long = refl
 same_void by (pointer_to ty) = refl
 same_void by (array_of ty count) = refl
 same_void by (structure n) = refl
+
+pub same_absence : (by : ℕ → ℕ) (kind : Kind) (ty : PlainType) → absence_refused kind (renumbered by ty) ≡ absence_refused kind ty
+same_absence by k.Return ty = ap not (same_void by ty)
+same_absence by _ ty = refl
 
 placed_refused : {A : Type 0} (b c : Bool) (m : judged.Checked A) → c ≡ walks.is_refused m → (b || c) ≡ walks.is_refused (unless_so (not b) Misplaced semicolon >>= (λ placed. m))
 placed_refused true c m h = refl

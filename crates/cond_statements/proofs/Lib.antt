@@ -1,0 +1,10 @@
+pub mod Answering
+pub mod DerivedParts
+pub mod Standing
+pub mod Walking
+pub mod Choices
+pub mod KindsOfNodes
+pub mod Nodes
+pub mod Judged
+pub mod Refusals
+pub mod Locals

@@ -19,12 +19,12 @@ use Rattle.typed_scopes.specs.Follows.{FollowsInBlock}
 use Rattle.cond_statements.specs.declared.roles.Role.{Role}
 use Rattle.cond_statements.specs.declared.roles.Role.TheVariants.{LeftOut, Declaration, Scoped, Parts, Jump, Expression}
 use Rattle.cond_statements.specs.Roles.{role_of}
-use Rattle.cond_statements.specs.Declared.{FollowsBy, FollowsInBlockBy, Declared}
+use Rattle.cond_statements.specs.Following.{FollowsBy, FollowsInBlockBy, Declared}
 use Rattle.cond_statements.specs.Ready.{may_declare, has_items, IsDerived, IsExpression, NodeReady, Ready}
 use Rattle.cond_statements.specs.Results.{absence_refused}
 use Rattle.cond_statements.specs.Readings.{first_behind, Stand, is_quiet, Arrives, Reads, ReadsBlock}
 use Rattle.cond_statements.proofs.Standing.{followed, later, standing, still_there}
-use Rattle.cond_statements.proofs.Roles.{opened, Opens, Quiet, Partwise, listed, quietly, IsRead, Plays, plays_role}
+use Rattle.cond_statements.proofs.KindsOfNodes.{opened, Opens, Quiet, Partwise, listed, quietly, IsRead, Plays, plays_role}
 
 -- ---- what is visible behind a node
 

@@ -9,7 +9,7 @@ use Rattle.type_tables.specs.Steps.{entered}
 use Rattle.typed_scopes.specs.Follows.{StructFollows, Follows}
 use Rattle.typed_scopes.proofs.Blocks.{block_entered}
 use Rattle.statement_readings.specs.Walks.{State}
-use Rattle.cond_statements.specs.Declared.{FollowsBy, FollowsInBlockBy}
+use Rattle.cond_statements.specs.Following.{FollowsBy, FollowsInBlockBy}
 use Rattle.cond_statements.specs.Readings.{Stand, is_quiet, Arrives}
 
 pub followed : (by : ℕ → ℕ) (t : Tables) (scope : Scope) → FollowsInBlockBy by t scope → FollowsBy by t scope

@@ -1,4 +1,4 @@
-pub mod Declared
+pub mod Following
 pub mod Roles
 pub mod Uses
 pub mod Results

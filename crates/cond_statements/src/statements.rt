@@ -9,7 +9,7 @@ ghost use Rattle.conditional.specs.Entries.{alternatives, Stands};
 ghost use Rattle.choice_trees.specs.ChoiceTrees.{plain_item, plain_branches, plain_choices, with_part, item_at, branch_at, parts_at};
 ghost use Rattle.type_tables.specs.Forms.{declared_type_form};
 ghost use Rattle.type_tables.specs.Seen.{seen_tables};
-ghost use Rattle.cond_statements.specs.Declared.{OnlyLocals};
+ghost use Rattle.cond_statements.specs.Following.{OnlyLocals};
 ghost use Rattle.cond_statements.specs.Results.{absence_refused};
 ghost use Rattle.cond_statements.specs.Readings.{turned_behind, Reads, ReadsBlock, Walks};
 
@@ -19,7 +19,7 @@ use crate::expressions::read_expression_part;
 use crate::results::where_absence_refused;
 use crate::roles::{Role, is_loop, role_of};
 use crate::uses::{is_operand, turns};
-use crate::walks::{Walk, never};
+use crate::walks::{Walk, both_of, never};
 use c_text::Token;
 use c_tree::Kind;
 use choice_trees::{Choice, Item};
@@ -98,7 +98,7 @@ fn read_choice<D: Declarations, O: Oracle>(
 {
     let mut rest = when.try_clone(alloc)?;
     for (condition, item) in &choice.branches {
-        let here = both(alloc, rest.try_clone(alloc)?, condition.try_clone(alloc)?)?;
+        let here = both_of(alloc, &rest, condition)?;
         read_alternative(alloc, oracle, tables, declarations, returns, around, &here, item, walk)?;
         rest = without(alloc, rest, condition)?;
     }

@@ -1,9 +1,9 @@
 //! What a walk over the parts of a node carries along.
-ghost use Rattle.std.specs.Prelude.{◌≡◌, ℕ, Bool, false, ◌||◌, OnOk, IfOk};
+ghost use Rattle.std.specs.Prelude.{◌≡◌, ℕ, Bool, false, ◌&&◌, ◌||◌, OnOk, IfOk};
 ghost use Rattle.cond_formula.specs.Conditions.{condition_of, value};
 
 use cond_formula::{Formula, NoMemory};
-use reduced_conditions::either;
+use reduced_conditions::{both, either};
 use std::alloc::Global;
 use std::mem;
 
@@ -22,6 +22,13 @@ pub(crate) fn never() -> Result<Formula, NoMemory>
     ensures { IfOk result (λ f. (on : ℕ → Bool) → value on (condition_of f) ≡ false) }
 {
     Ok(Formula::False)
+}
+
+/// Where both conditions are true, which stay as they are.
+pub(crate) fn both_of(alloc: Global, a: &Formula, b: &Formula) -> Result<Formula, NoMemory>
+    ensures { IfOk result (λ f. (on : ℕ → Bool) → value on (condition_of f) ≡ (value on (condition_of a.now) && value on (condition_of b.now))) }
+{
+    both(alloc, a.try_clone(alloc)?, b.try_clone(alloc)?)
 }
 
 impl Walk {

@@ -13,7 +13,7 @@ use Rattle.type_tables.specs.Steps.{entered}
 use Rattle.cond_statements.specs.declared.roles.Role.{Role}
 use Rattle.cond_statements.specs.declared.roles.Role.TheVariants.{LeftOut, Declaration, Scoped, Parts, Jump, Expression}
 use Rattle.cond_statements.specs.Roles.{role_of}
-use Rattle.cond_statements.specs.Declared.{FollowsBy, FollowsInBlockBy}
+use Rattle.cond_statements.specs.Following.{FollowsBy, FollowsInBlockBy}
 use Rattle.cond_statements.specs.Ready.{may_declare, has_items, IsExpression, NodeReady, Ready}
 use Rattle.cond_statements.specs.Readings.{Stand, is_quiet}
 use Rattle.cond_statements.proofs.Standing.{followed, entered_followed}
