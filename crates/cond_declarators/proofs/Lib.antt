@@ -1,0 +1,4 @@
+pub mod Placing
+pub mod WordTypes
+pub mod DeclaratorTypes
+pub mod There

@@ -1,0 +1,10 @@
+//! The types that declarations give names, in all configurations at once: by their words and by their declarators (ISO/IEC 9899:2011, 6.7.2,
+//! 6.7.6). What a word or declarator names is said by the definitions of one configuration, in any scope that the tables follow.
+#![tactic(auto)]
+
+mod bases;
+mod laws;
+mod shown;
+
+pub use bases::base_of;
+pub use laws::types_are_there;
