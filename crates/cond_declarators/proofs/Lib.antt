@@ -1,4 +1,5 @@
 pub mod Placing
 pub mod WordTypes
+pub mod Counting
 pub mod DeclaratorTypes
 pub mod There

@@ -3,8 +3,11 @@
 #![tactic(auto)]
 
 mod bases;
+mod elements;
 mod laws;
+mod objects;
 mod shown;
 
 pub use bases::base_of;
 pub use laws::types_are_there;
+pub use objects::object_types;
