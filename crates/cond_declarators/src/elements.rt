@@ -43,10 +43,7 @@ impl Judgement<Count, Count, Refused> for WithinLimit {
 }
 
 /// The numbers without the refusals.
-fn without_refusals(
-    alloc: Global,
-    numbers: Outcomes<Count, Refused>,
-) -> Outcomes<Count, Refused>
+fn without_refusals(alloc: Global, numbers: Outcomes<Count, Refused>) -> Outcomes<Count, Refused>
     ensures { (on : ℕ → Bool) (n : ℕ) → ShowsCount on (fine n) numbers → ShowsCount on (fine n) result }
 {
     let Outcomes { fine, refused: _ } = numbers;
@@ -97,10 +94,7 @@ fn counts_without_size<O: Oracle>(
 }
 
 /// The size of an array, which is the same in each configuration.
-fn counts_of_size(
-    alloc: Global,
-    size: Option<&Tree>,
-) -> Result<Outcomes<Count, Refused>, NoMemory>
+fn counts_of_size(alloc: Global, size: Option<&Tree>) -> Result<Outcomes<Count, Refused>, NoMemory>
     ensures { IfOk result (λ all. (on : ℕ → Bool) (scope : Scope) (name : PlainToken)
         → ShowsCount on (outcome_as (λ (n : ℕ). n) (spec.count_of_size scope name (option_map (λ t. plain_tree t.now) size.entry))) all) }
 {

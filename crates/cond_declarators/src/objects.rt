@@ -88,7 +88,13 @@ fn array_types<O: Oracle>(
 {
     let element = starred(alloc, parts, base)?;
     let size = behind_word(parts, Terminal::OpenBracket);
-    let counts = element_counts(alloc, oracle, is_character_type(&element), size, initialiser)?;
+    let counts = element_counts(
+        alloc,
+        oracle,
+        is_character_type(&element),
+        size,
+        initialiser,
+    )?;
     let arrays = arrays_of(alloc, tables, &element, counts)?;
     Ok(arrays)
 }
@@ -176,8 +182,14 @@ fn types_of_each<O: Oracle>(
 {
     let mut all = Outcomes::nothing(alloc);
     for base in bases {
-        let types =
-            types_of_declarator(alloc, oracle, tables, &base.what.ty, declarator, initialiser)?;
+        let types = types_of_declarator(
+            alloc,
+            oracle,
+            tables,
+            &base.what.ty,
+            declarator,
+            initialiser,
+        )?;
         all.place_under(alloc, &base.when, &types)?;
     }
     Ok(all)
