@@ -17,7 +17,7 @@ ghost use Rattle.typed_scopes.specs.Follows.{Follows};
 ghost use Rattle.cond_declarators.specs.Types.{ShowsType, based_in, base_type};
 ghost use Rattle.cond_declarators.specs.Elements.{struct_if_any};
 
-use crate::shown::{place_possible, refused_everywhere};
+use crate::shown::refused_everywhere;
 use c_tree::{Terminal, Tree};
 use c_types::CType;
 use choice_expansions::{Expansion, expansions};
@@ -54,8 +54,8 @@ fn types_of_struct<O: Oracle>(
     let mut all = Outcomes::nothing(alloc);
     let declared = tables.where_declared(alloc, number)?;
     let elsewhere = Formula::not(alloc, declared.try_clone(alloc)?)?;
-    place_possible(alloc, oracle, &mut all, declared, Ok(struct_type(number)))?;
-    place_possible(alloc, oracle, &mut all, elsewhere, Err(Refused))?;
+    all.place_possible(alloc, oracle, declared, Ok(struct_type(number)))?;
+    all.place_possible(alloc, oracle, elsewhere, Err(Refused))?;
     Ok(all)
 }
 

@@ -15,7 +15,7 @@ ghost use Rattle.operand_rules.specs.PlainOperandTypes.{reason};
 ghost use Rattle.cond_sizes.specs.Sizes.{plain_count, given, ShowsCount};
 ghost use Rattle.cond_declarators.specs.Elements.{within_limit};
 
-use crate::shown::{everywhere, place_possible, refused_everywhere};
+use crate::shown::{everywhere, refused_everywhere};
 use c_tree::Tree;
 use choice_trees::Item;
 use cond_formula::{Formula, NoMemory, Oracle};
@@ -68,7 +68,7 @@ fn counts_or_one<O: Oracle>(
     let counts = without_refusals(alloc, numbers);
     let mut all = Outcomes::nothing(alloc);
     all.place_under(alloc, &some, &counts)?;
-    place_possible(alloc, oracle, &mut all, none, Ok(Count { elements: 1 }))?;
+    all.place_possible(alloc, oracle, none, Ok(Count { elements: 1 }))?;
     Ok(all)
 }
 

@@ -17,7 +17,7 @@ returns-clause-shows g c = λ n admitted.
     let elsewhere = c.in_ok-elsewhere.ensures.holds (has n) ∙ ap (λ (k : Condition). not (value (has n) k)) c.in_ok-try_clone.ensures in
     let here = c.in_ok-declared.ensures (has n) in
     one_placed declared_type_form reason (has n) (condition_of c.in_ok-declared.declared) (condition_of c.in_ok-elsewhere.elsewhere)
-    (struct_if_any (where_declared (seen_tables (has n) c.args.tables.now) (Some c.args.number))) c.nothing-all.result c.place_possible.new.all c.place_possible-2.new.all
+    (struct_if_any (where_declared (seen_tables (has n) c.args.tables.now) (Some c.args.number))) c.nothing-all.result c.place_possible.new.self c.place_possible-2.new.self
     (fine (declared_type_form c.struct_type.result)) (refused tt) elsewhere
     (c.nothing-all.ensures (has n) (struct_if_any (where_declared (seen_tables (has n) c.args.tables.now) (Some c.args.number))))
     (c.in_ok-place_possible.ensures.judges n admitted)
