@@ -111,10 +111,7 @@ pub fn count_of_tree(alloc: Global, size: &Tree) -> Result<Result<Count, Refused
 }
 
 /// What comes of the sizes, each where its condition is true.
-fn counts_of(
-    alloc: Global,
-    expansions: &[Expansion],
-) -> Result<Outcomes<Count, Refused>, NoMemory>
+fn counts_of(alloc: Global, expansions: &[Expansion]) -> Result<Outcomes<Count, Refused>, NoMemory>
     ensures { IfOk result (λ all. (on : ℕ → Bool) (tree : PlainTree) → Stands on tree (expanded expansions.now) → (visible : entities.Scope) (other : PlainToken)
         → ShowsCount on (outcome_as (λ (n : ℕ). n) (judged_count visible tree other)) all) }
 {

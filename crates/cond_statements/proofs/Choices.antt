@@ -62,9 +62,12 @@ module _ (on : ℕ → Bool) (result : PlainType) (results : List (Entry PlainTy
       (subst (λ b. Steps (more tree none) b old new refused refused_now turned turned_now) (is ∙ sym before.0)
       (changed (more tree none) here old mid new refused refused_mid refused_now turned turned_mid turned_now before.2 x)))
   choice_goes_on true false here after when all later tree old mid new refused refused_mid refused_now turned turned_mid turned_now is then_is before x =
-      subst (λ b. ChoiceSoFar b when all later old new refused refused_now turned turned_now) (sym then_is)
-      (before.0, before.1, both_unchanged old mid new refused refused_mid refused_now turned turned_mid turned_now before.2
-      (unchanged on result results in_loop kind (more tree none) here mid new refused_mid refused_now turned_mid turned_now is x))
+      subst (λ b. ChoiceSoFar b when all later old new refused refused_now turned turned_now) (sym then_is) (
+        before.0,
+        before.1,
+        both_unchanged old mid new refused refused_mid refused_now turned turned_mid turned_now before.2
+            (unchanged on result results in_loop kind (more tree none) here mid new refused_mid refused_now turned_mid turned_now is x),
+      )
 
   -- the `;` that stands for a statement
   semicolon_read : (needed when : Bool) (t : Tables) (refused turned : Bool) → Steps (with_part needed None none) when t t refused refused turned turned

@@ -91,13 +91,13 @@ module _ (by : ℕ → ℕ) (scope : Scope) (kept : OperatorsKeepTypes by scope)
       (λ x. ap is_refused (sym (kept.loads semicolon x)) ∙ outcome_refused (Rattle.operand_types.specs.Laws.value_type by scope) (loaded scope x))
   use_refused returned ty tree =
       let fits : is_refused (bind (operand_seen by scope (expressions.judged scope tree)) (fitted_type semicolon (renumbered by ty)))
-          ≡ walks.is_refused (expressions.judged scope tree >>= (λ x. loaded scope x >>= (λ y. found_or (fits_into ty y) BadOperand semicolon))) =
-          seen_refused (expressions.judged scope tree) (λ x. passed scope ty x semicolon) (fitted_type semicolon (renumbered by ty))
-          (λ x. ap is_refused (sym (kept.fits semicolon semicolon ty x)) ∙ outcome_refused (λ a. tt) (passed scope ty x semicolon)) in
+      ≡ walks.is_refused (expressions.judged scope tree >>= (λ x. loaded scope x >>= (λ y. found_or (fits_into ty y) BadOperand semicolon))) =
+      seen_refused (expressions.judged scope tree) (λ x. passed scope ty x semicolon) (fitted_type semicolon (renumbered by ty))
+      (λ x. ap is_refused (sym (kept.fits semicolon semicolon ty x)) ∙ outcome_refused (λ a. tt) (passed scope ty x semicolon)) in
       let steps : walks.is_refused (expressions.judged scope tree >>= (λ x. loaded scope x >>= (λ y. found_or (fits_into ty y) BadOperand semicolon)))
-          ≡ walks.is_refused (valued scope tree >>= (λ y. found_or (fits_into ty y) Misplaced semicolon)) =
-          in_steps (expressions.judged scope tree) (loaded scope) (λ y. found_or (fits_into ty y) BadOperand semicolon) (λ y. found_or (fits_into ty y) Misplaced semicolon)
-          (λ y. found_refused (fits_into ty y) BadOperand Misplaced semicolon) in
+      ≡ walks.is_refused (valued scope tree >>= (λ y. found_or (fits_into ty y) Misplaced semicolon)) =
+      in_steps (expressions.judged scope tree) (loaded scope) (λ y. found_or (fits_into ty y) BadOperand semicolon) (λ y. found_or (fits_into ty y) Misplaced semicolon)
+      (λ y. found_refused (fits_into ty y) BadOperand Misplaced semicolon) in
       ap (λ b. b || is_refused (bind (operand_seen by scope (expressions.judged scope tree)) (fitted_type semicolon (renumbered by ty)))) (same_void by ty)
       ∙ placed_refused (is_void ty) (is_refused (bind (operand_seen by scope (expressions.judged scope tree)) (fitted_type semicolon (renumbered by ty))))
       (valued scope tree >>= (λ y. found_or (fits_into ty y) Misplaced semicolon)) (fits ∙ steps)

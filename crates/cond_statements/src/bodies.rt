@@ -52,7 +52,16 @@ pub fn read_body<D: Declarations, O: Oracle>(
 {
     match body {
         Item::Leaf(_, _) => never(),
-        Item::Node(kind, parts) => read_block(alloc, oracle, tables, declarations, returns, when, *kind, parts),
+        Item::Node(kind, parts) => read_block(
+            alloc,
+            oracle,
+            tables,
+            declarations,
+            returns,
+            when,
+            *kind,
+            parts,
+        ),
     }
 }
 
@@ -84,7 +93,16 @@ fn read_block<D: Declarations, O: Oracle>(
         in_loop: false,
         kind,
     };
-    let refused = read_parts(alloc, oracle, tables, declarations, returns, around, when, parts)?;
+    let refused = read_parts(
+        alloc,
+        oracle,
+        tables,
+        declarations,
+        returns,
+        around,
+        when,
+        parts,
+    )?;
     close_block(tables, locals, depth);
     Ok(refused)
 }

@@ -28,10 +28,7 @@ use std::alloc::Global;
 use type_tables::DeclaredType;
 
 /// Where a judgement is refused.
-fn where_refused<T: Plain>(
-    alloc: Global,
-    all: &Outcomes<T, Refused>,
-) -> Result<Formula, NoMemory>
+fn where_refused<T: Plain>(alloc: Global, all: &Outcomes<T, Refused>) -> Result<Formula, NoMemory>
     ensures { IfOk result (λ f. (on : ℕ → Bool) (x : Checked T.Form (Unit {0})) → Shows T.form reason on true x all.now → value on (condition_of f) ≡ is_refused x) }
 {
     when_some_hold(alloc, &all.refused.entries)

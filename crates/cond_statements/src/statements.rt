@@ -67,11 +67,21 @@ pub(crate) fn read_parts<D: Declarations, O: Oracle>(
     ensures outside { OnOk result (OnlyLocals tables.old tables.new) }
     ensures reads { IfOk result (λ f. (c : List Bool) (ty : PlainType) → IsTrue (value (has c) (O.admits oracle.old))
         → Reads (has c) ty (alternatives declared_type_form returns.now) around.in_loop around.kind false (parts_at (has c) around.kind 0 (plain_choices parts.now))
-            (value (has c) (condition_of when.now)) (seen_tables (has c) tables.old) (seen_tables (has c) tables.new) (value (has c) (condition_of f))) }
+        (value (has c) (condition_of when.now)) (seen_tables (has c) tables.old) (seen_tables (has c) tables.new) (value (has c) (condition_of f))) }
 {
     let mut walk = Walk::new();
     for part in parts {
-        read_choice(alloc, oracle, tables, declarations, returns, around, when, part, &mut walk)?;
+        read_choice(
+            alloc,
+            oracle,
+            tables,
+            declarations,
+            returns,
+            around,
+            when,
+            part,
+            &mut walk,
+        )?;
     }
     Ok(walk.refused)
 }
@@ -93,13 +103,23 @@ fn read_choice<D: Declarations, O: Oracle>(
     ensures outside { OnOk result (OnlyLocals tables.old tables.new) }
     ensures walks { OnOk result ((c : List Bool) (ty : PlainType) (needed : Bool) → IsTrue (value (has c) (O.admits oracle.old))
         → Walks (has c) ty (alternatives declared_type_form returns.now) around.in_loop around.kind (with_part needed (branch_at (has c) (plain_branches choice.now.branches.items)) none)
-            (value (has c) (condition_of when.now)) (seen_tables (has c) tables.old) (seen_tables (has c) tables.new) (value (has c) (condition_of walk.old.refused)) (value (has c) (condition_of walk.new.refused))
-            (value (has c) (condition_of walk.old.turned)) (value (has c) (condition_of walk.new.turned))) }
+        (value (has c) (condition_of when.now)) (seen_tables (has c) tables.old) (seen_tables (has c) tables.new) (value (has c) (condition_of walk.old.refused)) (value (has c) (condition_of walk.new.refused))
+        (value (has c) (condition_of walk.old.turned)) (value (has c) (condition_of walk.new.turned))) }
 {
     let mut rest = when.try_clone(alloc)?;
     for (condition, item) in &choice.branches {
         let here = both_of(alloc, &rest, condition)?;
-        read_alternative(alloc, oracle, tables, declarations, returns, around, &here, item, walk)?;
+        read_alternative(
+            alloc,
+            oracle,
+            tables,
+            declarations,
+            returns,
+            around,
+            &here,
+            item,
+            walk,
+        )?;
         rest = without(alloc, rest, condition)?;
     }
     Ok(())
@@ -122,10 +142,20 @@ fn read_alternative<D: Declarations, O: Oracle>(
     ensures outside { OnOk result (OnlyLocals tables.old tables.new) }
     ensures walks { OnOk result ((c : List Bool) (ty : PlainType) → IsTrue (value (has c) (O.admits oracle.old))
         → Walks (has c) ty (alternatives declared_type_form returns.now) around.in_loop around.kind (more (item_at (has c) (plain_item item.now)) none)
-            (value (has c) (condition_of when.now)) (seen_tables (has c) tables.old) (seen_tables (has c) tables.new) (value (has c) (condition_of walk.old.refused)) (value (has c) (condition_of walk.new.refused))
-            (value (has c) (condition_of walk.old.turned)) (value (has c) (condition_of walk.new.turned))) }
+        (value (has c) (condition_of when.now)) (seen_tables (has c) tables.old) (seen_tables (has c) tables.new) (value (has c) (condition_of walk.old.refused)) (value (has c) (condition_of walk.new.refused))
+        (value (has c) (condition_of walk.old.turned)) (value (has c) (condition_of walk.new.turned))) }
 {
-    let found = read_item(alloc, oracle, tables, declarations, returns, around, when, &walk.turned, item)?;
+    let found = read_item(
+        alloc,
+        oracle,
+        tables,
+        declarations,
+        returns,
+        around,
+        when,
+        &walk.turned,
+        item,
+    )?;
     walk.refuse(alloc, found)?;
     turn_at(alloc, around.kind, when, item, walk)
 }
@@ -184,11 +214,25 @@ fn read_item<D: Declarations, O: Oracle>(
     ensures outside { OnOk result (OnlyLocals tables.old tables.new) }
     ensures reads { IfOk result (λ f. (c : List Bool) (ty : PlainType) → IsTrue (value (has c) (O.admits oracle.old))
         → Reads (has c) ty (alternatives declared_type_form returns.now) around.in_loop around.kind (value (has c) (condition_of turned.now)) (more (item_at (has c) (plain_item item.now)) none)
-            (value (has c) (condition_of when.now)) (seen_tables (has c) tables.old) (seen_tables (has c) tables.new) (value (has c) (condition_of f))) }
+        (value (has c) (condition_of when.now)) (seen_tables (has c) tables.old) (seen_tables (has c) tables.new) (value (has c) (condition_of f))) }
 {
     match item {
-        Item::Leaf(_, token) => read_token(alloc, oracle, tables, returns, around, when, turned, token, item),
-        Item::Node(kind, parts) => read_node(alloc, oracle, tables, declarations, returns, around, when, turned, *kind, parts, item),
+        Item::Leaf(_, token) => read_token(
+            alloc, oracle, tables, returns, around, when, turned, token, item,
+        ),
+        Item::Node(kind, parts) => read_node(
+            alloc,
+            oracle,
+            tables,
+            declarations,
+            returns,
+            around,
+            when,
+            turned,
+            *kind,
+            parts,
+            item,
+        ),
     }
 }
 
@@ -207,10 +251,19 @@ fn read_token<O: Oracle>(
     ensures kept { O.admits oracle.new ≡ O.admits oracle.old }
     ensures reads { IfOk result (λ f. (c : List Bool) (ty : PlainType) → IsTrue (value (has c) (O.admits oracle.old)) → item_at (has c) (plain_item item.now) ≡ leaf (plain_token token.now)
         → Reads (has c) ty (alternatives declared_type_form returns.now) around.in_loop around.kind (value (has c) (condition_of turned.now)) (more (leaf (plain_token token.now)) none)
-            (value (has c) (condition_of when.now)) (seen_tables (has c) tables.now) (seen_tables (has c) tables.now) (value (has c) (condition_of f))) }
+        (value (has c) (condition_of when.now)) (seen_tables (has c) tables.now) (seen_tables (has c) tables.now) (value (has c) (condition_of f))) }
 {
     if is_operand(token) {
-        read_expression_part(alloc, oracle, tables, returns, around.kind, when, turned, item)
+        read_expression_part(
+            alloc,
+            oracle,
+            tables,
+            returns,
+            around.kind,
+            when,
+            turned,
+            item,
+        )
     } else {
         never()
     }
@@ -236,15 +289,42 @@ fn read_node<D: Declarations, O: Oracle>(
     ensures reads { IfOk result (λ f. (c : List Bool) (ty : PlainType) → IsTrue (value (has c) (O.admits oracle.old))
         → item_at (has c) (plain_item item.now) ≡ node kind (parts_at (has c) kind 0 (plain_choices parts.now))
         → Reads (has c) ty (alternatives declared_type_form returns.now) around.in_loop around.kind (value (has c) (condition_of turned.now)) (more (node kind (parts_at (has c) kind 0 (plain_choices parts.now))) none)
-            (value (has c) (condition_of when.now)) (seen_tables (has c) tables.old) (seen_tables (has c) tables.new) (value (has c) (condition_of f))) }
+        (value (has c) (condition_of when.now)) (seen_tables (has c) tables.old) (seen_tables (has c) tables.new) (value (has c) (condition_of f))) }
 {
     match role_of(kind) {
         Role::LeftOut => read_absence(alloc, around.kind, returns, when),
         Role::Declaration => declarations.declare(alloc, oracle, tables, when, parts),
-        Role::Scoped => read_scoped(alloc, oracle, tables, declarations, returns, around.inside(kind), when, parts),
-        Role::Parts => read_parts(alloc, oracle, tables, declarations, returns, around.inside(kind), when, parts),
+        Role::Scoped => read_scoped(
+            alloc,
+            oracle,
+            tables,
+            declarations,
+            returns,
+            around.inside(kind),
+            when,
+            parts,
+        ),
+        Role::Parts => read_parts(
+            alloc,
+            oracle,
+            tables,
+            declarations,
+            returns,
+            around.inside(kind),
+            when,
+            parts,
+        ),
         Role::Jump => read_jump(alloc, around.in_loop, when),
-        Role::Expression => read_expression_part(alloc, oracle, tables, returns, around.kind, when, turned, item),
+        Role::Expression => read_expression_part(
+            alloc,
+            oracle,
+            tables,
+            returns,
+            around.kind,
+            when,
+            turned,
+            item,
+        ),
     }
 }
 
@@ -265,12 +345,21 @@ fn read_scoped<D: Declarations, O: Oracle>(
     ensures same { OnOk result ((on : ℕ → Bool) → seen_tables on tables.new ≡ seen_tables on tables.old) }
     ensures reads { IfOk result (λ f. (c : List Bool) (ty : PlainType) → IsTrue (value (has c) (O.admits oracle.old))
         → ReadsBlock (has c) ty (alternatives declared_type_form returns.now) around.in_loop around.kind (parts_at (has c) around.kind 0 (plain_choices parts.now))
-            (value (has c) (condition_of when.now)) (seen_tables (has c) tables.old) (value (has c) (condition_of f))) }
+        (value (has c) (condition_of when.now)) (seen_tables (has c) tables.old) (value (has c) (condition_of f))) }
 {
     let locals = tables.locals.len();
     let depth = tables.depth;
     open_block(tables)?;
-    let refused = read_parts(alloc, oracle, tables, declarations, returns, around, when, parts)?;
+    let refused = read_parts(
+        alloc,
+        oracle,
+        tables,
+        declarations,
+        returns,
+        around,
+        when,
+        parts,
+    )?;
     close_block(tables, locals, depth);
     Ok(refused)
 }
