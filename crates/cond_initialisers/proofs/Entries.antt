@@ -1,28 +1,26 @@
 -- The entries of a list, part by part.
-use Rattle.std.proofs.Common.{◌≡◌, ℕ, zero, suc, ◌+◌, ◌<◌, ◌≤◌, Bool, true, false, not, List, [], ◌∷◌, ◌++◌, length, get_or, drop, append_assoc, append-nil, refl, sym, ap, subst, ◌∙◌}
-use Rattle.std.specs.Prelude.{◌&&◌, ◌||◌, map, Option, Some, None, if◌then◌else◌}
+use Rattle.std.proofs.Common.{◌≡◌, ℕ, suc, ◌+◌, ◌<◌, ◌≤◌, Bool, true, false, not, List, [], ◌∷◌, ◌++◌, length, get_or, drop, append_assoc, append-nil, refl, sym, ap, ◌∙◌}
+use Rattle.std.specs.Prelude.{◌&&◌, Option, Some, None, if◌then◌else◌}
 use Rattle.std.proofs.lemmas.List.{drop_all, map-append}
 use Rattle.cond_formula.specs.declared.formulas.Formula.{Formula}
-use Rattle.cond_formula.specs.Conditions.{Condition, condition_of, value}
-use Rattle.conditional.specs.declared.entries.Guarded.{Guarded}
-use Rattle.conditional.specs.Entries.{seen, under}
+use Rattle.cond_formula.specs.Conditions.{condition_of, value}
+use Rattle.conditional.specs.Entries.{under}
 use Rattle.conditional.proofs.ListLaws.{item_of}
 use Rattle.c_types.specs.declared.types.CType.{CType}
 use Rattle.c_types.specs.Types.{PlainType, plain_type}
 use Rattle.c_tree.specs.declared.kinds.Kind.{Kind}
 use Rattle.c_tree.specs.declared.kinds.Kind.TheVariants as k
-use Rattle.c_tree.specs.Trees.{PlainTree, PlainTrees, leaf, node, none, more}
+use Rattle.c_tree.specs.Trees.{PlainTree, PlainTrees, leaf, node, none}
 use Rattle.choice_trees.specs.declared.trees.Choice.{Choice}
 use Rattle.choice_trees.specs.declared.trees.Item.{Item}
-use Rattle.choice_trees.specs.ChoiceTrees.{PlainItem, PlainChoices, no_choice, choice, plain_item, plain_branches, plain_choices, with_part, item_at, parts_at, branch_at}
+use Rattle.choice_trees.specs.ChoiceTrees.{PlainChoices, no_choice, choice, plain_item, plain_branches, plain_choices, with_part, item_at, parts_at, branch_at}
 use Rattle.expression_types.specs.Known.{Known}
 use Rattle.expression_types.specs.Reading.{is_operand}
 use Rattle.cond_initialisers.specs.declared.shapes.Shape.{Shape}
 use Rattle.cond_initialisers.specs.declared.shapes.Shape.TheVariants.{Braces, List as AList, Texts, Expression}
-use Rattle.cond_initialisers.specs.declared.rows.Row.{Row}
 use Rattle.cond_initialisers.specs.Shapes.{shape_of}
-use Rattle.cond_initialisers.specs.Refusals.{RefusedFor, is_entry, alone, as_text, parts_of, in_pairs, some_refused, refuses, entries_in, one_entry}
-use Rattle.cond_initialisers.specs.Rows.{plain_types, asked_for, asked_each, row, rows}
+use Rattle.cond_initialisers.specs.Refusals.{RefusedFor, is_entry, alone, refuses, entries_in, one_entry}
+use Rattle.cond_initialisers.specs.Rows.{plain_types, asked_for, asked_each}
 
 -- ---- shapes
 

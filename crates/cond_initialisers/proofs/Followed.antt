@@ -1,7 +1,6 @@
 -- Tables that follow a scope have the members of its structs.
 use Rattle.std.proofs.Common.{◌≡◌, ℕ, Bool, true, false, List, [], ◌∷◌, refl, sym, ap, subst, ◌∙◌}
 use Rattle.std.specs.Prelude.{map, Some, slice_get, if◌then◌else◌}
-use Rattle.c_types.specs.Types.{PlainType}
 use Rattle.c_types.specs.Tags.{PlainMember}
 use Rattle.core_meaning.specs.Entities.{Struct, Scope}
 use Rattle.operand_types.specs.OperandTypes.{renumbered}

@@ -6,7 +6,6 @@ use Rattle.conditional.specs.declared.entries.Guarded.{Guarded}
 use Rattle.conditional.specs.Entries.{entries_of, seen, under}
 use Rattle.conditional.proofs.ListLaws.{copied_step, copied_end}
 use Rattle.c_types.specs.Types.{PlainType, plain_type}
-use Rattle.c_types.specs.Tags.{PlainMember}
 use Rattle.type_tables.specs.Forms.{member_form}
 use Rattle.type_tables.specs.declared.entries.Member.{Member}
 use Rattle.type_tables.specs.declared.entries.CondStruct.{CondStruct}

@@ -1,13 +1,13 @@
 -- Types by their numbers.
 use Rattle.std.proofs.Common.{arith, ◌≡◌, ℕ, zero, suc, ◌+◌, ◌<◌, ◌≤◌, Bool, true, false, List, [], ◌∷◌, ◌++◌, length, get_or, drop, replicate, refl, sym, ap, subst, ◌∙◌}
-use Rattle.std.specs.Prelude.{◌&&◌, ◌||◌, map, Option, Some, None, option_map, slice_get, if◌then◌else◌}
+use Rattle.std.specs.Prelude.{◌||◌, map, Option, Some, slice_get, if◌then◌else◌}
 use Rattle.c_types.specs.declared.types.CType.{CType}
 use Rattle.c_types.specs.Types.{PlainType, plain_type}
 use Rattle.cond_formula.specs.Conditions.{condition_of, value}
 use Rattle.conditional.specs.declared.entries.Guarded.{Guarded}
-use Rattle.conditional.specs.Entries.{Entry, entries_of, seen, under}
+use Rattle.conditional.specs.Entries.{entries_of, seen, under}
 use Rattle.cond_initialisers.specs.Refusals.{RefusedFor, in_pairs, some_refused}
-use Rattle.cond_initialisers.specs.Rows.{plain_types, asked_for, asked_each, some_row, rows_in_pairs}
+use Rattle.cond_initialisers.specs.Rows.{plain_types, asked_each, some_row, rows_in_pairs}
 use Rattle.cond_initialisers.specs.Places.{Extends, AreNumbered}
 
 head_same : {A : Type 0} (x y : A) (xs ys : List A) → x ∷ xs ≡ y ∷ ys → x ≡ y

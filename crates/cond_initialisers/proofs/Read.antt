@@ -1,9 +1,9 @@
 -- Initialisers are refused entry by entry exactly where what they give is refused.
 use Rattle.std.proofs.Common.{arith, ◌≡◌, ℕ, zero, suc, ◌+◌, ◌-◌, ◌<◌, ◌≤◌, Bool, true, false, List, [], ◌∷◌, ◌++◌, refl, sym, ap, subst, ◌∙◌}
 use Rattle.std.specs.Prelude.{IsTrue, ◌||◌, ◌==◌, nat_le, nat_lt, map, length, replicate, Option, Some, None, option_map, slice_get, if◌then◌else◌}
-use Rattle.std.proofs.lemmas.Bool.{false≢true, eq-eqb, ne_eqb, ltb-true, ltb-false, lt-ltb, le-ltb}
+use Rattle.std.proofs.lemmas.Bool.{false≢true, eq-eqb, ne_eqb, ltb-true, ltb-false}
 use Rattle.c_text.specs.Token.{PlainToken}
-use Rattle.c_types.specs.Types.{PlainType, void, char, unsigned_char, int, unsigned_int, long, unsigned_long, pointer_to, array_of, structure}
+use Rattle.c_types.specs.Types.{PlainType, char, unsigned_char, array_of, structure}
 use Rattle.c_types.specs.Tags.{PlainMember}
 use Rattle.c_tree.specs.declared.kinds.Kind.{Kind}
 use Rattle.c_tree.specs.declared.kinds.Kind.TheVariants as k
@@ -16,13 +16,13 @@ use Rattle.core_meaning.specs.Values.{Path}
 use Rattle.core_meaning.specs.Program.{PlainExpression}
 use Rattle.core_meaning.specs.Checking.{Checked, fine, refused, broken, ◌>>=◌, give, unless_so, found_or, or_broken}
 use Rattle.core_meaning.specs.Entities.{Struct, Scope}
-use Rattle.core_meaning.specs.Typing.{Operand, Typed, loaded, fits_into}
+use Rattle.core_meaning.specs.Typing.{Operand, loaded, fits_into}
 use Rattle.core_meaning.specs.Expressions.{judged, valued, first_token, text_bytes, first_text, passed}
 use Rattle.core_meaning.specs.Constancy.{Initial, members_of, part_for, path_for, is_character_type, text_initial, part_or_excess, is_allowed, value_initial, whole_initial, text_or_whole, initial, initial_entries}
 use Rattle.conditional.specs.Judgements.{bind}
 use Rattle.choice_trees.specs.ChoiceTrees.{semicolon}
-use Rattle.operand_types.specs.OperandTypes.{struct_in, renumbered, type_of_operand, outcome_as}
-use Rattle.operand_types.specs.Operators.{test_outcome, fitted_type}
+use Rattle.operand_types.specs.OperandTypes.{renumbered, type_of_operand, outcome_as}
+use Rattle.operand_types.specs.Operators.{fitted_type}
 use Rattle.operand_types.specs.Laws.{OperatorsKeepTypes, operand_seen}
 use Rattle.operand_rules.specs.PlainOperandTypes.{accepted}
 use Rattle.expression_types.specs.Known.{Known}
@@ -31,7 +31,7 @@ use Rattle.expression_types.proofs.PartsRead.{no_operand}
 use Rattle.statement_readings.specs.Walks.{is_refused}
 use Rattle.statement_readings.proofs.Steps.{same_then}
 use Rattle.typed_scopes.specs.Follows.{IsThere, AreThere, types_of}
-use Rattle.cond_initialisers.specs.Refusals.{is_refusal, has_room, room_for, RefusedFor, parts_of, in_pairs, some_refused, is_unfit, alone, text_in_array, as_text, refuses, entries_in}
+use Rattle.cond_initialisers.specs.Refusals.{is_refusal, has_room, room_for, RefusedFor, parts_of, in_pairs, some_refused, is_unfit, alone, as_text, refuses, entries_in}
 use Rattle.cond_initialisers.proofs.Refused.{refused_with, test_refused, then_with, always_refused, refused_both}
 
 -- ---- expressions

@@ -1,6 +1,6 @@
 -- What is refused, whatever it would come to.
-use Rattle.std.proofs.Common.{◌≡◌, Bool, true, false, List, [], ◌∷◌, refl, sym, ap, ◌∙◌}
-use Rattle.std.specs.Prelude.{◌||◌, Option, Some, None}
+use Rattle.std.proofs.Common.{◌≡◌, true, List, refl, sym, ◌∙◌}
+use Rattle.std.specs.Prelude.{◌||◌}
 use Rattle.core_meaning.specs.Checking.{Binding, Checked, fine, refused, broken, with_bindings, ◌>>=◌, give}
 use Rattle.operand_types.specs.Operators.{test_outcome}
 use Rattle.statement_readings.specs.Walks.{is_refused}

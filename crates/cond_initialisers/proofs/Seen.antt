@@ -1,6 +1,6 @@
 -- What is seen of entries and of conditions under which they are refused.
-use Rattle.std.proofs.Common.{arith, ◌≡◌, ℕ, zero, suc, ◌+◌, ◌<◌, ◌≤◌, Bool, true, false, List, [], ◌∷◌, ◌++◌, length, get_or, drop, refl, sym, ap, subst, ◌∙◌}
-use Rattle.std.specs.Prelude.{◌&&◌, ◌||◌, map, is_some, Option, Some, None, if◌then◌else◌}
+use Rattle.std.proofs.Common.{◌≡◌, ℕ, zero, suc, ◌+◌, ◌<◌, ◌≤◌, Bool, true, false, List, [], ◌∷◌, length, get_or, drop, refl, sym, ap, ◌∙◌}
+use Rattle.std.specs.Prelude.{◌&&◌, ◌||◌, map, is_some, Some, None, if◌then◌else◌}
 use Rattle.std.proofs.lemmas.List.{drop_all}
 use Rattle.cond_formula.specs.declared.formulas.Formula.{Formula, False}
 use Rattle.cond_formula.specs.ConditionLaws.{condition_of-False}
@@ -8,7 +8,7 @@ use Rattle.cond_formula.specs.Conditions.{condition_of, value}
 use Rattle.conditional.specs.declared.entries.Guarded.{Guarded}
 use Rattle.conditional.specs.Entries.{Entry, entries_of, listed, seen, first, under, or_later, some_holds}
 use Rattle.conditional.proofs.ListLaws.{item_of}
-use Rattle.matched_lists.specs.Matched.{Rule, matched, there, StartsWith, behind, AreThere, Follows}
+use Rattle.matched_lists.specs.Matched.{Rule, matched, there, StartsWith, behind, AreThere}
 use Rattle.operand_rules.specs.PlainOperandTypes.{reason}
 use Rattle.cond_operands.specs.Operands.{ShowsTest}
 use Rattle.cond_operands.specs.declared.judgements.Passed.{Passed}

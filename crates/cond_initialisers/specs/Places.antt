@@ -1,5 +1,5 @@
 -- The numbers of types.
-use Rattle.std.specs.Prelude.{◌≡◌, ℕ, Bool, List, [], map, Option, Some, slice_get, if◌then◌else◌}
+use Rattle.std.specs.Prelude.{◌≡◌, ℕ, Bool, List, [], map, Some, slice_get, if◌then◌else◌}
 use Rattle.cond_formula.specs.Conditions.{condition_of, value}
 use Rattle.conditional.specs.Entries.{seen, listed}
 use Rattle.c_types.specs.Types.{PlainType}

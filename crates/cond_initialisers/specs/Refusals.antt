@@ -1,6 +1,6 @@
 -- Where an initialiser is refused, entry by entry (ISO/IEC 9899:2011, 6.7.9): an expression by its type, a list in braces by its entries, each of which is
 -- for one part of what is initialised.
-use Rattle.std.specs.Prelude.{ℕ, ◌-◌, Bool, true, false, not, ◌||◌, List, [], ◌∷◌, map, replicate, nat_le, if◌then◌else◌}
+use Rattle.std.specs.Prelude.{ℕ, ◌-◌, Bool, true, false, ◌||◌, List, [], ◌∷◌, replicate, nat_le, if◌then◌else◌}
 use Rattle.c_types.specs.Types.{PlainType, array_of, structure}
 use Rattle.c_tree.specs.declared.kinds.Kind.TheVariants as k
 use Rattle.c_tree.specs.Trees.{PlainTree, PlainTrees, leaf, node, none, more}

@@ -1,7 +1,7 @@
-use Rattle.std.proofs.Common.{◌≡◌, ℕ, sym, ap, ◌∙◌}
+use Rattle.std.proofs.Common.{ap, ◌∙◌}
 use Rattle.std.proofs.lemmas.Result.{IfOk-weaker}
 use Rattle.cond_formula.specs.Features.{has}
-use Rattle.cond_initialisers.specs.Rows.{row, rows, numbers, rows_in_pairs}
+use Rattle.cond_initialisers.specs.Rows.{row, rows, numbers}
 use Rattle.cond_initialisers.proofs.Numbered.{pairs_repeated, few_in_pairs}
 use Rattle.cond_initialisers.proofs.lists.where_some_of.Goals as goal
 

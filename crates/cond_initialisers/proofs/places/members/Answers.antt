@@ -1,7 +1,6 @@
-use Rattle.std.proofs.Common.{◌≡◌, ℕ, ◌&&◌, ap, ap₂, ◌∙◌}
+use Rattle.std.proofs.Common.{ℕ, ◌&&◌, ap, ap₂, ◌∙◌}
 use Rattle.cond_formula.specs.Conditions.{Condition, condition_of, value}
 use Rattle.conditional.proofs.ListLaws.{seen_push}
-use Rattle.conditional.specs.Entries.{entries_of, seen}
 use Rattle.cond_initialisers.specs.Rows.{plain_types, numbers}
 use Rattle.cond_initialisers.proofs.Members.{members_start, members_step, members_end}
 use Rattle.cond_initialisers.proofs.places.members.Goals as goal

@@ -1,4 +1,4 @@
-use Rattle.std.proofs.Common.{ℕ, Bool, drop}
+use Rattle.std.proofs.Common.{ℕ, Bool}
 use Rattle.cond_formula.specs.Conditions.{condition_of, value}
 use Rattle.cond_initialisers.specs.Rows.{plain_types, numbers}
 use Rattle.cond_initialisers.proofs.Members.{MembersSoFar}

@@ -1,4 +1,4 @@
-use Rattle.std.proofs.Common.{◌≡◌, ℕ, [], ◌∷◌, ◌++◌, ap, ◌∙◌}
+use Rattle.std.proofs.Common.{ℕ, [], ◌∷◌, ◌++◌, ap, ◌∙◌}
 use Rattle.cond_formula.specs.declared.formulas.Formula.{True}
 use Rattle.cond_formula.specs.Conditions.{value}
 use Rattle.cond_formula.specs.ConditionLaws.{condition_of-True}

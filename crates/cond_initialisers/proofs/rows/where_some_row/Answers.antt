@@ -1,5 +1,5 @@
-use Rattle.std.proofs.Common.{◌≡◌, ℕ, Bool, ◌&&◌, ◌||◌, ap, ap₂, ◌∙◌}
-use Rattle.cond_formula.specs.Conditions.{Condition, condition_of, value}
+use Rattle.std.proofs.Common.{◌&&◌, ◌||◌, ap, ◌∙◌}
+use Rattle.cond_formula.specs.Conditions.{condition_of, value}
 use Rattle.cond_formula.specs.ConditionLaws.{condition_of-False}
 use Rattle.cond_initialisers.specs.Rows.{rows, some_row}
 use Rattle.cond_initialisers.proofs.Seen.{refused_is, some_row_step, some_row_end}
