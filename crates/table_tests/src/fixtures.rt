@@ -73,10 +73,8 @@ fn members(alloc: Global) -> Result<CondList<Member>, NoMemory> {
 /// `struct s;`, which has its members with A, and with B `struct t;`.
 fn declare_structs(alloc: Global, tables: &mut Tables) -> Result<(), NoMemory> {
     let number = tables.declare_struct(alloc, b"s", Formula::True)?;
+    tables.complete_struct(alloc, number, where_a(), &members(alloc)?)?;
     tables.declare_struct(alloc, b"t", where_b())?;
-    if (number as usize) < tables.structs.len() {
-        tables.complete_struct(alloc, number, where_a(), &members(alloc)?)?;
-    }
     Ok(())
 }
 
