@@ -66,11 +66,7 @@ struct Room {
 impl Judgement<OperandType, Passed, Refused> for Room {
     ghost answers = { λ self a r. checked passed reason r ≡ spec.room_for self.count (plain_operand_type a) };
 
-    fn judge(
-        &self,
-        _alloc: Global,
-        a: &OperandType,
-    ) -> Result<Result<Passed, Refused>, NoMemory> {
+    fn judge(&self, _alloc: Global, a: &OperandType) -> Result<Result<Passed, Refused>, NoMemory> {
         if has_room(self.count, &a.ty) {
             Ok(Ok(Passed))
         } else {
