@@ -1,12 +1,12 @@
 -- Numbers of elements.
-use Rattle.std.proofs.Common.{◌≡◌, ℕ, Bool, true, false, not, ◌||◌, List, [], ◌∷◌, IsTrue, refl, sym, ap, ◌∙◌, subst}
+use Rattle.std.proofs.Common.{◌≡◌, ℕ, Bool, true, false, not, ◌||◌, List, [], ◌∷◌, IsTrue, refl, ap, ◌∙◌}
 use Rattle.std.specs.Prelude.{nat_le, Option, Some, None, if◌then◌else◌}
 use Rattle.c_text.specs.Token.{PlainToken}
 use Rattle.c_types.specs.Types.{PlainType}
 use Rattle.c_tree.specs.Trees.{PlainTree}
 use Rattle.cond_formula.specs.Conditions.{Condition, value}
 use Rattle.conditional.specs.Entries.{Entry, listed, seen, first, some_holds}
-use Rattle.conditional.specs.Judgements.{Checked, fine, refused, Shows, Judges, JudgesUnder}
+use Rattle.conditional.specs.Judgements.{fine, refused, Shows, Judges, JudgesUnder}
 use Rattle.conditional.specs.declared.outcomes.Outcomes.{Outcomes}
 use Rattle.core_meaning.specs.declared.refusals.TypeKind.TheVariants.{BadConstant}
 use Rattle.core_meaning.specs.Checking.{◌>>=◌, give, unless_so}

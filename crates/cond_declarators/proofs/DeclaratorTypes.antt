@@ -1,14 +1,13 @@
 -- The types of declarators, where structs have the numbers of the tables.
 use Rattle.std.proofs.Common.{◌≡◌, ℕ, zero, suc, Bool, true, false, List, refl, sym, ap, ◌∙◌}
-use Rattle.std.specs.Prelude.{Option, Some, None, slice_get, if◌then◌else◌}
+use Rattle.std.specs.Prelude.{Option, if◌then◌else◌}
 use Rattle.c_text.specs.Token.{PlainToken}
 use Rattle.c_types.specs.Types.{PlainType, void, char, unsigned_char, int, unsigned_int, long, unsigned_long, pointer_to, array_of, structure}
-use Rattle.c_tree.specs.declared.kinds.Kind.{Kind}
 use Rattle.c_tree.specs.declared.kinds.Kind.TheVariants as k
 use Rattle.c_tree.specs.declared.terminals.Terminal.TheVariants as t
 use Rattle.c_tree.specs.Heights.{count_stars}
 use Rattle.c_tree.specs.Trees.{PlainTree, PlainTrees}
-use Rattle.conditional.specs.Judgements.{Checked, bind, fine, refused}
+use Rattle.conditional.specs.Judgements.{bind, refused}
 use Rattle.core_meaning.specs.declared.refusals.TypeKind.TheVariants.{Incomplete}
 use Rattle.core_meaning.specs.Checking as judging
 use Rattle.core_meaning.specs.Checking.{◌>>=◌, give, unless_so}

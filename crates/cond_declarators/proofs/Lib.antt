@@ -3,3 +3,4 @@ pub mod WordTypes
 pub mod Counting
 pub mod DeclaratorTypes
 pub mod There
+pub mod StructsDeclared

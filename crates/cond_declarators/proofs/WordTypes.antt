@@ -2,10 +2,10 @@
 use Rattle.std.proofs.Common.{◌≡◌, ℕ, Bool, true, false, not, IsTrue, refl, sym, ap, ◌∙◌}
 use Rattle.std.specs.Prelude.{Option, Some, None, option_map, if◌then◌else◌}
 use Rattle.c_text.specs.Token.{PlainToken}
-use Rattle.c_types.specs.Types.{PlainType, structure}
+use Rattle.c_types.specs.Types.{structure}
 use Rattle.c_tree.specs.declared.terminals.Terminal.TheVariants as t
 use Rattle.c_tree.specs.Trees.{PlainTrees}
-use Rattle.conditional.specs.Judgements.{Checked, fine, refused}
+use Rattle.conditional.specs.Judgements.{fine, refused}
 use Rattle.core_meaning.specs.Checking.{◌>>=◌, or_broken, give}
 use Rattle.core_meaning.specs.Entities.{Scope}
 use Rattle.core_meaning.specs.Expressions.{has_terminal, words_type, arithmetic_words}

@@ -1,3 +1,4 @@
 pub mod Types
 pub mod Elements
+pub mod DeclaredBases
 pub mod Laws

@@ -3,11 +3,13 @@
 #![tactic(auto)]
 
 mod bases;
+mod declaring;
 mod elements;
 mod laws;
 mod objects;
 mod shown;
 
 pub use bases::base_of;
+pub use declaring::declared_base;
 pub use laws::types_are_there;
 pub use objects::object_types;

@@ -1,13 +1,13 @@
-use Rattle.std.proofs.Common.{sym, ap, ap₂, ◌∙◌, subst}
+use Rattle.std.proofs.Common.{sym, ap, ◌∙◌, subst}
 use Rattle.std.specs.Prelude.{Option, option_map}
 use Rattle.cond_formula.specs.Features.{has}
 use Rattle.c_types.specs.Types.{plain_type}
 use Rattle.c_tree.specs.declared.terminals.Terminal.TheVariants.{OpenBracket}
-use Rattle.c_tree.specs.Trees.{PlainTree, plain_tree, plain_trees}
+use Rattle.c_tree.specs.Trees.{PlainTree, plain_trees}
 use Rattle.choice_trees.specs.ChoiceTrees.{plain_item, item_at}
 use Rattle.core_meaning.specs.Constancy.{is_character_type}
 use Rattle.core_meaning.specs.Declarations.{starred, behind_word, element_count}
-use Rattle.operand_types.specs.OperandTypes.{outcome_as, renumbered}
+use Rattle.operand_types.specs.OperandTypes.{outcome_as}
 use Rattle.type_tables.specs.Seen.{seen_tables}
 use Rattle.cond_sizes.specs.Sizes.{ShowsCount}
 use Rattle.cond_declarators.specs.Types.{ShowsType}
