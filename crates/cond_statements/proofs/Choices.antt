@@ -1,21 +1,18 @@
 -- The alternatives for a part, one after the other, and parts one after the other.
-use Rattle.std.proofs.Common.{◌≡◌, ℕ, suc, ◌+◌, ◌<◌, ◌≤◌, Bool, true, false, not, ◌||◌, ◌&&◌, List, [], ◌∷◌, drop, length, get_or, refl, sym, ap, subst, ◌∙◌, add-one}
+use Rattle.std.proofs.Common.{◌≡◌, ℕ, ◌+◌, ◌<◌, ◌≤◌, Bool, true, false, not, ◌&&◌, List, drop, length, get_or, refl, sym, ap, subst, ◌∙◌, add-one}
 use Rattle.std.specs.Prelude.{Option, Some, None, if◌then◌else◌}
-use Rattle.std.proofs.lemmas.Bool.{false≢true}
 use Rattle.std.proofs.lemmas.List.{drop_all}
 use Rattle.c_types.specs.Types.{PlainType}
 use Rattle.c_tree.specs.declared.kinds.Kind.{Kind}
-use Rattle.c_tree.specs.declared.kinds.Kind.TheVariants as k
-use Rattle.c_tree.specs.Trees.{PlainTree, PlainTrees, leaf, node, none, more, absent}
+use Rattle.c_tree.specs.Trees.{PlainTree, PlainTrees, none, more}
 use Rattle.conditional.specs.Entries.{Entry}
 use Rattle.conditional.proofs.ListLaws.{item_of}
 use Rattle.choice_trees.specs.declared.trees.Choice.{Choice}
 use Rattle.choice_trees.specs.declared.trees.Item.{Item}
-use Rattle.choice_trees.specs.ChoiceTrees.{plain_branches, plain_choices, needs_statement, no_statement, with_part, branch_at, parts_at}
+use Rattle.choice_trees.specs.ChoiceTrees.{plain_branches, plain_choices, needs_statement, with_part, branch_at, parts_at}
 use Rattle.choice_trees.proofs.Parts.{also, also_none}
-use Rattle.statement_readings.specs.Walks.{State, walk_parts}
 use Rattle.type_tables.specs.Tables.{Tables}
-use Rattle.cond_statements.specs.Readings.{first_behind, turned_behind, Stand, Arrives, Reads, Walks}
+use Rattle.cond_statements.specs.Readings.{Reads, Walks}
 use Rattle.cond_statements.proofs.Walking.{or_false, if_same, also_also, walks_then, walks_nothing, walks_nowhere, Unchanged, unchanged, then_unchanged}
 use Rattle.cond_statements.proofs.Standing.{later}
 

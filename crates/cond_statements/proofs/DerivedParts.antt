@@ -1,13 +1,13 @@
 -- The parts of a derived block are ready: by how statements are derived.
-use Rattle.std.proofs.Common.{◌≡◌, ℕ, Bool, true, false, ◌&&◌, List, [], ◌∷◌, refl, IsTrue}
+use Rattle.std.proofs.Common.{◌≡◌, Bool, true, false, ◌&&◌, List, [], ◌∷◌, refl}
 use Rattle.std.specs.Prelude.{nat_le, ⊤}
 use Rattle.std.proofs.lemmas.Bool.{and_parts, false≢true}
 use Rattle.c_tree.specs.declared.kinds.Kind.{Kind}
 use Rattle.c_tree.specs.declared.kinds.Kind.TheVariants as k
-use Rattle.c_tree.specs.Trees.{PlainTree, PlainTrees, leaf, node, none, more}
-use Rattle.c_tree.specs.Grammar.{Category, expression, statement, else_part, block, items, item, for_start, level, shape, is_statement, row, Slot, word, perhaps, stars, needed, optional}
-use Rattle.tree_derivations.specs.Derivations.{Derivation, single, made_of, Shaped, a_row, one_or_more, Row, at_end, a_word, perhaps_there, not_there, a_star, no_star, a_part, left_out, given, Each, no_more, one_more}
-use Rattle.cond_statements.specs.Ready.{may_declare, has_items, IsDerived, IsExpression, NodeReady, Ready}
+use Rattle.c_tree.specs.Trees.{PlainTree, PlainTrees, leaf, node, more}
+use Rattle.c_tree.specs.Grammar.{Category, expression, statement, else_part, block, items, item, for_start, level, Slot, word, perhaps, stars, needed, optional}
+use Rattle.tree_derivations.specs.Derivations.{Derivation, single, made_of, a_row, one_or_more, Row, at_end, a_word, perhaps_there, not_there, a_star, no_star, a_part, left_out, given, Each, no_more, one_more}
+use Rattle.cond_statements.specs.Ready.{may_declare, has_items, IsExpression, NodeReady, Ready}
 
 none_such : {A : Type 0} → false ≡ true → A
 none_such h = absurd (false≢true h)

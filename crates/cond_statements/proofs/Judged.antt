@@ -1,5 +1,5 @@
 -- An expression that a statement uses is refused by its type where it is refused by its judgement.
-use Rattle.std.proofs.Common.{◌≡◌, ℕ, Bool, true, false, not, ◌||◌, List, [], ◌++◌, refl, sym, ap, subst, ◌∙◌}
+use Rattle.std.proofs.Common.{◌≡◌, ℕ, Bool, true, false, not, ◌||◌, List, [], ◌++◌, refl, sym, ap, ◌∙◌}
 use Rattle.std.specs.Prelude.{Option, Some, None}
 use Rattle.c_text.specs.Token.{PlainToken}
 use Rattle.c_types.specs.Types.{PlainType, void, char, unsigned_char, int, unsigned_int, long, unsigned_long, pointer_to, array_of, structure}
@@ -12,7 +12,7 @@ use Rattle.core_meaning.specs.Checking.{Binding, with_bindings, ◌>>=◌, give,
 use Rattle.core_meaning.specs.Checking as judged
 use Rattle.core_meaning.specs.Entities.{Scope}
 use Rattle.core_meaning.specs.Program.{PlainExpression}
-use Rattle.core_meaning.specs.Typing.{Operand, Typed, loaded, fits_into}
+use Rattle.core_meaning.specs.Typing.{Operand, loaded, fits_into}
 use Rattle.core_meaning.specs.Expressions.{passed, condition_value, first_token, is_void, valued}
 use Rattle.core_meaning.specs.Expressions as expressions
 use Rattle.conditional.specs.Judgements.{Checked, bind}
@@ -25,9 +25,8 @@ use Rattle.expression_types.specs.Reading.{Outcome, read_expression}
 use Rattle.expression_types.specs.Laws.{ExpressionsHaveTypes}
 use Rattle.statement_readings.specs.Walks.{Use, condition, discarded, returned, expression_refused}
 use Rattle.statement_readings.specs.Walks as walks
-use Rattle.statement_readings.proofs.Steps.{same_then}
 use Rattle.cond_statements.specs.Ready.{IsExpression}
-use Rattle.cond_statements.specs.Results.{is_refused, absence_refused, return_refused, operand_refused}
+use Rattle.cond_statements.specs.Results.{is_refused, absence_refused, operand_refused}
 
 outcome_refused : {A P : Type 0} (f : A → P) (m : judged.Checked A) → is_refused (outcome_as f m) ≡ walks.is_refused m
 outcome_refused f (judged.fine x bindings) = refl

@@ -1,22 +1,21 @@
 -- What the kind of a node decides.
-use Rattle.std.proofs.Common.{◌≡◌, ℕ, Bool, true, false, IsTrue, refl, sym, subst, ◌∙◌}
-use Rattle.std.proofs.lemmas.Bool.{false≢true}
+use Rattle.std.proofs.Common.{◌≡◌, ℕ, Bool, true, false, IsTrue, refl}
 use Rattle.c_types.specs.Types.{PlainType}
 use Rattle.c_tree.specs.declared.kinds.Kind.{Kind}
 use Rattle.c_tree.specs.declared.kinds.Kind.TheVariants as k
-use Rattle.c_tree.specs.Trees.{PlainTree, PlainTrees, leaf, node, none, more}
+use Rattle.c_tree.specs.Trees.{PlainTrees, node}
 use Rattle.core_meaning.specs.Entities.{Scope}
 use Rattle.core_meaning.specs.Declarations.{with_block}
-use Rattle.statement_readings.specs.Walks.{State, is_loop, scope_in, leave, expression_read, left_out, node_read, walk_parts}
+use Rattle.statement_readings.specs.Walks.{State, leave, expression_read, node_read}
 use Rattle.type_tables.specs.Tables.{Tables}
 use Rattle.type_tables.specs.Steps.{entered}
 use Rattle.cond_statements.specs.declared.roles.Role.{Role}
 use Rattle.cond_statements.specs.declared.roles.Role.TheVariants.{LeftOut, Declaration, Scoped, Parts, Jump, Expression}
 use Rattle.cond_statements.specs.Roles.{role_of}
-use Rattle.cond_statements.specs.Following.{FollowsBy, FollowsInBlockBy}
+use Rattle.cond_statements.specs.Following.{FollowsBy}
 use Rattle.cond_statements.specs.Ready.{may_declare, has_items, IsExpression, NodeReady, Ready}
 use Rattle.cond_statements.specs.Readings.{Stand, is_quiet}
-use Rattle.cond_statements.proofs.Standing.{followed, entered_followed}
+use Rattle.cond_statements.proofs.Standing.{entered_followed}
 
 -- where the block of a node begins
 abbrev pub opened : Kind → State → State

@@ -1,5 +1,5 @@
 -- Tables of which only the locals change.
-use Rattle.std.proofs.Common.{◌≡◌, ℕ, ◌+◌, Bool, List, [], ◌++◌, length, reverse, refl, sym, ap, subst, ◌∙◌, append-nil, add-one}
+use Rattle.std.proofs.Common.{◌≡◌, ℕ, ◌+◌, Bool, List, [], length, reverse, refl, sym, ap, ◌∙◌, append-nil, add-one}
 use Rattle.type_tables.specs.declared.entries.LocalName.{LocalName}
 use Rattle.type_tables.specs.declared.tables.Tables.{Tables}
 use Rattle.type_tables.specs.Seen.{seen_tables, locals_in}

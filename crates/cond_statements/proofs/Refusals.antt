@@ -1,6 +1,6 @@
 -- Where judgements are refused, and alternatives one after the other.
 use Rattle.std.proofs.Common.{◌≡◌, ℕ, ◌+◌, ◌<◌, ◌≤◌, Bool, true, false, ◌||◌, ◌&&◌, List, [], ◌∷◌, drop, length, get_or, IsTrue, refl, sym, ap, ◌∙◌}
-use Rattle.std.specs.Prelude.{Some, None, if◌then◌else◌}
+use Rattle.std.specs.Prelude.{Some, if◌then◌else◌}
 use Rattle.std.proofs.lemmas.List.{drop_all}
 use Rattle.cond_formula.specs.Conditions.{condition_of, value}
 use Rattle.c_types.specs.Types.{PlainType}

@@ -10,7 +10,7 @@ use Rattle.typed_scopes.specs.Follows.{StructFollows, Follows}
 use Rattle.typed_scopes.proofs.Blocks.{block_entered}
 use Rattle.statement_readings.specs.Walks.{State}
 use Rattle.cond_statements.specs.Following.{FollowsBy, FollowsInBlockBy}
-use Rattle.cond_statements.specs.Readings.{Stand, is_quiet, Arrives}
+use Rattle.cond_statements.specs.Readings.{Stand, Arrives}
 
 pub followed : (by : ℕ → ℕ) (t : Tables) (scope : Scope) → FollowsInBlockBy by t scope → FollowsBy by t scope
 followed by t scope f = record { follows = f.follows.follows; numbers = f.numbers }

@@ -1,20 +1,18 @@
 -- Parts that are read one after the other.
-use Rattle.std.proofs.Common.{◌≡◌, ℕ, Bool, true, false, ◌||◌, List, IsTrue, refl, sym, ap, subst, ◌∙◌}
+use Rattle.std.proofs.Common.{◌≡◌, ℕ, Bool, true, false, ◌||◌, List, refl, sym, ap, subst, ◌∙◌}
 use Rattle.std.specs.Prelude.{if◌then◌else◌}
 use Rattle.std.proofs.lemmas.Bool.{false≢true}
 use Rattle.c_types.specs.Types.{PlainType}
 use Rattle.c_tree.specs.declared.kinds.Kind.{Kind}
-use Rattle.c_tree.specs.declared.kinds.Kind.TheVariants as k
-use Rattle.c_tree.specs.Trees.{PlainTree, PlainTrees, leaf, node, none, more}
-use Rattle.conditional.specs.Entries.{Entry, Stands}
+use Rattle.c_tree.specs.Trees.{PlainTrees, leaf, node, none, more}
+use Rattle.conditional.specs.Entries.{Entry}
 use Rattle.choice_trees.proofs.Parts.{also}
-use Rattle.operand_types.specs.OperandTypes.{renumbered}
 use Rattle.expression_types.specs.Reading.{is_operand}
 use Rattle.statement_readings.specs.Walks.{State, turns, is_loop, expression_read, node_read, walk_parts}
 use Rattle.statement_readings.proofs.Parts.{parts_stay}
 use Rattle.type_tables.specs.Tables.{Tables}
 use Rattle.cond_statements.specs.Ready.{Ready}
-use Rattle.cond_statements.specs.Readings.{first_behind, turned_behind, Stand, is_quiet, Arrives, Reads, Walks}
+use Rattle.cond_statements.specs.Readings.{first_behind, turned_behind, Arrives, Reads, Walks}
 
 pub also_also : (a b c : PlainTrees) → also (also a b) c ≡ also a (also b c)
 also_also none b c = refl

@@ -1,5 +1,4 @@
 -- What the kind of a node tells a reader of statements.
-use Rattle.std.specs.Prelude.{Bool, true, false}
 use Rattle.c_tree.specs.declared.kinds.Kind.{Kind}
 use Rattle.c_tree.specs.declared.kinds.Kind.TheVariants as k
 use Rattle.cond_statements.specs.declared.roles.Role.{Role}

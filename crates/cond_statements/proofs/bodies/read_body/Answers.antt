@@ -1,7 +1,6 @@
 use Rattle.std.proofs.Common.{sym, ap, subst, ◌∙◌}
 use Rattle.std.proofs.lemmas.Result.{IfOk-weaker}
 use Rattle.cond_formula.specs.Features.{has}
-use Rattle.cond_formula.specs.Conditions.{condition_of, value}
 use Rattle.c_tree.specs.Grammar.{block}
 use Rattle.c_tree.specs.Trees.{PlainTree, node}
 use Rattle.tree_derivations.specs.Derivations.{Derivation}

@@ -1,5 +1,5 @@
-use Rattle.std.proofs.Common.{◌≡◌, ◌+◌, Bool, false, drop, refl, sym, ap, subst, ◌∙◌, arith}
-use Rattle.std.specs.Prelude.{Some, if◌then◌else◌}
+use Rattle.std.proofs.Common.{◌≡◌, ◌+◌, ◌≤◌, Bool, false, drop, refl, sym, ap, subst, ◌∙◌, arith}
+use Rattle.std.specs.Prelude.{if◌then◌else◌}
 use Rattle.std.proofs.lemmas.List.{drop_all}
 use Rattle.std.proofs.lemmas.Result.{IfOk-weaker}
 use Rattle.cond_formula.specs.declared.formulas.Formula.{Formula}
@@ -12,13 +12,14 @@ use Rattle.conditional.specs.Entries.{alternatives}
 use Rattle.conditional.proofs.ListLaws.{item_of}
 use Rattle.choice_trees.specs.declared.trees.Item.{Item}
 use Rattle.choice_trees.specs.ChoiceTrees.{plain_item, plain_branches, plain_choices, with_part, item_at, branch_at, parts_at}
-use Rattle.statement_readings.specs.Walks.{use_in, is_loop, expression_refused}
+use Rattle.choice_trees.specs.Depths.{depth, branches_depth, choices_depth}
+use Rattle.choice_trees.proofs.Depths.{choice_within, branch_within}
+use Rattle.statement_readings.specs.Walks.{use_in, expression_refused}
 use Rattle.type_tables.specs.Forms.{declared_type_form}
 use Rattle.type_tables.specs.Tables as plain
 use Rattle.type_tables.specs.Seen.{seen_tables}
 use Rattle.cond_statements.specs.declared.statements.Around.{Around}
 use Rattle.cond_statements.specs.declared.roles.Role.TheVariants.{LeftOut, Declaration, Scoped, Parts, Jump, Expression}
-use Rattle.cond_statements.specs.Following.{OnlyLocals}
 use Rattle.cond_statements.specs.Ready.{IsExpression}
 use Rattle.cond_statements.specs.Readings.{turned_behind, Reads, ReadsBlock, Walks}
 use Rattle.cond_statements.proofs.Answering.{ok_two, ok_on, on_two}
@@ -153,6 +154,15 @@ read_alternative-returns-clause-walks g t c =
 
 -- ---- alternatives
 
+pub read_choice-read_alternative-requires : goal.read_choice-read_alternative-requires
+read_choice-read_alternative-requires g t c =
+    let low : depth (plain_item c.loop-condition-item.result.1) ≤ branches_depth (plain_branches c.deref-condition-items.result.now) =
+    subst (λ b. depth (plain_item b.1) ≤ branches_depth (plain_branches c.deref-condition-items.result.now)) (sym c.loop-condition-item.is)
+    (branch_within c.deref-condition-items.result.now c.loop-condition.condition-index c.loop-condition-item.result c.loop-condition-test.true) in
+    let same : branches_depth (plain_branches c.deref-condition-items.result.now) ≡ branches_depth (plain_branches c.args.choice.now.branches.items) =
+    ap (λ list. branches_depth (plain_branches list)) c.deref-condition-items.ensures.value in
+    λ κs lives. (omega (arith, low, same, c.decreases), lives)
+
 pub read_choice-loop-condition-init : goal.read_choice-loop-condition-init
 read_choice-loop-condition-init g t c = record {
   kept = refl;
@@ -213,6 +223,13 @@ read_choice-returns-clause-walks g t c = λ n ty needed admitted.
     (drop_all c.loop-condition.condition-index items c.loop-condition-test.false) (c.loop-condition.invariant.so_far n ty admitted)) needed)
 
 -- ---- parts
+
+pub read_parts-read_choice-requires : goal.read_parts-read_choice-requires
+read_parts-read_choice-requires g t c =
+    let low : branches_depth (plain_branches c.part-item.result.branches.items) ≤ choices_depth (plain_choices c.args.parts.now) =
+    subst (λ part. branches_depth (plain_branches part.branches.items) ≤ choices_depth (plain_choices c.args.parts.now)) (sym c.part-item.is)
+    (choice_within c.args.parts.now c.loop-part.part-index c.part-item.result c.loop-part-test.true) in
+    λ κs lives. (omega (arith, low, c.decreases), lives)
 
 pub read_parts-loop-part-init : goal.read_parts-loop-part-init
 read_parts-loop-part-init g t c = record {

@@ -1,14 +1,37 @@
-use Rattle.std.proofs.Common.{◌≡◌, Bool, IsTrue, List, drop}
+use Rattle.std.proofs.Common.{◌≡◌, ◌+◌, ◌*◌, Bool, IsTrue, List, drop}
 use Rattle.cond_formula.specs.Features.{has}
 use Rattle.cond_formula.specs.Conditions.{condition_of, value}
 use Rattle.c_types.specs.Types.{PlainType}
 use Rattle.conditional.specs.Entries.{alternatives}
-use Rattle.choice_trees.specs.ChoiceTrees.{plain_branches, branch_at}
+use Rattle.choice_trees.specs.ChoiceTrees.{plain_item, plain_branches, plain_choices, branch_at}
+use Rattle.choice_trees.specs.Depths.{depth, branches_depth, choices_depth}
 use Rattle.type_tables.specs.Forms.{declared_type_form}
 use Rattle.type_tables.specs.Seen.{seen_tables}
 use Rattle.cond_statements.specs.Following.{OnlyLocals}
 use Rattle.cond_statements.proofs.Choices.{ChoiceSoFar, PartsSoFar}
 use Rattle.cond_statements.proofs.statements.+reading.Given as goal
+
+-- ---- how deep what is read is
+
+abbrev pub decreases-read_node : goal.decreases-read_node
+decreases-read_node g a = 8 * choices_depth (plain_choices a.parts.now) + 6
+
+abbrev pub decreases-read_scoped : goal.decreases-read_scoped
+decreases-read_scoped g a = 8 * choices_depth (plain_choices a.parts.now) + 5
+
+abbrev pub decreases-read_parts : goal.decreases-read_parts
+decreases-read_parts g a = 8 * choices_depth (plain_choices a.parts.now) + 4
+
+abbrev pub decreases-read_choice : goal.decreases-read_choice
+decreases-read_choice g a = 8 * branches_depth (plain_branches a.choice.now.branches.items) + 3
+
+abbrev pub decreases-read_alternative : goal.decreases-read_alternative
+decreases-read_alternative g a = 8 * depth (plain_item a.item.now) + 2
+
+abbrev pub decreases-read_item : goal.decreases-read_item
+decreases-read_item g a = 8 * depth (plain_item a.item.now) + 1
+
+-- ---- how far the loops have come
 
 abbrev pub invariant-read_choice-loop-condition : goal.invariant-read_choice-loop-condition
 invariant-read_choice-loop-condition g l = record {
