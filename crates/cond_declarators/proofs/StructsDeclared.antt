@@ -1,5 +1,5 @@
 -- What comes of words that may declare a struct, and of the tables.
-use Rattle.std.proofs.Common.{◌≡◌, ℕ, Bool, true, false, ◌||◌, List, [], ◌∷◌, length, IsTrue, refl, sym, ap, ◌∙◌, subst}
+use Rattle.std.proofs.Common.{◌≡◌, ℕ, Bool, true, false, not, ◌&&◌, ◌||◌, List, [], ◌∷◌, length, IsTrue, refl, sym, ap, ◌∙◌, subst}
 use Rattle.std.specs.Prelude.{◌==◌, Option, Some, None, option_map, if◌then◌else◌}
 use Rattle.std.specs.Str.{bytes_eq}
 use Rattle.std.specs.Cmp.Lexicographic.{bytes_decides}
@@ -34,7 +34,7 @@ use Rattle.typed_scopes.specs.Follows.{IsThere, Follows}
 use Rattle.typed_scopes.proofs.Options.{some_same}
 use Rattle.typed_scopes.proofs.Structs.{struct_declared, numbers_kept}
 use Rattle.cond_declarators.specs.Types.{ShowsType, based_in, base_type}
-use Rattle.cond_declarators.specs.DeclaredBases.{CompletesDeclared, NumbersKept, IsBased, DeclaresBase, DeclaresHere, DeclaresNext}
+use Rattle.cond_declarators.specs.DeclaredBases.{NumbersKept, IsBased, DeclaresBase, DeclaresHere, DeclaresNext}
 use Rattle.cond_declarators.proofs.WordTypes.{arithmetic_renumbered, arithmetic_without}
 use Rattle.cond_declarators.proofs.There.{nothing_there, tag_there}
 
@@ -74,27 +74,23 @@ not_visible false number e = refl
 -- a struct that is declared already is the same when it is declared again
 declared_again : (t : Tables) (tag : List ℕ) (number : ℕ) → t.tags tag ≡ Some number → t.declared number ≡ true → with_declared tag number t ≡ t
 declared_again t tag number placed is =
-    structs_same t (λ n. if n == number then true else t.declared n) t.complete t.members (with_entry t.tags tag number) (λ n. each n (n == number) refl) (λ n. refl) (λ n. refl)
-    (λ other. named other (bytes_eq other tag) refl)
+    structs_same t (λ n. if n == number then true else t.declared n) t.complete t.members t.scalars (λ n. if n == number && not (t.declared n) then tag else t.named n) (with_entry t.tags tag number)
+    (λ n. each n (n == number) refl) (λ n. refl) (λ n. refl) (λ n. refl) (λ n. still_named n (n == number) refl) (λ other. named other (bytes_eq other tag) refl)
   where
     each : (n : ℕ) (b : Bool) → (n == number) ≡ b → (if b then true else t.declared n) ≡ t.declared n
     each n true e = sym (ap t.declared (eqb-true n number e) ∙ is)
     each n false e = refl
 
+    still_named : (n : ℕ) (b : Bool) → (n == number) ≡ b → (if b && not (t.declared n) then tag else t.named n) ≡ t.named n
+    still_named n true e = ap (λ d. if not d then tag else t.named n) (ap t.declared (eqb-true n number e) ∙ is)
+    still_named n false e = refl
+
     named : (other : List ℕ) (b : Bool) → bytes_eq other tag ≡ b → (if b then Some number else t.tags other) ≡ t.tags other
     named other true e = sym (ap t.tags ((bytes_decides other tag).0 e) ∙ placed)
     named other false e = refl
 
-before_declared : (b declared : Bool) → (if b then true else declared) ≡ false → declared ≡ false
-before_declared true declared e = absurd (false≢true (sym e))
-before_declared false declared e = e
-
-completes_kept : (b : Bool) (t : Tables) (tag : List ℕ) (number : ℕ) → CompletesDeclared t → CompletesDeclared (where_true b (with_declared tag number) t)
-completes_kept false t tag number h = h
-completes_kept true t tag number h = λ n e. h n (before_declared (n == number) (t.declared n) e)
-
 module _ (old new : Tables) (tag : PlainToken) (number : ℕ) (visible : old.tags tag.text ≡ where_declared old (Some number)) (now : new ≡ with_declared tag.text number old)
-    (scope : Scope) (f : Follows old scope) (completes : CompletesDeclared old) where
+    (scope : Scope) (f : Follows old scope) where
   found_again : (n : ℕ) → scope.tags tag.text ≡ Some n → DeclaresBase (λ v. fine (structure number) ≡ v) scope f.by old new (based_on_tag true scope tag (Some n))
   found_again n e =
       let found = visible_or_not (old.declared number) number (f.by n) (sym visible ∙ (f.tags tag.text ∙ ap (option_map f.by) e)) in
@@ -105,14 +101,14 @@ module _ (old new : Tables) (tag : PlainToken) (number : ℕ) (visible : old.tag
   newly_found : scope.tags tag.text ≡ None → DeclaresBase (λ v. fine (structure number) ≡ v) scope f.by old new (based_on_tag true scope tag None)
   newly_found e =
       let undeclared = not_visible (old.declared number) number (sym visible ∙ (f.tags tag.text ∙ ap (option_map f.by) e)) in
-      let g = still_follows (with_declared tag.text number old) new (with_struct scope tag.text) (struct_declared old scope f tag.text number undeclared (completes number undeclared)) now in
+      let g = still_follows (with_declared tag.text number old) new (with_struct scope tag.text) (struct_declared old scope f tag.text number undeclared) now in
       let numbered : number ≡ g.0.by (length scope.structs) =
       some_same number (g.0.by (length scope.structs))
       (sym (ap (λ (t : Tables). t.tags tag.text) now ∙ ap (λ b. if b then Some number else old.tags tag.text) (same_text tag.text))
       ∙ (g.0.tags tag.text ∙ ap (λ b. option_map g.0.by (if b then Some (length scope.structs) else scope.tags tag.text)) (same_text tag.text))) in
       record {
         follows = g.0;
-        kept = λ n s there. numbers_kept old scope f tag.text number undeclared (completes number undeclared) n s there ∙ ap (λ (by : ℕ → ℕ). by n) g.1;
+        kept = λ n s there. numbers_kept old scope f tag.text number undeclared n s there ∙ ap (λ (by : ℕ → ℕ). by n) g.1;
         shows = ap (λ m. fine (structure m)) numbered;
         there = tag_there true old scope f tag None e;
       }
@@ -125,9 +121,8 @@ pub tag_declares : (old new : Tables) (here : Bool) (tag : PlainToken) (number :
     → DeclaresHere here (λ scope. based_on_tag true scope tag (scope.tags tag.text)) old new (fine (structure number))
 tag_declares old new here tag number visible is = record {
   elsewhere = λ h. is ∙ ap (λ b. where_true b (with_declared tag.text number) old) h;
-  completes = λ h. subst CompletesDeclared (sym is) (completes_kept here old tag.text number h);
-  declares = λ h scope f completes.
-      tag_based old new tag number visible (is ∙ ap (λ b. where_true b (with_declared tag.text number) old) h) scope f completes (scope.tags tag.text) refl;
+  declares = λ h scope f.
+      tag_based old new tag number visible (is ∙ ap (λ b. where_true b (with_declared tag.text number) old) h) scope f (scope.tags tag.text) refl;
 }
 
 -- ---- words
@@ -136,15 +131,13 @@ pub declares_as : (here : Bool) (judged other : Scope → judging.Checked Based)
     → DeclaresHere here judged old new outcome → DeclaresHere here other old new outcome
 declares_as here judged other old new outcome same d = record {
   elsewhere = d.elsewhere;
-  completes = d.completes;
-  declares = λ h scope f completes. subst (DeclaresBase (λ v. outcome ≡ v) scope f.by old new) (same scope) (d.declares h scope f completes);
+  declares = λ h scope f. subst (DeclaresBase (λ v. outcome ≡ v) scope f.by old new) (same scope) (d.declares h scope f);
 }
 
 pub arithmetic_declares : (here : Bool) (words : PlainTrees) (t : Tables) → has_terminal Struct words ≡ false → DeclaresHere here (λ scope. based true scope words) t t (fine (arithmetic_words words))
 arithmetic_declares here words t is = record {
   elsewhere = λ h. refl;
-  completes = λ h. h;
-  declares = λ h scope f completes.
+  declares = λ h scope f.
       subst
       (λ b. DeclaresBase (λ v. fine (arithmetic_words words) ≡ v) scope f.by t t
       (if b then or_broken (name_in words) >>= (λ tag. based_on_tag true scope tag (scope.tags tag.text)) else give (record { ty = arithmetic_words words; scope = scope })))
@@ -156,7 +149,7 @@ arithmetic_declares here words t is = record {
 pub broken_declares : (here : Bool) (judged : Scope → judging.Checked Based) (t : Tables) → ((scope : Scope) → judged scope ≡ judging.broken) → DeclaresHere here judged t t (refused tt)
 broken_declares here judged t is =
     declares_as here (λ scope. judging.broken) judged t t (refused tt) (λ scope. sym (is scope))
-    (record { elsewhere = λ h. refl; completes = λ h. h; declares = λ h scope f completes. record { shows = refl; same = refl } })
+    (record { elsewhere = λ h. refl; declares = λ h scope f. record { shows = refl; same = refl } })
 
 pub nameless_broken : (words : PlainTrees) (scope : Scope) → has_terminal Struct words ≡ true → name_in words ≡ None → based true scope words ≡ judging.broken
 nameless_broken words scope is none =
@@ -188,10 +181,10 @@ next_placed on stands here words old new outcome before after is d judged = reco
   elsewhere = λ h. d.elsewhere (is ∙ h);
   shown = λ h b v s.
       weaken declared_type_form reason on (b || value on here) b v after (or_nothing b (value on here) (is ∙ h)) (judged.shows b v s (never (value on here) (is ∙ h)));
-  declares = λ h scope f completes nothing.
+  declares = λ h scope f nothing.
       comes_as (λ v. outcome ≡ v) (λ v. ShowsType on v after)
       (λ v e. subst (λ b. Shows declared_type_form reason on b v after) (is ∙ h) (judged.shows false v (nothing v) (λ t. e))) scope f.by old new (based_in true scope words)
-      (d.declares (is ∙ h) scope f completes);
+      (d.declares (is ∙ h) scope f);
 }
 
 pub none_placed : (on : ℕ → Bool) (stands : Bool) (words : PlainTree) (t : Tables) (all : Outcomes DeclaredType Refused) → stands ≡ false → DeclaresNext on stands words t t all all
@@ -213,9 +206,9 @@ module _ (on : ℕ → Bool) (words : PlainTree) (scope : Scope) (start : Tables
   none_behind : (x y : PlainTree) (xs : List PlainTree) → x ∷ xs ≡ y ∷ [] → xs ≡ []
   none_behind x y xs e = cc
 
-  pub declared_next : (x : Entry PlainTree) (rest : List (Entry PlainTree)) (old new : Tables) (before after : Outcomes DeclaredType Refused) → CompletesDeclared start
+  pub declared_next : (x : Entry PlainTree) (rest : List (Entry PlainTree)) (old new : Tables) (before after : Outcomes DeclaredType Refused)
       → DeclaresNext on (value on x.when) x.what old new before after → DeclaredSoFar (x ∷ rest) old before → DeclaredSoFar rest new after
-  declared_next x rest old new before after completes d (ahead is same nothing) = by (value on x.when) refl is
+  declared_next x rest old new before after d (ahead is same nothing) = by (value on x.when) refl is
     where
       by : (t : Bool) → value on x.when ≡ t → (if t then x.what ∷ seen on rest else seen on rest) ≡ words ∷ [] → DeclaredSoFar rest new after
       by true e h =
@@ -224,9 +217,9 @@ module _ (on : ℕ → Bool) (words : PlainTree) (scope : Scope) (start : Tables
           (subst (λ t. DeclaresBase (λ v. ShowsType on v after) scope f.by t new (based_in true scope words)) same
           (subst (λ (by : ℕ → ℕ). DeclaresBase (λ v. ShowsType on v after) scope by old new (based_in true scope words)) (sym g.1)
           (subst (λ w. DeclaresBase (λ v. ShowsType on v after) scope g.0.by old new (based_in true scope w)) (same_first x.what words (seen on rest) h)
-          (d.declares e scope g.0 (subst CompletesDeclared (sym same) completes) nothing))))
+          (d.declares e scope g.0 nothing))))
       by false e h = ahead h (d.elsewhere e ∙ same) (λ v. d.shown e false v (nothing v))
-  declared_next x rest old new before after completes d (behind is done) = by (value on x.when) refl is
+  declared_next x rest old new before after d (behind is done) = by (value on x.when) refl is
     where
       by : (t : Bool) → value on x.when ≡ t → (if t then x.what ∷ seen on rest else seen on rest) ≡ [] → DeclaredSoFar rest new after
       by true e h = absurd cc

@@ -15,10 +15,6 @@ use Rattle.type_tables.specs.declared.entries.DeclaredType.{DeclaredType}
 use Rattle.typed_scopes.specs.Follows.{IsThere, Follows}
 use Rattle.cond_declarators.specs.Types.{ShowsType, based_in, base_type}
 
--- what isn't declared isn't complete
-abbrev pub CompletesDeclared : Tables → Type 0
-CompletesDeclared t = (n : ℕ) → t.declared n ≡ false → t.complete n ≡ false
-
 -- the structs that are there have the same numbers
 abbrev pub NumbersKept : List Struct → (ℕ → ℕ) → (ℕ → ℕ) → Type 0
 NumbersKept structs by other = (n : ℕ) (s : Struct) → slice_get structs n ≡ Some s → by n ≡ other n
@@ -46,12 +42,11 @@ DeclaresBase comes scope by old new judging.broken = IsNotBased comes old new
 -- what comes of words where a condition is true; elsewhere nothing changes
 pub record DeclaresHere (here : Bool) (judged : Scope → judging.Checked Based) (old new : Tables) (outcome : Checked PlainType (Unit {0})) : Type 0 where
   pub elsewhere : here ≡ false → new ≡ old
-  pub completes : CompletesDeclared old → CompletesDeclared new
-  pub declares : here ≡ true → (scope : Scope) (f : Follows old scope) → CompletesDeclared old → DeclaresBase (λ v. outcome ≡ v) scope f.by old new (judged scope)
+  pub declares : here ≡ true → (scope : Scope) (f : Follows old scope) → DeclaresBase (λ v. outcome ≡ v) scope f.by old new (judged scope)
 
 -- what comes of words where nothing has come of others before, if these are the words that stand; else nothing changes
 pub record DeclaresNext (on : ℕ → Bool) (stands : Bool) (words : PlainTree) (old new : Tables) (before after : Outcomes DeclaredType Refused) : Type 0 where
   pub elsewhere : stands ≡ false → new ≡ old
   pub shown : stands ≡ false → (b : Bool) (v : Checked PlainType (Unit {0})) → Shows declared_type_form reason on b v before → Shows declared_type_form reason on b v after
-  pub declares : stands ≡ true → (scope : Scope) (f : Follows old scope) → CompletesDeclared old → ((v : Checked PlainType (Unit {0})) → Shows declared_type_form reason on false v before)
+  pub declares : stands ≡ true → (scope : Scope) (f : Follows old scope) → ((v : Checked PlainType (Unit {0})) → Shows declared_type_form reason on false v before)
       → DeclaresBase (λ v. ShowsType on v after) scope f.by old new (based_in true scope words)

@@ -15,7 +15,7 @@ ghost use Rattle.type_tables.specs.Forms.{declared_type_form};
 ghost use Rattle.type_tables.specs.Seen.{seen_tables};
 ghost use Rattle.typed_scopes.specs.Follows.{Follows};
 ghost use Rattle.cond_declarators.specs.Types.{ShowsType, based_in};
-ghost use Rattle.cond_declarators.specs.DeclaredBases.{CompletesDeclared, DeclaresBase, DeclaresHere, DeclaresNext};
+ghost use Rattle.cond_declarators.specs.DeclaredBases.{DeclaresBase, DeclaresHere, DeclaresNext};
 
 use crate::bases::struct_type;
 use c_text::Token;
@@ -94,7 +94,6 @@ fn declare_expansion<O: Oracle>(
 ) -> Result<(), NoMemory>
     ensures kept { O.admits oracle.new ≡ O.admits oracle.old }
     ensures elsewhere { IfOk result (λ _. (on : ℕ → Bool) → value on (condition_of when.now) ≡ false → seen_tables on tables.new ≡ seen_tables on tables.old) }
-    ensures completes { IfOk result (λ _. (on : ℕ → Bool) → CompletesDeclared (seen_tables on tables.old) → CompletesDeclared (seen_tables on tables.new)) }
     ensures places { IfOk result (λ _. (c : List Bool) → IsTrue (value (has c) (O.admits oracle.old)) → IsTrue (value (has c) (condition_of when.now))
         → DeclaresNext (has c) (value (has c) (condition_of expansion.now.when)) (plain_tree expansion.now.tree) (seen_tables (has c) tables.old) (seen_tables (has c) tables.new) all.old all.new) }
 {
@@ -121,9 +120,8 @@ fn declare_each<O: Oracle>(
 ) -> Result<Outcomes<DeclaredType, Refused>, NoMemory>
     ensures kept { O.admits oracle.new ≡ O.admits oracle.old }
     ensures elsewhere { IfOk result (λ _. (on : ℕ → Bool) → value on (condition_of when.now) ≡ false → seen_tables on tables.new ≡ seen_tables on tables.old) }
-    ensures completes { IfOk result (λ _. (on : ℕ → Bool) → CompletesDeclared (seen_tables on tables.old) → CompletesDeclared (seen_tables on tables.new)) }
     ensures declares { IfOk result (λ all. (c : List Bool) (scope : entities.Scope) (f : Follows (seen_tables (has c) tables.old) scope) (words : PlainTree) → IsTrue (value (has c) (O.admits oracle.old))
-        → IsTrue (value (has c) (condition_of when.now)) → CompletesDeclared (seen_tables (has c) tables.old) → seen (has c) (expanded expansions.now) ≡ words ∷ []
+        → IsTrue (value (has c) (condition_of when.now)) → seen (has c) (expanded expansions.now) ≡ words ∷ []
         → DeclaresBase (λ outcome. ShowsType (has c) outcome all) scope f.by (seen_tables (has c) tables.old) (seen_tables (has c) tables.new) (based_in true scope words)) }
 {
     let mut all = Outcomes::nothing(alloc);
@@ -143,9 +141,8 @@ pub fn declared_base<O: Oracle>(
 ) -> Result<Outcomes<DeclaredType, Refused>, NoMemory>
     ensures kept { O.admits oracle.new ≡ O.admits oracle.old }
     ensures elsewhere { IfOk result (λ _. (on : ℕ → Bool) → value on (condition_of when.now) ≡ false → seen_tables on tables.new ≡ seen_tables on tables.old) }
-    ensures completes { IfOk result (λ _. (on : ℕ → Bool) → CompletesDeclared (seen_tables on tables.old) → CompletesDeclared (seen_tables on tables.new)) }
     ensures declares { IfOk result (λ all. (c : List Bool) (scope : entities.Scope) (f : Follows (seen_tables (has c) tables.old) scope) → IsTrue (value (has c) (O.admits oracle.old))
-        → IsTrue (value (has c) (condition_of when.now)) → CompletesDeclared (seen_tables (has c) tables.old)
+        → IsTrue (value (has c) (condition_of when.now))
         → DeclaresBase (λ outcome. ShowsType (has c) outcome all) scope f.by (seen_tables (has c) tables.old) (seen_tables (has c) tables.new)
         (based_in true scope (item_at (has c) (plain_item words.now)))) }
 {

@@ -14,12 +14,11 @@ use Rattle.c_tree.specs.Trees.{PlainTree, PlainTrees, leaf, node, none}
 use Rattle.choice_trees.specs.declared.trees.Choice.{Choice}
 use Rattle.choice_trees.specs.declared.trees.Item.{Item}
 use Rattle.choice_trees.specs.ChoiceTrees.{PlainChoices, no_choice, choice, plain_item, plain_branches, plain_choices, with_part, item_at, parts_at, branch_at}
-use Rattle.expression_types.specs.Known.{Known}
 use Rattle.expression_types.specs.Reading.{is_operand}
 use Rattle.cond_initialisers.specs.declared.shapes.Shape.{Shape}
 use Rattle.cond_initialisers.specs.declared.shapes.Shape.TheVariants.{Braces, List as AList, Texts, Expression}
 use Rattle.cond_initialisers.specs.Shapes.{shape_of}
-use Rattle.cond_initialisers.specs.Refusals.{RefusedFor, is_entry, alone, refuses, entries_in, one_entry}
+use Rattle.cond_initialisers.specs.Refusals.{RefusedFor, Asked, is_entry, alone, refuses, entries_in, one_entry}
 use Rattle.cond_initialisers.specs.Rows.{plain_types, asked_for, asked_each}
 
 -- ---- shapes
@@ -28,13 +27,13 @@ abbrev pub HasShape : Kind → Shape → Type 0
 HasShape kind Braces = kind ≡ k.Braces
 HasShape kind AList = kind ≡ k.Initialisers
 HasShape kind Texts = kind ≡ k.Texts
-HasShape kind Expression = (known : Known) (members : ℕ → List PlainType) (parts : PlainTrees) (ty : PlainType) → refuses known members (node kind parts) ty ≡ alone known (node kind parts) ty
+HasShape kind Expression = (asked : Asked) (members : ℕ → List PlainType) (parts : PlainTrees) (ty : PlainType) → refuses asked members (node kind parts) ty ≡ alone asked (node kind parts) ty
 
 pub has_shape : (kind : Kind) → HasShape kind (shape_of kind)
 has_shape k.Braces = refl
 has_shape k.Initialisers = refl
 has_shape k.Texts = refl
-has_shape kind = λ known members parts ty. refl
+has_shape kind = λ asked members parts ty. refl
 
 -- ---- places
 
@@ -46,42 +45,42 @@ next_places : (on : ℕ → Bool) (m n : ℕ) (parts : PlainChoices) → parts_a
 next_places on m n no_choice = refl
 next_places on m n (choice alternatives rest) = ap (with_part false (branch_at on alternatives)) (next_places on (suc m) (suc n) rest)
 
-module _ (known : Known) (members : ℕ → List PlainType) where
+module _ (asked : Asked) (members : ℕ → List PlainType) where
   -- ---- entries
 
   leaf_apart : (b : Bool) (entry : RefusedFor) (rest : List RefusedFor) → (if b then entry ∷ rest else rest) ≡ (if b then entry ∷ [] else []) ++ rest
   leaf_apart true entry rest = refl
   leaf_apart false entry rest = refl
 
-  pub part_apart : (o : Option PlainTree) (rest : PlainTrees) → entries_in known members (with_part false o rest) ≡ entries_in known members (with_part false o none) ++ entries_in known members rest
+  pub part_apart : (o : Option PlainTree) (rest : PlainTrees) → entries_in asked members (with_part false o rest) ≡ entries_in asked members (with_part false o none) ++ entries_in asked members rest
   part_apart None rest = refl
-  part_apart (Some (leaf token)) rest = leaf_apart (is_operand token) (alone known (leaf token)) (entries_in known members rest)
+  part_apart (Some (leaf token)) rest = leaf_apart (is_operand token) (alone asked (leaf token)) (entries_in asked members rest)
   part_apart (Some (node kind parts)) rest = refl
 
-  pub one_part : (tree : PlainTree) → entries_in known members (with_part false (Some tree) none) ≡ one_entry known members tree
+  pub one_part : (tree : PlainTree) → entries_in asked members (with_part false (Some tree) none) ≡ one_entry asked members tree
   one_part (leaf token) = refl
   one_part (node kind parts) = refl
 
-  pub no_entry : (tree : PlainTree) → is_entry tree ≡ false → one_entry known members tree ≡ []
-  no_entry tree e = ap (λ b. if b then refuses known members tree ∷ [] else []) e
+  pub no_entry : (tree : PlainTree) → is_entry tree ≡ false → one_entry asked members tree ≡ []
+  no_entry tree e = ap (λ b. if b then refuses asked members tree ∷ [] else []) e
 
-  pub an_entry : (tree : PlainTree) → is_entry tree ≡ true → one_entry known members tree ≡ refuses known members tree ∷ []
-  an_entry tree e = ap (λ b. if b then refuses known members tree ∷ [] else []) e
+  pub an_entry : (tree : PlainTree) → is_entry tree ≡ true → one_entry asked members tree ≡ refuses asked members tree ∷ []
+  an_entry tree e = ap (λ b. if b then refuses asked members tree ∷ [] else []) e
 
   -- ---- parts, one after the other
 
   module _ (ts : List PlainType) (on : ℕ → Bool) where
     abbrev pub entries_from : List (Choice Item) → List (List Bool)
-    entries_from parts = asked_each ts (entries_in known members (parts_at on k.Initialisers 0 (plain_choices parts)))
+    entries_from parts = asked_each ts (entries_in asked members (parts_at on k.Initialisers 0 (plain_choices parts)))
 
     abbrev pub entries_for_part : Option PlainTree → List (List Bool)
-    entries_for_part o = asked_each ts (entries_in known members (with_part false o none))
+    entries_for_part o = asked_each ts (entries_in asked members (with_part false o none))
 
     first_part : (x : Choice Item) (rest : List (Choice Item)) → entries_from (x ∷ rest) ≡ entries_for_part (branch_at on (plain_branches x.branches.items)) ++ entries_from rest
     first_part x rest =
-        ap (λ ps. asked_each ts (entries_in known members (with_part false (branch_at on (plain_branches x.branches.items)) ps))) (next_places on 1 0 (plain_choices rest))
+        ap (λ ps. asked_each ts (entries_in asked members (with_part false (branch_at on (plain_branches x.branches.items)) ps))) (next_places on 1 0 (plain_choices rest))
         ∙ (ap (asked_each ts) (part_apart (branch_at on (plain_branches x.branches.items)) (parts_at on k.Initialisers 0 (plain_choices rest)))
-        ∙ map-append (asked_for ts) (entries_in known members (with_part false (branch_at on (plain_branches x.branches.items)) none)) (entries_in known members (parts_at on k.Initialisers 0 (plain_choices rest))))
+        ∙ map-append (asked_for ts) (entries_in asked members (with_part false (branch_at on (plain_branches x.branches.items)) none)) (entries_in asked members (parts_at on k.Initialisers 0 (plain_choices rest))))
 
     pub next_part : (list : List (Choice Item)) (x : Choice Item) (i : ℕ) (old new : List (List Bool)) → i < length list → x ≡ get_or list i x
         → new ≡ old ++ entries_for_part (branch_at on (plain_branches x.branches.items)) → old ++ entries_from (drop i list) ≡ entries_from list → new ++ entries_from (drop (i + 1) list) ≡ entries_from list
@@ -109,27 +108,27 @@ module _ (known : Known) (members : ℕ → List PlainType) where
     }
 
     taken : (t w here after : Bool) (item : PlainTree) (rest : Option PlainTree) (pushed : List (List Bool)) → here ≡ (t && w) → after ≡ (t && not w)
-        → (pushed ++ under here (asked_each ts (one_entry known members item))) ++ under after (entries_for_part rest) ≡ pushed ++ under t (entries_for_part (if w then Some item else rest))
+        → (pushed ++ under here (asked_each ts (one_entry asked members item))) ++ under after (entries_for_part rest) ≡ pushed ++ under t (entries_for_part (if w then Some item else rest))
     taken true true here after item rest pushed h a =
-        ap (λ b. (pushed ++ under b (asked_each ts (one_entry known members item))) ++ under after (entries_for_part rest)) h
-        ∙ (ap (λ b. (pushed ++ asked_each ts (one_entry known members item)) ++ under b (entries_for_part rest)) a
-        ∙ (append-nil (pushed ++ asked_each ts (one_entry known members item)) ∙ ap (λ es. pushed ++ asked_each ts es) (sym (one_part item))))
+        ap (λ b. (pushed ++ under b (asked_each ts (one_entry asked members item))) ++ under after (entries_for_part rest)) h
+        ∙ (ap (λ b. (pushed ++ asked_each ts (one_entry asked members item)) ++ under b (entries_for_part rest)) a
+        ∙ (append-nil (pushed ++ asked_each ts (one_entry asked members item)) ∙ ap (λ es. pushed ++ asked_each ts es) (sym (one_part item))))
     taken true false here after item rest pushed h a =
-        ap (λ b. (pushed ++ under b (asked_each ts (one_entry known members item))) ++ under after (entries_for_part rest)) h
+        ap (λ b. (pushed ++ under b (asked_each ts (one_entry asked members item))) ++ under after (entries_for_part rest)) h
         ∙ (ap (λ b. (pushed ++ []) ++ under b (entries_for_part rest)) a
         ∙ ap (λ l. l ++ entries_for_part rest) (append-nil pushed))
     taken false w here after item rest pushed h a =
-        ap (λ b. (pushed ++ under b (asked_each ts (one_entry known members item))) ++ under after (entries_for_part rest)) h
+        ap (λ b. (pushed ++ under b (asked_each ts (one_entry asked members item))) ++ under after (entries_for_part rest)) h
         ∙ (ap (λ b. (pushed ++ []) ++ under b (entries_for_part rest)) a
         ∙ append-nil (pushed ++ []))
 
     pub part_step : (list : List (Formula × Item)) (x : Formula × Item) (i : ℕ) (t here after : Bool) (before old new : List (List Bool)) → i < length list → x ≡ get_or list i x
         → here ≡ (t && value on (condition_of x.0)) → after ≡ (t && not (value on (condition_of x.0)))
-        → new ≡ old ++ under here (asked_each ts (one_entry known members (item_at on (plain_item x.1)))) → PartSoFar list i t before old → PartSoFar list (i + 1) after before new
+        → new ≡ old ++ under here (asked_each ts (one_entry asked members (item_at on (plain_item x.1)))) → PartSoFar list i t before old → PartSoFar list (i + 1) after before new
     part_step list x i t here after before old new within is h a pushed so_far = record {
-      pushed = so_far.pushed ++ under here (asked_each ts (one_entry known members (item_at on (plain_item x.1))));
-      now_is = pushed ∙ (ap (λ l. l ++ under here (asked_each ts (one_entry known members (item_at on (plain_item x.1))))) so_far.now_is
-          ∙ append_assoc before so_far.pushed (under here (asked_each ts (one_entry known members (item_at on (plain_item x.1))))));
+      pushed = so_far.pushed ++ under here (asked_each ts (one_entry asked members (item_at on (plain_item x.1))));
+      now_is = pushed ∙ (ap (λ l. l ++ under here (asked_each ts (one_entry asked members (item_at on (plain_item x.1))))) so_far.now_is
+          ∙ append_assoc before so_far.pushed (under here (asked_each ts (one_entry asked members (item_at on (plain_item x.1))))));
       same = taken t (value on (condition_of x.0)) here after (item_at on (plain_item x.1)) (branch_at on (plain_branches (drop (i + 1) list))) so_far.pushed h a
           ∙ (ap (λ l. so_far.pushed ++ under t (entries_for_part (branch_at on (plain_branches l)))) (sym (item_of list x i within is)) ∙ so_far.same);
     }

@@ -13,19 +13,18 @@ types_renumbered by [] = refl
 types_renumbered by (m ∷ ms) = ap (λ ts. renumbered by m.ty ∷ ts) (types_renumbered by ms)
 
 complete_or_not :
-    (by : ℕ → ℕ) (t : Tables) (structs : List Struct) (n : ℕ) (s : Struct) (b : Bool) → StructFollows by t structs n s → s.complete ≡ b → (s.complete ≡ false → s.members ≡ [])
+    (by : ℕ → ℕ) (t : Tables) (structs : List Struct) (n : ℕ) (s : Struct) (b : Bool) → StructFollows by t structs n s → s.complete ≡ b
     → (members_in t (by n) ≡ map (renumbered by) (types_of s.members)) × AreThere structs (types_of s.members)
-complete_or_not by t structs n s true is e before = (
+complete_or_not by t structs n s true is e = (
   ap (λ b. if b then types_of (t.members (by n)) else []) (is.complete ∙ e) ∙ (ap types_of (is.members e) ∙ types_renumbered by s.members),
   is.there e,
 )
-complete_or_not by t structs n s false is e before = (
-  ap (λ b. if b then types_of (t.members (by n)) else []) (is.complete ∙ e) ∙ ap (λ ms. map (renumbered by) (types_of ms)) (sym (before e)),
-  subst (λ ms. AreThere structs (types_of ms)) (sym (before e)) tt,
+complete_or_not by t structs n s false is e = (
+  ap (λ b. if b then types_of (t.members (by n)) else []) (is.complete ∙ e) ∙ ap (λ ms. map (renumbered by) (types_of ms)) (sym (is.none_before e)),
+  subst (λ ms. AreThere structs (types_of ms)) (sym (is.none_before e)) tt,
 )
 
 pub members_followed :
-    (t : Tables) (scope : Scope) (f : Follows t scope) → ((n : ℕ) (s : Struct) → slice_get scope.structs n ≡ Some s → s.complete ≡ false → s.members ≡ [])
-    → (n : ℕ) (s : Struct) → slice_get scope.structs n ≡ Some s
+    (t : Tables) (scope : Scope) (f : Follows t scope) (n : ℕ) (s : Struct) → slice_get scope.structs n ≡ Some s
     → (members_in t (f.by n) ≡ map (renumbered f.by) (types_of s.members)) × AreThere scope.structs (types_of s.members)
-members_followed t scope f before n s found = complete_or_not f.by t scope.structs n s s.complete (f.structs n s found) refl (before n s found)
+members_followed t scope f n s found = complete_or_not f.by t scope.structs n s s.complete (f.structs n s found) refl

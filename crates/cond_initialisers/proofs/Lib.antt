@@ -1,4 +1,5 @@
 pub mod Refused
+pub mod ByTypes
 pub mod Read
 pub mod Followed
 pub mod Seen

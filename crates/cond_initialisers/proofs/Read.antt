@@ -1,6 +1,6 @@
 -- Initialisers are refused entry by entry exactly where what they give is refused.
-use Rattle.std.proofs.Common.{arith, ◌≡◌, ℕ, zero, suc, ◌+◌, ◌-◌, ◌<◌, ◌≤◌, Bool, true, false, List, [], ◌∷◌, ◌++◌, refl, sym, ap, subst, ◌∙◌}
-use Rattle.std.specs.Prelude.{IsTrue, ◌||◌, ◌==◌, nat_le, nat_lt, map, length, replicate, Option, Some, None, option_map, slice_get, if◌then◌else◌}
+use Rattle.std.proofs.Common.{arith, ◌≡◌, ℕ, zero, suc, ◌+◌, ◌<◌, ◌≤◌, Bool, true, false, List, [], ◌∷◌, ◌++◌, refl, sym, ap, subst, ◌∙◌}
+use Rattle.std.specs.Prelude.{IsTrue, ◌||◌, ◌==◌, nat_lt, map, replicate, Option, Some, None, option_map, slice_get, if◌then◌else◌}
 use Rattle.std.proofs.lemmas.Bool.{false≢true, eq-eqb, ne_eqb, ltb-true, ltb-false}
 use Rattle.c_text.specs.Token.{PlainToken}
 use Rattle.c_types.specs.Types.{PlainType, char, unsigned_char, array_of, structure}
@@ -9,30 +9,22 @@ use Rattle.c_tree.specs.declared.kinds.Kind.{Kind}
 use Rattle.c_tree.specs.declared.kinds.Kind.TheVariants as k
 use Rattle.c_tree.specs.declared.terminals.Terminal.TheVariants as t
 use Rattle.c_tree.specs.Trees.{PlainTree, PlainTrees, leaf, node, none, more}
-use Rattle.c_tree.specs.Grammar.{expression, initialiser, initialisers, belongs, agree, shape, are_texts, any_part}
+use Rattle.c_tree.specs.Grammar.{expression, initialiser, initialisers, belongs, agree, shape}
 use Rattle.tree_derivations.specs.Derivations.{Derivation, single, made_of, Shaped, a_row, some_texts, with_last_comma, at_end, a_word, a_part, Ended, ends, ends_in_comma, goes_on}
-use Rattle.core_meaning.specs.declared.refusals.TypeKind.TheVariants.{BadOperand, BadConstant}
+use Rattle.core_meaning.specs.declared.refusals.TypeKind.TheVariants.{BadOperand}
 use Rattle.core_meaning.specs.Values.{Path}
-use Rattle.core_meaning.specs.Program.{PlainExpression}
-use Rattle.core_meaning.specs.Checking.{Checked, fine, refused, broken, ◌>>=◌, give, unless_so, found_or, or_broken}
+use Rattle.core_meaning.specs.Checking.{Checked, refused, ◌>>=◌, give}
 use Rattle.core_meaning.specs.Entities.{Struct, Scope}
-use Rattle.core_meaning.specs.Typing.{Operand, loaded, fits_into}
-use Rattle.core_meaning.specs.Expressions.{judged, valued, first_token, text_bytes, first_text, passed}
-use Rattle.core_meaning.specs.Constancy.{Initial, members_of, part_for, path_for, is_character_type, text_initial, part_or_excess, is_allowed, value_initial, whole_initial, text_or_whole, initial, initial_entries}
-use Rattle.conditional.specs.Judgements.{bind}
-use Rattle.choice_trees.specs.ChoiceTrees.{semicolon}
-use Rattle.operand_types.specs.OperandTypes.{renumbered, type_of_operand, outcome_as}
-use Rattle.operand_types.specs.Operators.{fitted_type}
-use Rattle.operand_types.specs.Laws.{OperatorsKeepTypes, operand_seen}
-use Rattle.operand_rules.specs.PlainOperandTypes.{accepted}
-use Rattle.expression_types.specs.Known.{Known}
-use Rattle.expression_types.specs.Reading.{is_operand, text_outcome, read_expression}
+use Rattle.core_meaning.specs.Expressions.{valued, first_token}
+use Rattle.core_meaning.specs.Constancy.{Initial, members_of, part_for, path_for, is_character_type, part_or_excess, whole_initial, text_or_whole, initial, initial_entries}
+use Rattle.operand_types.specs.OperandTypes.{renumbered}
+use Rattle.expression_types.specs.Reading.{is_operand}
 use Rattle.expression_types.proofs.PartsRead.{no_operand}
 use Rattle.statement_readings.specs.Walks.{is_refused}
-use Rattle.statement_readings.proofs.Steps.{same_then}
 use Rattle.typed_scopes.specs.Follows.{IsThere, AreThere, types_of}
-use Rattle.cond_initialisers.specs.Refusals.{is_refusal, has_room, room_for, RefusedFor, parts_of, in_pairs, some_refused, is_unfit, alone, as_text, refuses, entries_in}
-use Rattle.cond_initialisers.proofs.Refused.{refused_with, test_refused, then_with, always_refused, refused_both}
+use Rattle.cond_initialisers.specs.Laws.{AreRefused}
+use Rattle.cond_initialisers.specs.Refusals.{RefusedFor, Asked, parts_of, in_pairs, some_refused, alone, as_text, refuses, entries_in}
+use Rattle.cond_initialisers.proofs.Refused.{refused_with, always_refused, refused_both}
 
 -- ---- expressions
 
@@ -89,39 +81,14 @@ or_false : (b : Bool) → (b || false) ≡ b
 or_false true = refl
 or_false false = refl
 
-module _ (by : ℕ → ℕ) (scope : Scope) (known : Known) (members : ℕ → List PlainType)
-    (types : (level : ℕ) (tree : PlainTree) → Derivation (expression level) tree → (read_expression known tree).outcome ≡ operand_seen by scope (judged scope tree))
-    (keeps : OperatorsKeepTypes by scope)
+module _ (by : ℕ → ℕ) (scope : Scope) (members : ℕ → List PlainType) (globals : Option ℕ) (asked : Asked) (right : AreRefused by scope globals asked)
     (follow : (n : ℕ) (s : Struct) → slice_get scope.structs n ≡ Some s → (members (by n) ≡ map (renumbered by) (types_of s.members)) × AreThere scope.structs (types_of s.members)) where
   -- ---- expressions
 
-  found_refused : (o : Option PlainExpression) (path : Path) (first : PlainToken)
-      → is_refused (found_or o BadOperand semicolon)
-      ≡ is_refused {A = List Initial} (found_or o BadOperand first >>= (λ core. unless_so (is_allowed scope None core) BadConstant first >>= (λ allowed. give (record { path = path; value = core; first = first } ∷ []))))
-  found_refused None path first = refl
-  found_refused (Some core) path first = refl
-
-  judged_unfit : (m : Checked Operand) (ty : PlainType) (path : Path) (first : PlainToken)
-      → is_refusal (bind (outcome_as (type_of_operand by scope.structs) m) (fitted_type semicolon (renumbered by ty)))
-      ≡ is_refused {A = List Initial} ((m >>= loaded scope) >>= (λ x. found_or (fits_into ty x) BadOperand first
-      >>= (λ core. unless_so (is_allowed scope None core) BadConstant first >>= (λ allowed. give (record { path = path; value = core; first = first } ∷ [])))))
-  judged_unfit (fine x bindings) ty path first =
-      sym (ap is_refusal (keeps.fits semicolon semicolon ty x))
-      ∙ (test_refused (passed scope ty x semicolon)
-      ∙ (same_then (loaded scope x) (λ v. found_or (fits_into ty v) BadOperand semicolon) _ (λ v. found_refused (fits_into ty v) path first)
-      ∙ sym (then_with bindings (loaded scope x) _)))
-  judged_unfit (refused kind token) ty path first = refl
-  judged_unfit broken ty path first = refl
-
-  unfit_same : {level : ℕ} {tree : PlainTree} → Derivation (expression level) tree → (ty : PlainType) (path : Path) (first : PlainToken)
-      → is_unfit known tree (renumbered by ty) ≡ is_refused (value_initial scope None ty path tree first)
-  unfit_same {level} {tree} d ty path first =
-      ap (λ o. is_refusal (bind o (fitted_type semicolon (renumbered by ty)))) (types level tree d) ∙ judged_unfit (judged scope tree) ty path first
-
   alone_same : {level : ℕ} {tree : PlainTree} → Derivation (expression level) tree → (ty : PlainType) (path : Path) (first : PlainToken)
-      → alone known tree (renumbered by ty) ≡ is_refused (whole_initial scope None ty path tree first)
+      → alone asked tree (renumbered by ty) ≡ is_refused (whole_initial scope globals ty path tree first)
   alone_same {level} {tree} d (array_of element count) path first = always_refused {B = List Initial} (valued scope tree) (λ x. refused BadOperand first) (λ x. refl)
-  alone_same d ty path first = unfit_same d ty path first
+  alone_same {level} {tree} d ty path first = right.values level tree d ty path first
 
   -- ---- texts
 
@@ -130,37 +97,16 @@ module _ (by : ℕ → ℕ) (scope : Scope) (known : Known) (members : ℕ → L
   character_same unsigned_char = refl
   character_same ty = refl
 
-  fits_in : (b : Bool) (parts : List Initial) (first : PlainToken) → is_refusal (accepted b) ≡ is_refused (unless_so b BadConstant first >>= (λ room. give parts))
-  fits_in true parts first = refl
-  fits_in false parts first = refl
-
-  room_same : (element : PlainType) (count : ℕ) (path : Path) (bytes : List ℕ) (first : PlainToken)
-      → is_refusal (accepted (has_room count (array_of char (length bytes + 1)))) ≡ is_refused (text_initial element count path bytes first)
-  room_same element count path bytes first =
-      let e : length bytes + 1 - 1 ≡ length bytes = omega arith in
-      ap (λ n. is_refusal (accepted (nat_le n count))) e ∙ fits_in (nat_le (length bytes) count) _ first
-
-  bytes_same : (o : Option (List ℕ)) (at : PlainToken) (element : PlainType) (count : ℕ) (path : Path) (first : PlainToken)
-      → is_refusal (bind (text_outcome o (Some at)) (room_for count)) ≡ is_refused (or_broken o >>= (λ bytes. text_initial element count path bytes first))
-  bytes_same None at element count path first = refl
-  bytes_same (Some bytes) at element count path first = room_same element count path bytes first ∙ sym (refused_with [] (text_initial element count path bytes first))
-
-  texts_same : (parts : PlainTrees) → IsTrue (are_texts parts) → IsTrue (any_part parts) → (element : PlainType) (count : ℕ) (path : Path) (first : PlainToken)
-      → is_refusal (bind (text_outcome (text_bytes parts) (first_text parts)) (room_for count)) ≡ is_refused (or_broken (text_bytes parts) >>= (λ bytes. text_initial element count path bytes first))
-  texts_same none texts some element count path first = absurd (false≢true some)
-  texts_same (more (leaf token) rest) texts some element count path first = bytes_same (text_bytes (more (leaf token) rest)) token element count path first
-  texts_same (more (node kind inner) rest) texts some element count path first = absurd (false≢true texts)
-
   if_characters : (b : Bool) (x : Bool) (y : Checked (List Initial)) (first : PlainToken) → x ≡ is_refused y → (if b then x else true) ≡ is_refused (if b then y else refused BadOperand first)
   if_characters true x y first e = e
   if_characters false x y first e = refl
 
-  text_same : {parts : PlainTrees} → IsTrue (are_texts parts) → IsTrue (any_part parts) → Derivation (expression 1) (node k.Texts parts) → (ty : PlainType) (path : Path) (first : PlainToken)
-      → as_text known (node k.Texts parts) (renumbered by ty) ≡ is_refused (text_or_whole scope None ty path parts first)
-  text_same {parts} texts some d (array_of element count) path first =
-      ap (λ b. if b then is_refusal (bind (text_outcome (text_bytes parts) (first_text parts)) (room_for count)) else true) (character_same element)
-      ∙ if_characters (is_character_type element) _ _ first (texts_same parts texts some element count path first)
-  text_same texts some d ty path first = unfit_same d ty path first
+  text_same : {parts : PlainTrees} → Derivation (expression 1) (node k.Texts parts) → (ty : PlainType) (path : Path) (first : PlainToken)
+      → as_text asked (node k.Texts parts) (renumbered by ty) ≡ is_refused (text_or_whole scope globals ty path parts first)
+  text_same {parts} d (array_of element count) path first =
+      ap (λ b. if b then asked.without_room (node k.Texts parts) count else true) (character_same element)
+      ∙ if_characters (is_character_type element) _ _ first (right.texts parts d element count path first)
+  text_same {parts} d ty path first = right.values 1 (node k.Texts parts) d ty path first
 
   -- ---- the parts of an object
 
@@ -214,25 +160,25 @@ module _ (by : ℕ → ℕ) (scope : Scope) (known : Known) (members : ℕ → L
   -- ---- entries
 
   abbrev Same : PlainTree → Type 0
-  Same tree = (ty : PlainType) → IsThere scope.structs ty → (path : Path) (behind : PlainToken) → refuses known members tree (renumbered by ty) ≡ is_refused (initial scope None ty path tree behind)
+  Same tree = (ty : PlainType) → IsThere scope.structs ty → (path : Path) (behind : PlainToken) → refuses asked members tree (renumbered by ty) ≡ is_refused (initial scope globals ty path tree behind)
 
   abbrev AllSame : PlainTrees → Type 0
   AllSame entries = (ty : PlainType) (n : ℕ) (ps : List PlainType) → AreParts ty n ps → PartsThere ty → (path : Path) (behind : PlainToken)
-      → in_pairs (entries_in known members entries) ps ≡ is_refused (initial_entries scope None ty path n entries behind)
+      → in_pairs (entries_in asked members entries) ps ≡ is_refused (initial_entries scope globals ty path n entries behind)
 
   -- an initialiser is an entry
-  entry_first : {tree : PlainTree} → Derivation initialiser tree → (rest : PlainTrees) → entries_in known members (more tree rest) ≡ refuses known members tree ∷ entries_in known members rest
-  entry_first (single {token = token} is) rest = ap (λ b. if b then alone known (leaf token) ∷ entries_in known members rest else entries_in known members rest) is
+  entry_first : {tree : PlainTree} → Derivation initialiser tree → (rest : PlainTrees) → entries_in asked members (more tree rest) ≡ refuses asked members tree ∷ entries_in asked members rest
+  entry_first (single {token = token} is) rest = ap (λ b. if b then alone asked (leaf token) ∷ entries_in asked members rest else entries_in asked members rest) is
   entry_first (made_of kind b a s) rest = refl
 
-  no_entry : (token : PlainToken) (rest : PlainTrees) → is_operand token ≡ false → entries_in known members (more (leaf token) rest) ≡ entries_in known members rest
-  no_entry token rest e = ap (λ b. if b then alone known (leaf token) ∷ entries_in known members rest else entries_in known members rest) e
+  no_entry : (token : PlainToken) (rest : PlainTrees) → is_operand token ≡ false → entries_in asked members (more (leaf token) rest) ≡ entries_in asked members rest
+  no_entry token rest e = ap (λ b. if b then alone asked (leaf token) ∷ entries_in asked members rest else entries_in asked members rest) e
 
   -- the part that an entry is for, if there is one
   for_part : (entry : RefusedFor) (entries : List RefusedFor) (ty : PlainType) (n : ℕ) (ps : List PlainType) (found : Option PlainType) (tree : PlainTree) (first : PlainToken)
       (next : PlainType → Checked (List Initial)) → part_for scope.structs ty n ≡ found → AreParts ty n ps
       → ((part : PlainType) (rest : List PlainType) → part_for scope.structs ty n ≡ Some part → AreParts ty (n + 1) rest → (entry (renumbered by part) || in_pairs entries rest) ≡ is_refused (next part))
-      → in_pairs (entry ∷ entries) ps ≡ is_refused (part_or_excess scope None found tree first >>= next)
+      → in_pairs (entry ∷ entries) ps ≡ is_refused (part_or_excess scope globals found tree first >>= next)
   for_part entry entries ty n [] None tree first next is parts same_ = refl
   for_part entry entries ty n [] (Some part) tree first next is parts same_ = absurd (never (parts 0 n (omega arith) ∙ ap (option_map (renumbered by)) is))
     where
@@ -249,17 +195,17 @@ module _ (by : ℕ → ℕ) (scope : Scope) (known : Known) (members : ℕ → L
   last_same : {tree : PlainTree} → Derivation initialiser tree → Same tree → AllSame (more tree none)
   last_same {tree} d one ty n ps parts there path behind =
       ap (λ es. in_pairs es ps) (entry_first d none)
-      ∙ for_part (refuses known members tree) [] ty n ps (part_for scope.structs ty n) tree (first_token tree behind) (λ part. initial scope None part (path_for ty path n) tree behind) refl parts
-      (λ part rest is others. or_false (refuses known members tree (renumbered by part)) ∙ one part (there n part is) (path_for ty path n) behind)
+      ∙ for_part (refuses asked members tree) [] ty n ps (part_for scope.structs ty n) tree (first_token tree behind) (λ part. initial scope globals part (path_for ty path n) tree behind) refl parts
+      (λ part rest is others. or_false (refuses asked members tree (renumbered by part)) ∙ one part (there n part is) (path_for ty path n) behind)
 
   next_same : {tree : PlainTree} (comma : PlainToken) (rest : PlainTrees) → Derivation initialiser tree → is_operand comma ≡ false → Same tree → AllSame rest → AllSame (more tree (more (leaf comma) rest))
   next_same {tree} comma rest d free one others ty n ps parts there path behind =
-      ap (λ es. in_pairs es ps) (entry_first d (more (leaf comma) rest) ∙ ap (λ es. refuses known members tree ∷ es) (no_entry comma rest free))
-      ∙ for_part (refuses known members tree) (entries_in known members rest) ty n ps (part_for scope.structs ty n) tree (first_token tree behind)
-      (λ part. initial scope None part (path_for ty path n) tree behind >>= (λ first. initial_entries scope None ty path (n + 1) rest behind >>= (λ behind_. give (first ++ behind_)))) refl parts
-      (λ part ps is from. ap (λ b. b || in_pairs (entries_in known members rest) ps) (one part (there n part is) (path_for ty path n) behind)
-      ∙ (ap (λ b. is_refused (initial scope None part (path_for ty path n) tree behind) || b) (others ty (n + 1) ps from there path behind)
-      ∙ refused_both (initial scope None part (path_for ty path n) tree behind) (initial_entries scope None ty path (n + 1) rest behind) (λ first behind_. first ++ behind_)))
+      ap (λ es. in_pairs es ps) (entry_first d (more (leaf comma) rest) ∙ ap (λ es. refuses asked members tree ∷ es) (no_entry comma rest free))
+      ∙ for_part (refuses asked members tree) (entries_in asked members rest) ty n ps (part_for scope.structs ty n) tree (first_token tree behind)
+      (λ part. initial scope globals part (path_for ty path n) tree behind >>= (λ first. initial_entries scope globals ty path (n + 1) rest behind >>= (λ behind_. give (first ++ behind_)))) refl parts
+      (λ part ps is from. ap (λ b. b || in_pairs (entries_in asked members rest) ps) (one part (there n part is) (path_for ty path n) behind)
+      ∙ (ap (λ b. is_refused (initial scope globals part (path_for ty path n) tree behind) || b) (others ty (n + 1) ps from there path behind)
+      ∙ refused_both (initial scope globals part (path_for ty path n) tree behind) (initial_entries scope globals ty path (n + 1) rest behind) (λ first behind_. first ++ behind_)))
 
   none_same : AllSame none
   none_same ty n ps parts there path behind = refl
@@ -268,8 +214,8 @@ module _ (by : ℕ → ℕ) (scope : Scope) (known : Known) (members : ℕ → L
       → Same (node k.Braces (more (leaf open_) (more (node k.Initialisers entries) (more (leaf close) none))))
   in_braces open_ close entries o c same_ ty there path behind =
       ap (λ es. some_refused es (renumbered by ty)) (no_entry open_ (more (node k.Initialisers entries) (more (leaf close) none)) o)
-      ∙ (ap (λ es. some_refused (refuses known members (node k.Initialisers entries) ∷ es) (renumbered by ty)) (no_entry close none c)
-      ∙ (or_false (in_pairs (entries_in known members entries) (parts_of members (renumbered by ty)))
+      ∙ (ap (λ es. some_refused (refuses asked members (node k.Initialisers entries) ∷ es) (renumbered by ty)) (no_entry close none c)
+      ∙ (or_false (in_pairs (entries_in asked members entries) (parts_of members (renumbered by ty)))
       ∙ same_ ty 0 (parts_of members (renumbered by ty)) (are_parts ty there) (parts_there ty there) path behind))
 
   mutual
@@ -278,7 +224,7 @@ module _ (by : ℕ → ℕ) (scope : Scope) (known : Known) (members : ℕ → L
     initial_same (made_of k.Braces b a (a_row (a_word {token = open_} w (a_part d (a_word {token = close} v at_end))))) =
         list_same d open_ close (no_operand (t.OpenBrace ∷ []) open_ (refl, tt) w) (no_operand (t.CloseBrace ∷ []) close (refl, tt) v)
     initial_same (made_of k.Texts {parts = parts} b a (some_texts texts some)) = λ ty there path behind.
-        text_same texts some (made_of k.Texts refl a (some_texts texts some)) ty path (first_token (node k.Texts parts) behind)
+        text_same (made_of k.Texts refl a (some_texts texts some)) ty path (first_token (node k.Texts parts) behind)
     initial_same (made_of k.Initialisers b a s) = absurd cc
     initial_same (made_of kind {parts = parts} b a s) = λ ty there path behind. alone_same (as_expression kind b a s refl) ty path (first_token (node kind parts) behind)
 

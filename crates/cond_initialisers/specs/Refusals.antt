@@ -1,5 +1,5 @@
--- Where an initialiser is refused, entry by entry (ISO/IEC 9899:2011, 6.7.9): an expression by its type, a list in braces by its entries, each of which is
--- for one part of what is initialised.
+-- Where an initialiser is refused, entry by entry (ISO/IEC 9899:2011, 6.7.9): an expression as it is asked for, a list in braces by its entries, each
+-- of which is for one part of what is initialised.
 use Rattle.std.specs.Prelude.{ℕ, ◌-◌, Bool, true, false, ◌||◌, List, [], ◌∷◌, replicate, nat_le, if◌then◌else◌}
 use Rattle.c_types.specs.Types.{PlainType, array_of, structure}
 use Rattle.c_tree.specs.declared.kinds.Kind.TheVariants as k
@@ -55,24 +55,36 @@ abbrev pub is_entry : PlainTree → Bool
 is_entry (leaf token) = is_operand token
 is_entry (node kind parts) = true
 
+-- What is asked of expressions.
+pub record Asked : Type 0 where
+  -- for which types an expression is refused, but for texts that an array may be made of
+  pub unfit : PlainTree → RefusedFor
+  -- whether an array of so many characters has no room for texts
+  pub without_room : PlainTree → ℕ → Bool
+
+-- by their types alone
 module _ (known : Known) where
   abbrev pub is_unfit : PlainTree → RefusedFor
   is_unfit tree ty = is_refusal (bind (read_expression known tree).outcome (fitted_type semicolon ty))
 
-  -- an expression that is no text is for no array
-  abbrev pub alone : PlainTree → RefusedFor
-  alone tree (array_of element count) = true
-  alone tree ty = is_unfit tree ty
-
   abbrev pub without_room : PlainTree → ℕ → Bool
   without_room tree count = is_refusal (bind (read_expression known tree).outcome (room_for count))
 
+  abbrev pub by_types : Asked
+  by_types = record { unfit = is_unfit; without_room = without_room }
+
+module _ (asked : Asked) where
+  -- an expression that is no text is for no array
+  abbrev pub alone : PlainTree → RefusedFor
+  alone tree (array_of element count) = true
+  alone tree ty = asked.unfit tree ty
+
   abbrev pub text_in_array : PlainTree → PlainType → ℕ → Bool
-  text_in_array tree element count = if is_character_type element then without_room tree count else true
+  text_in_array tree element count = if is_character_type element then asked.without_room tree count else true
 
   abbrev pub as_text : PlainTree → RefusedFor
   as_text tree (array_of element count) = text_in_array tree element count
-  as_text tree ty = is_unfit tree ty
+  as_text tree ty = asked.unfit tree ty
 
   module _ (members : ℕ → List PlainType) where
     abbrev mutual

@@ -1,5 +1,5 @@
 //! Initialisers, entry by entry. The entries of a list aren't multiplied: each is read for the types of the parts that it may be for.
-ghost use Rattle.std.specs.Prelude.{◌≡◌, ℕ, ◌∷◌, ◌++◌, [], None, Bool, false, List, map, replicate, IsTrue, IfOk, OnOk};
+ghost use Rattle.std.specs.Prelude.{◌≡◌, ℕ, ◌∷◌, ◌++◌, [], Option, Bool, false, List, map, replicate, IsTrue, IfOk, OnOk};
 ghost use Rattle.cond_formula.specs.Features.{has};
 ghost use Rattle.cond_formula.specs.Conditions.{condition_of, value};
 ghost use Rattle.conditional.specs.Entries.{under};
@@ -15,14 +15,13 @@ ghost use Rattle.core_meaning.specs.Entities.{Scope};
 ghost use Rattle.core_meaning.specs.Constancy.{initial};
 ghost use Rattle.operand_types.specs.OperandTypes.{renumbered};
 ghost use Rattle.statement_readings.specs.Walks.{is_refused};
-ghost use Rattle.type_tables.specs.Tables.{known_in};
 ghost use Rattle.type_tables.specs.Seen.{seen_tables};
 ghost use Rattle.typed_scopes.specs.Follows.{IsThere, Follows};
-ghost use Rattle.cond_initialisers.specs.Laws.{HaveNoneBefore};
+ghost use Rattle.cond_initialisers.specs.Laws.{AreRefused};
 ghost use Rattle.cond_initialisers.specs.Refusals.{members_in, refuses, entries_in, in_pairs, some_refused, parts_of, one_entry};
 ghost use Rattle.cond_initialisers.specs.Rows.{plain_types, asked_for, asked_each, row, rows};
 
-use crate::expressions::Expressions;
+use crate::expressions::{Expressions, where_alone, where_texts};
 use crate::laws::initialisers_are_refused;
 use crate::lists::where_some_of;
 use crate::pairs::where_some_pair;
@@ -38,7 +37,7 @@ use reduced_conditions::{both, without};
 use std::alloc::Global;
 use type_tables::Tables;
 
-/// Where the initialiser of a local of this type is refused.
+/// Where the initialiser of an object of this type is refused, if expressions are refused where what they give the object is.
 pub fn where_refused<K: Expressions, O: Oracle>(
     alloc: Global,
     oracle: &mut O,
@@ -49,11 +48,11 @@ pub fn where_refused<K: Expressions, O: Oracle>(
 ) -> Result<Formula, NoMemory>
     ensures kept { O.admits oracle.new ≡ O.admits oracle.old }
     ensures refused { IfOk result (λ f. (c : List Bool) → IsTrue (value (has c) (K.admits known.now)) → IsTrue (value (has c) (O.admits oracle.old))
-        → K.known known.now c ≡ known_in (seen_tables (has c) tables.now)
-        → (scope : Scope) (follows : Follows (seen_tables (has c) tables.now) scope) → HaveNoneBefore scope.structs
+        → (globals : Option ℕ) (scope : Scope) (follows : Follows (seen_tables (has c) tables.now) scope)
+        → AreRefused follows.by scope globals (K.asked known.now c)
         → (t : PlainType) → plain_type ty.now ≡ renumbered follows.by t → IsThere scope.structs t
         → Derivation grammar.initialiser (item_at (has c) (plain_item initialiser.now)) → (path : Path) (behind : PlainToken)
-        → value (has c) (condition_of f) ≡ is_refused (initial scope None t path (item_at (has c) (plain_item initialiser.now)) behind)) }
+        → value (has c) (condition_of f) ≡ is_refused (initial scope globals t path (item_at (has c) (plain_item initialiser.now)) behind)) }
 {
     initialisers_are_refused();
     where_item_refused(alloc, oracle, known, tables, ty, initialiser)
@@ -72,15 +71,15 @@ fn where_item_refused<K: Expressions, O: Oracle>(
 ) -> Result<Formula, NoMemory>
     ensures kept { O.admits oracle.new ≡ O.admits oracle.old }
     ensures same { IfOk result (λ f. (c : List Bool) → IsTrue (value (has c) (K.admits known.now)) → IsTrue (value (has c) (O.admits oracle.old))
-        → value (has c) (condition_of f) ≡ refuses (K.known known.now c) (members_in (seen_tables (has c) tables.now)) (item_at (has c) (plain_item item.now)) (plain_type ty.now)) }
+        → value (has c) (condition_of f) ≡ refuses (K.asked known.now c) (members_in (seen_tables (has c) tables.now)) (item_at (has c) (plain_item item.now)) (plain_type ty.now)) }
 {
     match item {
-        Item::Leaf(..) => known.where_alone(alloc, oracle, ty, item),
+        Item::Leaf(..) => where_alone(alloc, oracle, known, ty, item),
         Item::Node(kind, parts) => match shape_of(*kind) {
             Shape::Braces => where_braces_refused(alloc, oracle, known, tables, ty, parts),
             Shape::List => where_list_refused(alloc, oracle, known, tables, ty, parts),
-            Shape::Texts => known.where_texts(alloc, oracle, ty, item),
-            Shape::Expression => known.where_alone(alloc, oracle, ty, item),
+            Shape::Texts => where_texts(alloc, oracle, known, ty, item),
+            Shape::Expression => where_alone(alloc, oracle, known, ty, item),
         },
     }
 }
@@ -98,7 +97,7 @@ fn where_braces_refused<K: Expressions, O: Oracle>(
     ensures kept { O.admits oracle.new ≡ O.admits oracle.old }
     ensures same { IfOk result (λ f. (c : List Bool) → IsTrue (value (has c) (K.admits known.now)) → IsTrue (value (has c) (O.admits oracle.old))
         → value (has c) (condition_of f)
-        ≡ some_refused (entries_in (K.known known.now c) (members_in (seen_tables (has c) tables.now)) (parts_at (has c) k.Braces 0 (plain_choices parts.now))) (plain_type ty.now)) }
+        ≡ some_refused (entries_in (K.asked known.now c) (members_in (seen_tables (has c) tables.now)) (parts_at (has c) k.Braces 0 (plain_choices parts.now))) (plain_type ty.now)) }
 {
     let entries = entries_for_one(alloc, oracle, known, tables, ty, parts)?;
     where_some_row(alloc, &entries)
@@ -118,7 +117,7 @@ fn where_list_refused<K: Expressions, O: Oracle>(
     ensures kept { O.admits oracle.new ≡ O.admits oracle.old }
     ensures same { IfOk result (λ f. (c : List Bool) → IsTrue (value (has c) (K.admits known.now)) → IsTrue (value (has c) (O.admits oracle.old))
         → value (has c) (condition_of f)
-        ≡ in_pairs (entries_in (K.known known.now c) (members_in (seen_tables (has c) tables.now)) (parts_at (has c) k.Initialisers 0 (plain_choices parts.now)))
+        ≡ in_pairs (entries_in (K.asked known.now c) (members_in (seen_tables (has c) tables.now)) (parts_at (has c) k.Initialisers 0 (plain_choices parts.now)))
         (parts_of (members_in (seen_tables (has c) tables.now)) (plain_type ty.now))) }
 {
     match ty {
@@ -153,7 +152,7 @@ fn where_repeated_refused<K: Expressions, O: Oracle>(
     ensures kept { O.admits oracle.new ≡ O.admits oracle.old }
     ensures same { IfOk result (λ f. (c : List Bool) → IsTrue (value (has c) (K.admits known.now)) → IsTrue (value (has c) (O.admits oracle.old))
         → value (has c) (condition_of f)
-        ≡ in_pairs (entries_in (K.known known.now c) (members_in (seen_tables (has c) tables.now)) (parts_at (has c) k.Initialisers 0 (plain_choices parts.now)))
+        ≡ in_pairs (entries_in (K.asked known.now c) (members_in (seen_tables (has c) tables.now)) (parts_at (has c) k.Initialisers 0 (plain_choices parts.now)))
         (replicate count (plain_type ty.now))) }
 {
     let entries = entries_for_one(alloc, oracle, known, tables, ty, parts)?;
@@ -173,7 +172,7 @@ fn where_members_refused<K: Expressions, O: Oracle>(
     ensures kept { O.admits oracle.new ≡ O.admits oracle.old }
     ensures same { IfOk result (λ f. (c : List Bool) → IsTrue (value (has c) (K.admits known.now)) → IsTrue (value (has c) (O.admits oracle.old))
         → value (has c) (condition_of f)
-        ≡ in_pairs (entries_in (K.known known.now c) (members_in (seen_tables (has c) tables.now)) (parts_at (has c) k.Initialisers 0 (plain_choices parts.now)))
+        ≡ in_pairs (entries_in (K.asked known.now c) (members_in (seen_tables (has c) tables.now)) (parts_at (has c) k.Initialisers 0 (plain_choices parts.now)))
         (members_in (seen_tables (has c) tables.now) structure)) }
 {
     let mut types = Vec::new(alloc);
@@ -195,7 +194,7 @@ fn entries_for_one<K: Expressions, O: Oracle>(
     ensures kept { O.admits oracle.new ≡ O.admits oracle.old }
     ensures same { IfOk result (λ all. (c : List Bool) → IsTrue (value (has c) (K.admits known.now)) → IsTrue (value (has c) (O.admits oracle.old))
         → rows (has c) all.items
-        ≡ asked_each (plain_type ty.now ∷ []) (entries_in (K.known known.now c) (members_in (seen_tables (has c) tables.now)) (parts_at (has c) k.Initialisers 0 (plain_choices parts.now)))) }
+        ≡ asked_each (plain_type ty.now ∷ []) (entries_in (K.asked known.now c) (members_in (seen_tables (has c) tables.now)) (parts_at (has c) k.Initialisers 0 (plain_choices parts.now)))) }
 {
     let mut types = Vec::new(alloc);
     types.push(copied(alloc, ty)?)?;
@@ -215,7 +214,7 @@ fn entries_for<K: Expressions, O: Oracle>(
     ensures kept { O.admits oracle.new ≡ O.admits oracle.old }
     ensures same { IfOk result (λ all. (c : List Bool) → IsTrue (value (has c) (K.admits known.now)) → IsTrue (value (has c) (O.admits oracle.old))
         → rows (has c) all.items
-        ≡ asked_each (plain_types types.now) (entries_in (K.known known.now c) (members_in (seen_tables (has c) tables.now)) (parts_at (has c) k.Initialisers 0 (plain_choices parts.now)))) }
+        ≡ asked_each (plain_types types.now) (entries_in (K.asked known.now c) (members_in (seen_tables (has c) tables.now)) (parts_at (has c) k.Initialisers 0 (plain_choices parts.now)))) }
 {
     let mut all = Vec::new(alloc);
     for part in parts {
@@ -240,7 +239,7 @@ fn push_part<K: Expressions, O: Oracle>(
         → rows (has c) all.new.items
         ≡ rows (has c) all.old.items
         ++ asked_each (plain_types types.now)
-        (entries_in (K.known known.now c) (members_in (seen_tables (has c) tables.now)) (with_part false (branch_at (has c) (plain_branches part.now.branches.items)) none))) }
+        (entries_in (K.asked known.now c) (members_in (seen_tables (has c) tables.now)) (with_part false (branch_at (has c) (plain_branches part.now.branches.items)) none))) }
 {
     let mut left = Formula::True;
     for (when, item) in &part.branches {
@@ -268,7 +267,7 @@ fn push_item<K: Expressions, O: Oracle>(
         → rows (has c) all.new.items
         ≡ rows (has c) all.old.items
         ++ under (value (has c) (condition_of when.now)) (asked_each (plain_types types.now)
-        (one_entry (K.known known.now c) (members_in (seen_tables (has c) tables.now)) (item_at (has c) (plain_item item.now))))) }
+        (one_entry (K.asked known.now c) (members_in (seen_tables (has c) tables.now)) (item_at (has c) (plain_item item.now))))) }
 {
     if !is_entry(item) {
         return Ok(());
@@ -292,7 +291,7 @@ fn row_of<K: Expressions, O: Oracle>(
     ensures kept { O.admits oracle.new ≡ O.admits oracle.old }
     ensures same { IfOk result (λ z. (c : List Bool) → IsTrue (value (has c) (K.admits known.now)) → IsTrue (value (has c) (O.admits oracle.old))
         → row (has c) z
-        ≡ asked_for (plain_types types.now) (refuses (K.known known.now c) (members_in (seen_tables (has c) tables.now)) (item_at (has c) (plain_item item.now)))) }
+        ≡ asked_for (plain_types types.now) (refuses (K.asked known.now c) (members_in (seen_tables (has c) tables.now)) (item_at (has c) (plain_item item.now)))) }
 {
     let mut refused = Vec::new(alloc);
     for ty in types {

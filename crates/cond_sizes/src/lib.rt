@@ -11,4 +11,4 @@ mod totals;
 pub use elements::Count;
 pub use initialisers::counts_by_initialiser;
 pub use laws::counts_need_no_names;
-pub use sizes::{count_of_tree, counts};
+pub use sizes::{count_of_tree, counts, nothing_visible};

@@ -69,7 +69,7 @@ fn count_of(
 }
 
 /// A scope in which nothing is visible.
-fn nothing_visible<'a>(
+pub fn nothing_visible<'a>(
     alloc: Global,
     numbers: &'a Numbers,
     literals: &'a HashMap<Vec<u8>, u32>,

@@ -1,13 +1,13 @@
 -- What tables are to what is visible.
-use Rattle.std.proofs.Common.{◌≡◌, ℕ, Bool, true, false, List, sym, subst}
+use Rattle.std.proofs.Common.{◌≡◌, ◌∙◌, ℕ, Bool, true, false, sym, subst}
 use Rattle.c_tree.specs.declared.kinds.Kind.{Kind}
 use Rattle.c_tree.specs.declared.kinds.Kind.TheVariants as k
-use Rattle.core_meaning.specs.Entities.{Struct, Scope}
+use Rattle.core_meaning.specs.Entities.{Scope}
 use Rattle.core_meaning.specs.Declarations.{with_block}
 use Rattle.type_tables.specs.Tables.{Tables}
 use Rattle.type_tables.specs.Steps.{entered}
-use Rattle.typed_scopes.specs.Follows.{StructFollows, Follows}
-use Rattle.typed_scopes.proofs.Blocks.{block_entered}
+use Rattle.typed_scopes.specs.Follows.{Follows}
+use Rattle.typed_scopes.proofs.Blocks.{block_entered, entered_by}
 use Rattle.statement_readings.specs.Walks.{State}
 use Rattle.cond_statements.specs.Following.{FollowsBy, FollowsInBlockBy}
 use Rattle.cond_statements.specs.Readings.{Stand, Arrives}
@@ -28,38 +28,19 @@ outer_followed by t scope f =
         tagged = g.tagged;
         names = g.names;
         names_there = g.names_there;
+        names_numbered = g.names_numbered;
         locals = g.locals;
         locals_there = g.locals_there;
         within = g.within;
+        completes = g.completes;
+        uncounted = g.uncounted;
       };
       numbers = f.numbers;
     }
-
-structs_entered : (by : ℕ → ℕ) (t : Tables) (structs : List Struct) (n : ℕ) (s : Struct) → StructFollows by t structs n s → StructFollows by (entered t) structs n s
-structs_entered by t structs n s is = record { declared = is.declared; complete = is.complete; members = is.members; numbers = is.numbers; there = is.there }
 
 -- the structs keep their numbers where a block is entered
 pub entered_followed : (by : ℕ → ℕ) (t : Tables) (scope : Scope) → FollowsBy by t scope → FollowsInBlockBy by (entered t) (with_block scope)
-entered_followed by t scope f =
-    let g : Follows t scope = f.follows in
-    record {
-      follows = record {
-        follows = record {
-          by = g.by;
-          apart = g.apart;
-          structs = λ n s e. structs_entered g.by t scope.structs n s (g.structs n s e);
-          tags = g.tags;
-          tagged = g.tagged;
-          names = g.names;
-          names_there = g.names_there;
-          locals = g.locals;
-          locals_there = g.locals_there;
-          within = (block_entered t scope g).follows.within;
-        };
-        innermost = (block_entered t scope g).innermost;
-      };
-      numbers = f.numbers;
-    }
+entered_followed by t scope f = record { follows = block_entered t scope f.follows; numbers = entered_by t scope f.follows ∙ f.numbers }
 
 -- behind the first node
 pub later : (kind : Kind) (first : Bool) (by : ℕ → ℕ) (t : Tables) (scope : Scope) → Stand kind first by t scope → Stand kind false by t scope

@@ -54,7 +54,7 @@ module _ {S : Type 0} (one : S → list.Declared → Checked S) (all : S → Pla
   same_then a b c x y = record { refused = x.refused ∙ y.refused; state = λ e. x.state (y.refused ∙ e) ∙ y.state e }
 
   -- one, and the others behind it
-  then_others : (g : Going S) (first : Checked S) (rest : PlainTrees) (others : Going S) → IsSame others (after (after g first) (all (after g first).state rest))
+  pub then_others : (g : Going S) (first : Checked S) (rest : PlainTrees) (others : Going S) → IsSame others (after (after g first) (all (after g first).state rest))
       → IsSame others (after g (first >>= (λ next. all next rest)))
   then_others g (fine s bindings) rest others same =
       subst (IsSame others) (sym (bound g bindings (all s rest)))

@@ -8,6 +8,8 @@ use Rattle.declarator_lists.specs.declared.items.ListEntry.{ListEntry}
 use Rattle.declarator_lists.specs.declared.beginnings.Head.{Head}
 use Rattle.declarator_lists.specs.declared.beginnings.Beginning.{Beginning}
 use Rattle.declarator_lists.specs.declared.initialised.Initialised.{Initialised}
+use Rattle.declarator_lists.specs.declared.listed.ListedDeclarator.{ListedDeclarator}
+use Rattle.declarator_lists.specs.Lists.{Declared, declared}
 
 module _ (on : ℕ → Bool) where
   abbrev pub entry_at : ListEntry → Entry PlainTree
@@ -32,3 +34,10 @@ module _ (on : ℕ → Bool) where
 
   abbrev pub all_initialised_at : List Initialised → List (Entry (Option PlainTree))
   all_initialised_at all = map initialised_at all
+
+  abbrev pub declarator_at : ListedDeclarator → Entry Declared
+  declarator_at d = record { when = condition_of d.when; what = declared (item_at on (plain_item d.declarator.now)) (option_map (λ item. item_at on (plain_item item.now)) d.initialiser) }
+
+  -- the declarators, each under its condition
+  abbrev pub listed_at : List ListedDeclarator → List (Entry Declared)
+  listed_at all = map declarator_at all

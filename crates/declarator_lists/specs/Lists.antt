@@ -32,10 +32,13 @@ abbrev pub initialiser_in : List PlainTree → Option PlainTree
 initialiser_in [] = None
 initialiser_in (sign ∷ rest) = if is_assign sign then first rest else None
 
+abbrev pub declared : PlainTree → Option PlainTree → Declared
+declared tree initialiser = record { declarator = tree; initialiser = initialiser }
+
 abbrev pub declared_in : List PlainTree → List Declared
 declared_in [] = []
 declared_in (tree ∷ rest) =
-    if is_declarator tree then record { declarator = tree; initialiser = initialiser_in rest } ∷ declared_in rest else declared_in rest
+    if is_declarator tree then declared tree (initialiser_in rest) ∷ declared_in rest else declared_in rest
 
 abbrev pub trees_of : PlainTrees → List PlainTree
 trees_of none = []

@@ -5,7 +5,9 @@
 mod beginnings;
 mod initialised;
 mod items;
+mod listed;
 mod stepping;
 
 pub use items::{ListEntry, entries};
+pub use listed::{ListedDeclarator, listed_declarators};
 pub use stepping::{StepOnDeclarator, for_each_declarator};

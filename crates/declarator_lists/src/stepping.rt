@@ -53,8 +53,9 @@ fn is_declarator_kind(kind: Kind) -> bool
     )
 }
 
+/// Whether an item is a declarator.
 #[tactic(auto, using(choice_trees::specs::ItemLaws::item_kinds))]
-fn is_declarator(item: &Item) -> bool
+pub(crate) fn is_declarator(item: &Item) -> bool
     ensures { (on : ℕ → Bool) → result ≡ spec.is_declarator (item_at on (plain_item item.now)) }
 {
     match item {

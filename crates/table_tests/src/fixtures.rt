@@ -1,6 +1,7 @@
 use c_types::CType;
 use cond_formula::{Config, Formula, NoMemory};
 use cond_operands::Operands;
+use cond_sums::CondSum;
 use conditional::{CondList, CondValue};
 use operand_rules::OperandType;
 use plain_scope::same_type;
@@ -73,7 +74,8 @@ fn members(alloc: Global) -> Result<CondList<Member>, NoMemory> {
 /// `struct s;`, which has its members with A, and with B `struct t;`.
 fn declare_structs(alloc: Global, tables: &mut Tables) -> Result<(), NoMemory> {
     let number = tables.declare_struct(alloc, b"s", Formula::True)?;
-    tables.complete_struct(alloc, number, where_a(), &members(alloc)?)?;
+    let scalars = CondSum::number(alloc, 1)?;
+    tables.complete_struct(alloc, number, where_a(), &members(alloc)?, &scalars)?;
     tables.declare_struct(alloc, b"t", where_b())?;
     Ok(())
 }

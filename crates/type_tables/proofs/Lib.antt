@@ -2,3 +2,4 @@ pub mod Lists
 pub mod Same
 pub mod StructSteps
 pub mod NameSteps
+pub mod Scalars

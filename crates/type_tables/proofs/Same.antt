@@ -5,26 +5,29 @@ use Rattle.std.proofs.Math.Path.{fun_ext}
 use Rattle.std.specs.Str.{bytes_eq}
 use Rattle.c_types.specs.Tags.{PlainMember}
 use Rattle.core_meaning.specs.Entities.{Table, Signature}
+use Rattle.core_meaning.specs.Constancy.{capped}
 use Rattle.type_tables.specs.Tables.{Tables, FileName, Local}
-use Rattle.type_tables.specs.Seen.{is_declared, is_complete, members_of, is_of_tag, tag_in}
+use Rattle.type_tables.specs.Seen.{is_declared, is_complete, members_of, scalars_of, tag_of, is_of_tag, tag_in}
 use Rattle.type_tables.specs.Changes.{IsUndeclared}
 use Rattle.type_tables.specs.declared.entries.CondStruct.{CondStruct}
 
-abbrev tables_of : (ℕ → Bool) → (ℕ → Bool) → (ℕ → List PlainMember) → Table ℕ → Table FileName → (ℕ → Signature) → List Local → ℕ → Tables
-tables_of declared complete members tags names signatures locals depth =
-    record { declared = declared; complete = complete; members = members; tags = tags; names = names; signatures = signatures; locals = locals; depth = depth }
+abbrev tables_of : (ℕ → Bool) → (ℕ → Bool) → (ℕ → List PlainMember) → (ℕ → ℕ) → (ℕ → List ℕ) → Table ℕ → Tables → Tables
+tables_of declared complete members scalars named tags t = record t { declared = declared; complete = complete; members = members; scalars = scalars; named = named; tags = tags }
 
 -- ---- structs and tags alone
 
 pub structs_same :
-    (t : Tables) (declared complete : ℕ → Bool) (members : ℕ → List PlainMember) (tags : Table ℕ)
-    → ((n : ℕ) → declared n ≡ t.declared n) → ((n : ℕ) → complete n ≡ t.complete n) → ((n : ℕ) → members n ≡ t.members n) → ((name : List ℕ) → tags name ≡ t.tags name)
-    → record t { declared = declared; complete = complete; members = members; tags = tags } ≡ t
-structs_same t declared complete members tags d c m g =
-    ap (λ f. tables_of f complete members tags t.names t.signatures t.locals t.depth) (fun_ext d)
-    ∙ ap (λ f. tables_of t.declared f members tags t.names t.signatures t.locals t.depth) (fun_ext c)
-    ∙ ap (λ f. tables_of t.declared t.complete f tags t.names t.signatures t.locals t.depth) (fun_ext m)
-    ∙ ap (λ f. tables_of t.declared t.complete t.members f t.names t.signatures t.locals t.depth) (fun_ext g)
+    (t : Tables) (declared complete : ℕ → Bool) (members : ℕ → List PlainMember) (scalars : ℕ → ℕ) (named : ℕ → List ℕ) (tags : Table ℕ)
+    → ((n : ℕ) → declared n ≡ t.declared n) → ((n : ℕ) → complete n ≡ t.complete n) → ((n : ℕ) → members n ≡ t.members n) → ((n : ℕ) → scalars n ≡ t.scalars n)
+    → ((n : ℕ) → named n ≡ t.named n) → ((name : List ℕ) → tags name ≡ t.tags name)
+    → record t { declared = declared; complete = complete; members = members; scalars = scalars; named = named; tags = tags } ≡ t
+structs_same t declared complete members scalars named tags d c m k n g =
+    ap (λ f. tables_of f complete members scalars named tags t) (fun_ext d)
+    ∙ ap (λ f. tables_of t.declared f members scalars named tags t) (fun_ext c)
+    ∙ ap (λ f. tables_of t.declared t.complete f scalars named tags t) (fun_ext m)
+    ∙ ap (λ f. tables_of t.declared t.complete t.members f named tags t) (fun_ext k)
+    ∙ ap (λ f. tables_of t.declared t.complete t.members t.scalars f tags t) (fun_ext n)
+    ∙ ap (λ f. tables_of t.declared t.complete t.members t.scalars t.named f t) (fun_ext g)
 
 -- ---- one more struct, which is declared nowhere
 
@@ -46,6 +49,18 @@ module _ (on : ℕ → Bool) (tag : List ℕ) (u : CondStruct) (is : IsUndeclare
   members_more [] (suc n) = refl
   members_more (s ∷ structs) zero = refl
   members_more (s ∷ structs) (suc n) = members_more structs n
+
+  pub scalars_more : (structs : List CondStruct) (n : ℕ) → scalars_of on (slice_get (structs ++ u ∷ []) n) ≡ scalars_of on (slice_get structs n)
+  scalars_more [] zero = ap capped (is.scalars on)
+  scalars_more [] (suc n) = refl
+  scalars_more (s ∷ structs) zero = refl
+  scalars_more (s ∷ structs) (suc n) = scalars_more structs n
+
+  pub named_more : (structs : List CondStruct) (n : ℕ) → tag_of on (slice_get (structs ++ u ∷ []) n) ≡ tag_of on (slice_get structs n)
+  named_more [] zero = ap (λ b. if b then u.tag.items else []) (is.declared on)
+  named_more [] (suc n) = refl
+  named_more (s ∷ structs) zero = refl
+  named_more (s ∷ structs) (suc n) = named_more structs n
 
   no_tag : (b : Bool) → (b && Rattle.type_tables.specs.Seen.holds on u.declared) ≡ false
   no_tag true = is.declared on

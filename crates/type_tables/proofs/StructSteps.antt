@@ -9,9 +9,10 @@ use Rattle.std.proofs.lemmas.Option.{slice_get_past}
 use Rattle.std.proofs.lemmas.Bool.{eq-eqb, eqb-true, false≢true}
 use Rattle.c_types.specs.Tags.{PlainMember}
 use Rattle.core_meaning.specs.Entities.{with_entry}
+use Rattle.core_meaning.specs.Constancy.{capped}
 use Rattle.name_places.specs.Places.{place_of}
 use Rattle.type_tables.specs.Tables as plain
-use Rattle.type_tables.specs.Seen.{holds, is_declared, is_complete, members_of, is_of_tag, tag_in, name_in, signature_of, locals_in, seen_tables}
+use Rattle.type_tables.specs.Seen.{holds, is_declared, is_complete, members_of, scalars_of, tag_of, is_of_tag, tag_in, name_in, signature_of, locals_in, seen_tables}
 use Rattle.type_tables.specs.Steps.{with_declared, with_completed, where_true}
 use Rattle.type_tables.specs.Questions.{where_declared}
 use Rattle.type_tables.specs.Changes.{IsUndeclared, Declares, Completes, has_tag_in, is_free, AddsStruct}
@@ -22,7 +23,7 @@ use Rattle.type_tables.specs.declared.entries.LocalName.{LocalName}
 use Rattle.type_tables.specs.declared.tables.Tables.{Tables}
 use Rattle.bindings.proofs.Tags.{last_there}
 use Rattle.type_tables.proofs.Lists.{set_there, set_other}
-use Rattle.type_tables.proofs.Same.{declared_more, complete_more, members_more, tag_in_more, structs_same}
+use Rattle.type_tables.proofs.Same.{declared_more, complete_more, members_more, scalars_more, named_more, tag_in_more, structs_same}
 
 module _ (on : ℕ → Bool) where
   -- what is seen, part by part
@@ -31,9 +32,12 @@ module _ (on : ℕ → Bool) where
     declared = λ n. is_declared on (slice_get structs n);
     complete = λ n. is_complete on (slice_get structs n);
     members = λ n. members_of on (slice_get structs n);
+    scalars = λ n. scalars_of on (slice_get structs n);
+    named = λ n. tag_of on (slice_get structs n);
     tags = λ tag. tag_in on structs tag (places tag);
     names = λ name. name_in on declared name (place_of names name);
     signatures = λ n. signature_of on (slice_get signatures n);
+    functions = length signatures;
     locals = locals_in on (reverse locals);
     depth = depth;
   }
@@ -85,8 +89,8 @@ module _ (on : ℕ → Bool) where
       ∙ ap (λ l. seen_with l (place_of new.tags) old.names old.declared.items old.signatures.items old.locals.items old.depth) a.structs_are
       ∙ ap (λ p. seen_with (old.structs.items ++ a.added ∷ []) p old.names old.declared.items old.signatures.items old.locals.items old.depth) (a.places_are ∙ ap (with_entry (place_of old.tags) tag) a.number_is)
       ∙ structs_same (seen_tables on old) (λ n. is_declared on (slice_get (old.structs.items ++ a.added ∷ []) n)) (λ n. is_complete on (slice_get (old.structs.items ++ a.added ∷ []) n))
-      (λ n. members_of on (slice_get (old.structs.items ++ a.added ∷ []) n)) (λ other. tag_in on (old.structs.items ++ a.added ∷ []) other (with_entry (place_of old.tags) tag (length old.structs.items) other))
-      (declared_more on tag a.added a.undeclared old.structs.items) (complete_more on tag a.added a.undeclared old.structs.items) (members_more on tag a.added a.undeclared old.structs.items)
+      (λ n. members_of on (slice_get (old.structs.items ++ a.added ∷ []) n)) (λ n. scalars_of on (slice_get (old.structs.items ++ a.added ∷ []) n)) (λ n. tag_of on (slice_get (old.structs.items ++ a.added ∷ []) n)) (λ other. tag_in on (old.structs.items ++ a.added ∷ []) other (with_entry (place_of old.tags) tag (length old.structs.items) other))
+      (declared_more on tag a.added a.undeclared old.structs.items) (complete_more on tag a.added a.undeclared old.structs.items) (members_more on tag a.added a.undeclared old.structs.items) (scalars_more on tag a.added a.undeclared old.structs.items) (named_more on tag a.added a.undeclared old.structs.items)
       (λ other. tag_added old.structs.items tag other a.added a.undeclared (place_of old.tags) free)
 
   -- ---- a struct that changes
@@ -118,6 +122,9 @@ module _ (on : ℕ → Bool) where
           ∙ sym (ap f (ap (slice_get structs) (eqb-true n number h) ∙ found))
       by false h = ap f (set_other structs number n now (λ e. false≢true (sym h ∙ eq-eqb n number e)))
 
+  same_named : (now s : CondStruct) → holds on now.declared ≡ holds on s.declared → now.tag.items ≡ s.tag.items → tag_of on (Some now) ≡ tag_of on (Some s)
+  same_named now s d e = ap (λ b. if b then now.tag.items else []) d ∙ ap (λ l. if holds on s.declared then l else []) e
+
   module _ (tag : List ℕ) (number : ℕ) (structs : List CondStruct) (places : List ℕ → Option ℕ) (s now : CondStruct) (found : slice_get structs number ≡ Some s) (has : bytes_eq tag s.tag.items ≡ true)
       (placed : places tag ≡ Some number) where
     other_tag : (other : List ℕ) → bytes_eq other tag ≡ false → bytes_eq other s.tag.items ≡ false
@@ -144,6 +151,21 @@ module _ (on : ℕ → Bool) where
             at None = refl
             at (Some p) = ap (λ b. if b then Some p else None) (each_same (is_of_tag on other) structs number s now found (not_of other (other_tag other h) now change.tag_is ∙ sym (not_of other (other_tag other h) s refl)) p)
 
+  named_declared : (tag : List ℕ) (number : ℕ) (structs : List CondStruct) (s now : CondStruct) → slice_get structs number ≡ Some s → tag ≡ s.tag.items → Declares on true s now
+      → (n : ℕ) → tag_of on (slice_get (slice_set structs number now) n) ≡ (if n == number && not (is_declared on (slice_get structs n)) then tag else tag_of on (slice_get structs n))
+  named_declared tag number structs s now found has change n = by (n == number) refl
+    where
+      this : (b : Bool) → tag ≡ (if not b then tag else (if b then s.tag.items else []))
+      this true = has
+      this false = refl
+
+      by : (b : Bool) → (n == number) ≡ b → tag_of on (slice_get (slice_set structs number now) n) ≡ (if b && not (is_declared on (slice_get structs n)) then tag else tag_of on (slice_get structs n))
+      by true h =
+          ap (λ m. tag_of on (slice_get (slice_set structs number now) m)) (eqb-true n number h) ∙ ap (tag_of on) (set_there structs number s now found)
+          ∙ ap (λ b. if b then now.tag.items else []) (change.declared ∙ or_true (holds on s.declared)) ∙ change.tag_is ∙ sym has ∙ this (holds on s.declared)
+          ∙ sym (ap (λ o. if not (is_declared on o) then tag else tag_of on o) (ap (slice_get structs) (eqb-true n number h) ∙ found))
+      by false h = ap (tag_of on) (set_other structs number n now (λ e. false≢true (sym h ∙ eq-eqb n number e)))
+
   tag_kept : (structs : List CondStruct) (number : ℕ) (s now : CondStruct) → slice_get structs number ≡ Some s → now.tag.items ≡ s.tag.items → holds on now.declared ≡ holds on s.declared
       → (other : List ℕ) (place : Option ℕ) → tag_in on (slice_set structs number now) other place ≡ tag_in on structs other place
   tag_kept structs number s now found e d other None = refl
@@ -165,42 +187,50 @@ module _ (on : ℕ → Bool) where
       by : (b : Bool) → Declares on b s now
           → seen_with (slice_set old.structs.items number now) (place_of old.tags) old.names old.declared.items old.signatures.items old.locals.items old.depth ≡ where_true b (with_declared tag number) (seen_tables on old)
       by true change =
-          structs_same (with_declared tag number (seen_tables on old)) _ _ _ _
+          structs_same (with_declared tag number (seen_tables on old)) _ _ _ _ _ _
           (each_or_this (is_declared on) old.structs.items number s now found true (change.declared ∙ or_true (holds on s.declared)))
           (each_same (is_complete on) old.structs.items number s now found change.complete)
           (each_same (members_of on) old.structs.items number s now found change.members)
+          (each_same (scalars_of on) old.structs.items number s now found (ap capped change.scalars))
+          (named_declared tag number old.structs.items s now found ((bytes_decides tag s.tag.items).0 has) change)
           (tag_declared tag number old.structs.items (place_of old.tags) s now found has placed change)
       by false change =
-          structs_same (seen_tables on old) _ _ _ _
+          structs_same (seen_tables on old) _ _ _ _ _ _
           (each_same (is_declared on) old.structs.items number s now found (change.declared ∙ or_false (holds on s.declared)))
           (each_same (is_complete on) old.structs.items number s now found change.complete)
           (each_same (members_of on) old.structs.items number s now found change.members)
+          (each_same (scalars_of on) old.structs.items number s now found (ap capped change.scalars))
+          (each_same (tag_of on) old.structs.items number s now found (same_named now s (change.declared ∙ or_false (holds on s.declared)) change.tag_is))
           (λ other. tag_kept old.structs.items number s now found change.tag_is (change.declared ∙ or_false (holds on s.declared)) other (place_of old.tags other))
 
   pub seen_completed :
-      (number : ℕ) (ms : List PlainMember) (old new : Tables) (s now : CondStruct) (b : Bool) → slice_get old.structs.items number ≡ Some s
-      → new.structs.items ≡ slice_set old.structs.items number now → Completes on b ms s now → place_of new.tags ≡ place_of old.tags
+      (number : ℕ) (ms : List PlainMember) (scalars : ℕ) (old new : Tables) (s now : CondStruct) (b : Bool) → slice_get old.structs.items number ≡ Some s
+      → new.structs.items ≡ slice_set old.structs.items number now → Completes on b ms scalars s now → place_of new.tags ≡ place_of old.tags
       → new.names ≡ old.names → new.declared ≡ old.declared → new.signatures ≡ old.signatures → new.locals ≡ old.locals → new.depth ≡ old.depth
-      → seen_tables on new ≡ where_true b (with_completed number ms) (seen_tables on old)
-  seen_completed number ms old new s now b found set_is change places n d g l e =
+      → seen_tables on new ≡ where_true b (with_completed number ms scalars) (seen_tables on old)
+  seen_completed number ms scalars old new s now b found set_is change places n d g l e =
       structs_alone old new n d g l e
       ∙ ap (λ x. seen_with x (place_of new.tags) old.names old.declared.items old.signatures.items old.locals.items old.depth) set_is
       ∙ ap (λ p. seen_with (slice_set old.structs.items number now) p old.names old.declared.items old.signatures.items old.locals.items old.depth) places
       ∙ by b change
     where
-      by : (b : Bool) → Completes on b ms s now
-          → seen_with (slice_set old.structs.items number now) (place_of old.tags) old.names old.declared.items old.signatures.items old.locals.items old.depth ≡ where_true b (with_completed number ms) (seen_tables on old)
+      by : (b : Bool) → Completes on b ms scalars s now
+          → seen_with (slice_set old.structs.items number now) (place_of old.tags) old.names old.declared.items old.signatures.items old.locals.items old.depth ≡ where_true b (with_completed number ms scalars) (seen_tables on old)
       by true change =
-          structs_same (with_completed number ms (seen_tables on old)) _ _ _ _
+          structs_same (with_completed number ms scalars (seen_tables on old)) _ _ _ _ _ _
           (each_same (is_declared on) old.structs.items number s now found change.declared)
           (each_or_this (is_complete on) old.structs.items number s now found true (change.complete ∙ or_true (holds on s.complete)))
           (each_or_this (members_of on) old.structs.items number s now found ms change.members_are)
+          (each_or_this (scalars_of on) old.structs.items number s now found scalars change.scalars_are)
+          (each_same (tag_of on) old.structs.items number s now found (same_named now s change.declared change.tag_is))
           (λ other. tag_kept old.structs.items number s now found change.tag_is change.declared other (place_of old.tags other))
       by false change =
-          structs_same (seen_tables on old) _ _ _ _
+          structs_same (seen_tables on old) _ _ _ _ _ _
           (each_same (is_declared on) old.structs.items number s now found change.declared)
           (each_same (is_complete on) old.structs.items number s now found (change.complete ∙ or_false (holds on s.complete)))
           (each_same (members_of on) old.structs.items number s now found change.members_are)
+          (each_same (scalars_of on) old.structs.items number s now found change.scalars_are)
+          (each_same (tag_of on) old.structs.items number s now found (same_named now s change.declared change.tag_is))
           (λ other. tag_kept old.structs.items number s now found change.tag_is change.declared other (place_of old.tags other))
 
 pub same_text : (text : List ℕ) → bytes_eq text text ≡ true

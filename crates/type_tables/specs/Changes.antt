@@ -6,6 +6,8 @@ use Rattle.conditional.specs.Entries.{seen, listed, first, under, or_later}
 use Rattle.name_places.specs.Places.{place_of}
 use Rattle.type_tables.specs.Forms.{member_form, file_name_form}
 use Rattle.core_meaning.specs.Entities.{with_entry}
+use Rattle.core_meaning.specs.Constancy.{capped}
+use Rattle.cond_sums.specs.Sums.{sum_at}
 use Rattle.type_tables.specs.Seen.{holds}
 use Rattle.type_tables.specs.Tables as plain
 use Rattle.type_tables.specs.declared.entries.CondStruct.{CondStruct}
@@ -18,6 +20,7 @@ pub record IsUndeclared (tag : List ℕ) (s : CondStruct) : Type 0 where
   pub declared : (on : ℕ → Bool) → holds on s.declared ≡ false
   pub complete : (on : ℕ → Bool) → holds on s.complete ≡ false
   pub members : (on : ℕ → Bool) → seen on (listed member_form s.members) ≡ []
+  pub scalars : (on : ℕ → Bool) → sum_at on s.scalars ≡ 0
 
 -- it is declared where it was, and where this is true
 pub record Declares (on : ℕ → Bool) (here : Bool) (old new : CondStruct) : Type 0 where
@@ -25,13 +28,15 @@ pub record Declares (on : ℕ → Bool) (here : Bool) (old new : CondStruct) : T
   pub declared : holds on new.declared ≡ (holds on old.declared || here)
   pub complete : holds on new.complete ≡ holds on old.complete
   pub members : seen on (listed member_form new.members) ≡ seen on (listed member_form old.members)
+  pub scalars : sum_at on new.scalars ≡ sum_at on old.scalars
 
--- it is complete where it was, and where this is true, and has these members there
-pub record Completes (on : ℕ → Bool) (here : Bool) (members : List PlainMember) (old new : CondStruct) : Type 0 where
+-- it is complete where it was, and where this is true, and has these members and so many scalars there
+pub record Completes (on : ℕ → Bool) (here : Bool) (members : List PlainMember) (scalars : ℕ) (old new : CondStruct) : Type 0 where
   pub tag_is : new.tag.items ≡ old.tag.items
   pub declared : holds on new.declared ≡ holds on old.declared
   pub complete : holds on new.complete ≡ (holds on old.complete || here)
   pub members_are : seen on (listed member_form new.members) ≡ (if here then members else seen on (listed member_form old.members))
+  pub scalars_are : capped (sum_at on new.scalars) ≡ (if here then scalars else capped (sum_at on old.scalars))
 
 -- one entry of a list becomes another
 pub record BecomesAt {A : Type 0} (P : A → A → Type 0) (place : ℕ) (old new : List A) : Type 0 where

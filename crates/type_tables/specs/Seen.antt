@@ -1,5 +1,5 @@
 -- What a configuration sees of the tables.
-use Rattle.std.specs.Prelude.{ℕ, Bool, false, ◌&&◌, List, [], ◌∷◌, reverse, Option, Some, None, slice_get, if◌then◌else◌}
+use Rattle.std.specs.Prelude.{ℕ, Bool, false, ◌&&◌, List, [], ◌∷◌, length, reverse, Option, Some, None, slice_get, if◌then◌else◌}
 use Rattle.std.specs.Str.{bytes_eq}
 use Rattle.cond_formula.specs.declared.formulas.Formula.{Formula}
 use Rattle.cond_formula.specs.Conditions.{condition_of, value}
@@ -7,6 +7,8 @@ use Rattle.c_types.specs.Types.{plain_type}
 use Rattle.c_types.specs.Tags.{PlainMember}
 use Rattle.conditional.specs.Entries.{seen, first, listed}
 use Rattle.core_meaning.specs.Entities.{Signature}
+use Rattle.core_meaning.specs.Constancy.{capped}
+use Rattle.cond_sums.specs.Sums.{sum_at}
 use Rattle.name_places.specs.Places.{place_of}
 use Rattle.type_tables.specs.Tables as plain
 use Rattle.type_tables.specs.Tables.{no_signature}
@@ -32,6 +34,15 @@ module _ (on : ℕ → Bool) where
   abbrev pub members_of : Option CondStruct → List PlainMember
   members_of None = []
   members_of (Some s) = seen on (listed member_form s.members)
+
+  abbrev pub scalars_of : Option CondStruct → ℕ
+  scalars_of None = 0
+  scalars_of (Some s) = capped (sum_at on s.scalars)
+
+  -- the tag of a struct that is declared
+  abbrev pub tag_of : Option CondStruct → List ℕ
+  tag_of None = []
+  tag_of (Some s) = if holds s.declared then s.tag.items else []
 
   abbrev pub is_of_tag : List ℕ → Option CondStruct → Bool
   is_of_tag tag None = false
@@ -67,9 +78,12 @@ module _ (on : ℕ → Bool) where
     declared = λ n. is_declared (slice_get t.structs.items n);
     complete = λ n. is_complete (slice_get t.structs.items n);
     members = λ n. members_of (slice_get t.structs.items n);
+    scalars = λ n. scalars_of (slice_get t.structs.items n);
+    named = λ n. tag_of (slice_get t.structs.items n);
     tags = λ tag. tag_in t.structs.items tag (place_of t.tags tag);
     names = λ name. name_in t.declared.items name (place_of t.names name);
     signatures = λ n. signature_of (slice_get t.signatures.items n);
+    functions = length t.signatures.items;
     locals = locals_in (reverse t.locals.items);
     depth = t.depth;
   }

@@ -1,5 +1,5 @@
 -- How tables go on.
-use Rattle.std.specs.Prelude.{ℕ, suc, ◌==◌, Bool, true, false, List, [], ◌∷◌, Some, if◌then◌else◌}
+use Rattle.std.specs.Prelude.{ℕ, suc, ◌==◌, Bool, true, false, not, ◌&&◌, List, [], ◌∷◌, Some, if◌then◌else◌}
 use Rattle.std.specs.Str.{bytes_eq}
 use Rattle.c_types.specs.Types.{PlainType}
 use Rattle.c_types.specs.Tags.{PlainMember}
@@ -13,29 +13,39 @@ no_tables = record {
   declared = λ n. false;
   complete = λ n. false;
   members = λ n. [];
+  scalars = λ n. 0;
+  named = λ n. [];
   tags = no_entry;
   names = no_entry;
   signatures = λ n. no_signature;
+  functions = 0;
   locals = [];
   depth = 0;
 }
 
--- a struct is declared by its tag
+-- a struct is declared by its tag, which is that of its first declaration
 abbrev pub with_declared : List ℕ → ℕ → Tables → Tables
-with_declared name number t = record t { declared = λ n. if n == number then true else t.declared n; tags = with_entry t.tags name number }
+with_declared name number t = record t {
+  declared = λ n. if n == number then true else t.declared n;
+  named = λ n. if n == number && not (t.declared n) then name else t.named n;
+  tags = with_entry t.tags name number;
+}
 
--- a struct is completed
-abbrev pub with_completed : ℕ → List PlainMember → Tables → Tables
-with_completed number ms t =
-    record t { complete = λ n. if n == number then true else t.complete n; members = λ n. if n == number then ms else t.members n }
+-- a struct is completed, with its members and so many scalars
+abbrev pub with_completed : ℕ → List PlainMember → ℕ → Tables → Tables
+with_completed number ms scalars t = record t {
+  complete = λ n. if n == number then true else t.complete n;
+  members = λ n. if n == number then ms else t.members n;
+  scalars = λ n. if n == number then scalars else t.scalars n;
+}
 
 -- a name of file scope: what it was first is what it is
 abbrev pub with_name : List ℕ → FileName → Tables → Tables
 with_name name what t = record t { names = λ other. if bytes_eq other name then or_later (t.names other) (Some what) else t.names other }
 
 -- one more declaration of a function
-abbrev pub with_signature : ℕ → Signature → Tables → Tables
-with_signature number signature t = record t { signatures = λ n. if n == number then signature else t.signatures n }
+abbrev pub with_signature : Signature → Tables → Tables
+with_signature signature t = record t { signatures = λ n. if n == t.functions then signature else t.signatures n; functions = suc t.functions }
 
 -- one more block is open
 abbrev pub entered : Tables → Tables
@@ -44,6 +54,10 @@ entered t = record t { depth = suc t.depth }
 -- one more local, in the innermost block
 abbrev pub with_local : List ℕ → PlainType → Tables → Tables
 with_local name ty t = record t { locals = record { name = name; ty = ty; depth = t.depth } ∷ t.locals }
+
+-- a unit begins: structs and declarations of functions have numbers through all units
+abbrev pub unit_begun : Tables → Tables
+unit_begun t = record t { tags = no_entry; names = no_entry; locals = []; depth = 0 }
 
 -- a step where a condition is true
 abbrev pub where_true : Bool → (Tables → Tables) → Tables → Tables

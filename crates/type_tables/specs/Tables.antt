@@ -1,10 +1,11 @@
 -- What is known of names and structs at a place of a unit, as a configuration sees it: structs by the numbers that their tags have in all
 -- configurations, functions by the numbers of their declarations (ISO/IEC 9899:2011, 6.2.1 to 6.2.3).
-use Rattle.std.specs.Prelude.{ℕ, ◌==◌, Bool, true, false, List, [], ◌∷◌, Option, Some, None, option_map, if◌then◌else◌}
+use Rattle.std.specs.Prelude.{ℕ, ◌*◌, ◌==◌, nat_le, Bool, true, false, List, [], ◌∷◌, Option, Some, None, option_map, if◌then◌else◌}
 use Rattle.std.specs.Str.{bytes_eq}
-use Rattle.c_types.specs.Types.{PlainType, void, structure}
+use Rattle.c_types.specs.Types.{PlainType, void, array_of, structure}
 use Rattle.c_types.specs.Tags.{PlainMember}
 use Rattle.core_meaning.specs.Entities.{Table, Signature}
+use Rattle.core_meaning.specs.Constancy.{capped, most_scalars}
 use Rattle.operand_types.specs.OperandTypes.{OperandType, rvalue, lvalue, struct_in}
 use Rattle.expression_types.specs.Known.{Callable, Denoted, an_object, a_function, Known}
 
@@ -30,10 +31,16 @@ pub record Tables : Type 0 where
   pub declared : ℕ → Bool
   pub complete : ℕ → Bool
   pub members : ℕ → List PlainMember
+  -- how many scalars they have, up to the limit on the size of an object
+  pub scalars : ℕ → ℕ
+  -- the tags by which they are declared
+  pub named : ℕ → List ℕ
   -- the tags that are visible
   pub tags : Table ℕ
   pub names : Table FileName
   pub signatures : ℕ → Signature
+  -- how many declarations of functions there are
+  pub functions : ℕ
   -- the latest first
   pub locals : List Local
   -- how many blocks are open
@@ -64,6 +71,15 @@ module _ (t : Tables) where
   is_complete_type void = false
   is_complete_type (structure number) = t.complete number
   is_complete_type other = true
+
+  -- how many scalars an object of a type has
+  abbrev pub scalars_in : PlainType → ℕ
+  scalars_in (array_of element count) = capped (count * scalars_in element)
+  scalars_in (structure number) = t.scalars number
+  scalars_in other = 1
+
+  abbrev pub is_small : PlainType → Bool
+  is_small ty = nat_le (scalars_in ty) most_scalars
 
   abbrev pub is_complete_in : Option ℕ → Bool
   is_complete_in None = true

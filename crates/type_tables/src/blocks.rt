@@ -13,7 +13,7 @@ pub struct Outside {
 }
 
 impl Tables {
-    ghost use Rattle.std.specs.Prelude.{◌≡◌, ℕ, Bool, List, ◌++◌, length, OnOk, IfOk};
+    ghost use Rattle.std.specs.Prelude.{◌≡◌, ℕ, suc, Bool, List, ◌++◌, length, OnOk, IfOk};
     ghost use Rattle.cond_formula.specs.Conditions.{condition_of, value};
     ghost use Rattle.c_types.specs.Types.{plain_type};
     ghost use Rattle.type_tables.specs.Seen.{seen_tables};
@@ -45,6 +45,7 @@ impl Tables {
     /// One more block is open. The answer is what is outside it.
     pub fn enter(&mut self) -> Result<Outside, NoMemory>
         ensures seen { OnOk result ((on : ℕ → Bool) → seen_tables on self.new ≡ entered (seen_tables on self.old)) }
+        ensures same { OnOk result (self.new ≡ record self.old { depth = suc self.old.depth }) }
         ensures outside { IfOk result (λ o. IsOutside self.old o) }
         ensures kept { OnOk result (KeepsOutside self.old self.new) }
     {

@@ -7,6 +7,7 @@ ghost use Rattle.type_tables.specs.Forms.{member_form, declared_type_form, sort_
 
 use c_types::CType;
 use cond_formula::{Formula, NoMemory};
+use cond_sums::CondSum;
 use conditional::{CondList, Plain};
 use plain_scope::{copied, same_type};
 use std::alloc::Global;
@@ -45,6 +46,8 @@ pub struct CondStruct {
     pub complete: Formula,
     /// In the order of the text.
     pub members: CondList<Member>,
+    /// How many scalars it has, up to the limit on the size of an object.
+    pub scalars: CondSum,
 }
 
 /// The type that a declaration gives: of a parameter, of an object, or of what a function returns.

@@ -116,7 +116,8 @@ impl Tables {
 
     /// One more declaration of a function. The answer is its number.
     pub fn declare_function(&mut self, signature: CondSignature) -> Result<u32, NoMemory>
-        ensures { IfOk result (λ number. (on : ℕ → Bool) → seen_tables on self.new ≡ with_signature number (signature_of on (Some signature)) (seen_tables on self.old)) }
+        ensures number { IfOk result (λ number. (on : ℕ → Bool) → number ≡ (seen_tables on self.old).functions) }
+        ensures seen { IfOk result (λ number. (on : ℕ → Bool) → seen_tables on self.new ≡ with_signature (signature_of on (Some signature)) (seen_tables on self.old)) }
     {
         let number = self.signatures.len();
         if number > LAST_NUMBER {

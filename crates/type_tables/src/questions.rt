@@ -5,12 +5,15 @@ ghost use Rattle.type_tables.specs.Tables.{local_named, is_in_block};
 ghost use Rattle.type_tables.specs.Seen.{locals_in};
 ghost use Rattle.type_tables.specs.declared.entries.LocalName.{LocalName};
 ghost use Rattle.c_types.specs.Types.{plain_type};
+ghost use Rattle.core_meaning.specs.Constancy.{capped};
+ghost use Rattle.cond_sums.specs.Sums.{sum_at};
 ghost use Rattle.operand_types.specs.OperandTypes as operands;
 
 use crate::entries::{CondName, LocalName};
 use crate::tables::Tables;
 use c_types::CType;
 use cond_formula::{Formula, NoMemory};
+use cond_sums::CondSum;
 use reduced_conditions::{either, without};
 use std::alloc::Global;
 
@@ -28,6 +31,21 @@ fn always() -> Result<Formula, NoMemory>
     ensures { IfOk result (λ f. (on : ℕ → Bool) → value on (condition_of f) ≡ true) }
 {
     Ok(Formula::True)
+}
+
+/// No scalars.
+fn none(alloc: Global) -> Result<CondSum, NoMemory>
+    ensures { IfOk result (λ s. (on : ℕ → Bool) → sum_at on s ≡ 0) }
+{
+    Ok(CondSum::nothing(alloc))
+}
+
+/// One scalar.
+fn one_scalar(alloc: Global) -> Result<CondSum, NoMemory>
+    ensures { IfOk result (λ s. (on : ℕ → Bool) → capped (sum_at on s) ≡ 1) }
+{
+    let one = CondSum::number(alloc, 1)?;
+    Ok(one)
 }
 
 /// The struct that a type is made of, if there is one.
@@ -92,7 +110,9 @@ impl Tables {
     ghost use Rattle.cond_formula.specs.Conditions.{condition_of, value};
     ghost use Rattle.c_types.specs.Types.{plain_type};
     ghost use Rattle.operand_types.specs.OperandTypes as operands;
-    ghost use Rattle.type_tables.specs.Tables.{local_named, is_in_block, is_complete_type, is_complete_in};
+    ghost use Rattle.core_meaning.specs.Constancy.{capped};
+    ghost use Rattle.cond_sums.specs.Sums.{sum_at};
+    ghost use Rattle.type_tables.specs.Tables.{local_named, is_in_block, is_complete_type, is_complete_in, scalars_in, is_small};
     ghost use Rattle.type_tables.specs.Forms.{file_name_form};
     ghost use Rattle.type_tables.specs.Seen.{seen_tables};
     ghost use Rattle.type_tables.specs.Questions.{where_declared};
@@ -160,6 +180,48 @@ impl Tables {
             Some(number) => self.where_struct_complete(alloc, number),
             None => always(),
         }
+    }
+
+    /// How many scalars a struct has.
+    fn struct_scalars(&self, alloc: Global, number: u32) -> Result<CondSum, NoMemory>
+        ensures { IfOk result (λ s. (on : ℕ → Bool) → capped (sum_at on s) ≡ (seen_tables on self.now).scalars number) }
+    {
+        match self.structs.get(number as usize) {
+            Some(s) => s.scalars.try_clone(alloc),
+            None => none(alloc),
+        }
+    }
+
+    /// How many scalars an object of a type has.
+    #[tactic(auto, using(c_types::specs::TypeLaws::type_kinds))]
+    pub fn scalars_of(&self, alloc: Global, ty: &CType) -> Result<CondSum, NoMemory>
+        ensures { IfOk result (λ s. (on : ℕ → Bool) → capped (sum_at on s) ≡ scalars_in (seen_tables on self.now) (plain_type ty.now)) }
+    {
+        match ty {
+            CType::Array(element, count) => {
+                let one = self.scalars_of(alloc, element)?;
+                let all = one.times(alloc, *count)?;
+                Ok(all)
+            }
+            CType::Struct(number) => self.struct_scalars(alloc, *number),
+            CType::Void
+            | CType::Char
+            | CType::UChar
+            | CType::Int
+            | CType::UInt
+            | CType::Long
+            | CType::ULong
+            | CType::Pointer(_) => one_scalar(alloc),
+        }
+    }
+
+    /// Where an object of a type has no more scalars than an object may have.
+    pub fn where_small(&self, alloc: Global, ty: &CType) -> Result<Formula, NoMemory>
+        ensures { IfOk result (λ f. (on : ℕ → Bool) → value on (condition_of f) ≡ is_small (seen_tables on self.now) (plain_type ty.now)) }
+    {
+        let scalars = self.scalars_of(alloc, ty)?;
+        let small = scalars.where_small(alloc)?;
+        Ok(small)
     }
 
     /// Where the innermost block declares this name.

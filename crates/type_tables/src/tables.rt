@@ -2,10 +2,12 @@
 use crate::entries::{CondName, CondSignature, CondStruct, LocalName, Member};
 use crate::structs::{complete_at, declare_at, undeclared};
 use cond_formula::{Formula, NoMemory};
+use cond_sums::CondSum;
 use conditional::CondList;
 use name_places::{enter_place, place_in};
 use std::alloc::{AllocError, Global};
 use std::collections::HashMap;
+use std::mem;
 
 /// What names and structs are known to be at a place of a unit, in all configurations.
 #[derive(Drop)]
@@ -33,9 +35,11 @@ impl Tables {
     ghost use Rattle.name_places.specs.Places.{place_of};
     ghost use Rattle.cond_formula.specs.Conditions.{condition_of, value};
     ghost use Rattle.conditional.specs.Entries.{seen, listed};
+    ghost use Rattle.core_meaning.specs.Constancy.{capped};
+    ghost use Rattle.cond_sums.specs.Sums.{sum_at};
     ghost use Rattle.type_tables.specs.Forms.{member_form};
     ghost use Rattle.type_tables.specs.Seen.{seen_tables};
-    ghost use Rattle.type_tables.specs.Steps.{no_tables, with_declared, with_completed, where_true};
+    ghost use Rattle.type_tables.specs.Steps.{no_tables, with_declared, with_completed, unit_begun, where_true};
     ghost use Rattle.type_tables.specs.Questions.{where_declared};
     ghost use Rattle.type_tables.specs.Changes.{has_tag_in, is_free, AddsStruct};
 
@@ -117,17 +121,30 @@ impl Tables {
         Ok(number)
     }
 
-    /// A struct is complete where the condition is true, with these members.
+    /// A unit begins: the structs of the units before it stay, and no name is visible. The answer is the names of file scope of the unit before.
+    pub fn begin_unit(&mut self, alloc: Global) -> Vec<CondName>
+        ensures names { result ≡ self.old.declared }
+        ensures seen { (on : ℕ → Bool) → seen_tables on self.new ≡ unit_begun (seen_tables on self.old) }
+    {
+        self.tags = HashMap::new(alloc);
+        self.names = HashMap::new(alloc);
+        self.locals = Vec::new(alloc);
+        self.depth = 0;
+        mem::replace(&mut self.declared, Vec::new(alloc))
+    }
+
+    /// A struct is complete where the condition is true, with these members and so many scalars.
     pub fn complete_struct(
         &mut self,
         alloc: Global,
         number: u32,
         when: Formula,
         members: &CondList<Member>,
+        scalars: &CondSum,
     ) -> Result<(), NoMemory>
         requires { number < length self.old.structs.items }
-        ensures { OnOk result ((on : ℕ → Bool) → seen_tables on self.new ≡ where_true (value on (condition_of when)) (with_completed number (seen on (listed member_form members.now))) (seen_tables on self.old)) }
+        ensures { OnOk result ((on : ℕ → Bool) → seen_tables on self.new ≡ where_true (value on (condition_of when)) (with_completed number (seen on (listed member_form members.now)) (capped (sum_at on scalars.now))) (seen_tables on self.old)) }
     {
-        complete_at(alloc, &mut self.structs, number, when, members)
+        complete_at(alloc, &mut self.structs, number, when, members, scalars)
     }
 }

@@ -1,10 +1,9 @@
 //! Where expressions are refused as initialisers, by their types (6.7.9).
-ghost use Rattle.std.specs.Prelude.{◌≡◌, ℕ, Bool, true, List, IsTrue, IfOk, Result};
+ghost use Rattle.std.specs.Prelude.{◌≡◌, ℕ, Bool, List, IsTrue, IfOk, Result};
 ghost use Rattle.cond_formula.specs.Features.{has};
 ghost use Rattle.cond_formula.specs.Conditions.{condition_of, value};
 ghost use Rattle.c_types.specs.Types.{plain_type};
 ghost use Rattle.conditional.specs.Judgements.{checked};
-ghost use Rattle.core_meaning.specs.Constancy.{is_character_type};
 ghost use Rattle.choice_trees.specs.ChoiceTrees.{plain_item, item_at};
 ghost use Rattle.operand_rules.specs.PlainOperandTypes.{plain_operand_type, reason};
 ghost use Rattle.cond_operands.specs.Operands.{passed, ShowsTest};
@@ -40,23 +39,6 @@ fn has_room(count: u32, ty: &CType) -> bool
     }
 }
 
-#[tactic(auto, using(c_types::specs::TypeLaws::type_kinds))]
-fn is_character(ty: &CType) -> bool
-    ensures { result ≡ is_character_type (plain_type ty.now) }
-{
-    match ty {
-        CType::Char | CType::UChar => true,
-        CType::Void
-        | CType::Int
-        | CType::UInt
-        | CType::Long
-        | CType::ULong
-        | CType::Pointer(_)
-        | CType::Array(..)
-        | CType::Struct(_) => false,
-    }
-}
-
 /// An array of so many elements.
 #[derive(Clone, Copy)]
 struct Room {
@@ -76,14 +58,14 @@ impl Judgement<OperandType, Passed, Refused> for Room {
 }
 
 /// Where a test isn't passed.
-fn where_failed(alloc: Global, tests: &Tests) -> Result<Formula, NoMemory>
+pub fn where_failed(alloc: Global, tests: &Tests) -> Result<Formula, NoMemory>
     ensures { IfOk result (λ f. (on : ℕ → Bool) (t : Test) → ShowsTest on t tests.now → value on (condition_of f) ≡ spec.is_refusal t) }
 {
     when_some_hold(alloc, &tests.refused.entries)
 }
 
 /// Where an expression doesn't fit a type.
-fn where_unfit<K: Knowledge, O: Oracle>(
+pub fn where_unfit<K: Knowledge, O: Oracle>(
     alloc: Global,
     oracle: &mut O,
     known: &K,
@@ -104,7 +86,7 @@ fn where_unfit<K: Knowledge, O: Oracle>(
 }
 
 /// Where an expression isn't texts that an array of so many characters has room for.
-fn where_without_room<K: Knowledge, O: Oracle>(
+pub fn where_without_room<K: Knowledge, O: Oracle>(
     alloc: Global,
     oracle: &mut O,
     known: &K,
@@ -122,86 +104,4 @@ fn where_without_room<K: Knowledge, O: Oracle>(
     } = read;
     let tests = judged(alloc, &Room { count }, outcomes)?;
     where_failed(alloc, &tests)
-}
-
-fn where_text_refused<K: Knowledge, O: Oracle>(
-    alloc: Global,
-    oracle: &mut O,
-    known: &K,
-    element: &CType,
-    count: u32,
-    item: &Item,
-) -> Result<Formula, NoMemory>
-    ensures kept { O.admits oracle.new ≡ O.admits oracle.old }
-    ensures same { IfOk result (λ f. (c : List Bool) → IsTrue (value (has c) (K.admits known.now)) → IsTrue (value (has c) (O.admits oracle.old))
-        → value (has c) (condition_of f) ≡ spec.text_in_array (K.known known.now c) (item_at (has c) (plain_item item.now)) (plain_type element.now) count) }
-{
-    if is_character(element) {
-        where_without_room(alloc, oracle, known, count, item)
-    } else {
-        always()
-    }
-}
-
-#[tactic(auto, using(cond_formula::specs::ConditionLaws::formula_kinds))]
-fn always() -> Result<Formula, NoMemory>
-    ensures { IfOk result (λ f. (on : ℕ → Bool) → value on (condition_of f) ≡ true) }
-{
-    Ok(Formula::True)
-}
-
-/// Where texts are refused.
-#[tactic(auto, using(c_types::specs::TypeLaws::type_kinds))]
-pub(crate) fn where_texts_refused<K: Knowledge, O: Oracle>(
-    alloc: Global,
-    oracle: &mut O,
-    known: &K,
-    ty: &CType,
-    item: &Item,
-) -> Result<Formula, NoMemory>
-    ensures kept { O.admits oracle.new ≡ O.admits oracle.old }
-    ensures same { IfOk result (λ f. (c : List Bool) → IsTrue (value (has c) (K.admits known.now)) → IsTrue (value (has c) (O.admits oracle.old))
-        → value (has c) (condition_of f) ≡ spec.as_text (K.known known.now c) (item_at (has c) (plain_item item.now)) (plain_type ty.now)) }
-{
-    match ty {
-        CType::Array(element, count) => {
-            where_text_refused(alloc, oracle, known, element, *count, item)
-        }
-        CType::Void
-        | CType::Char
-        | CType::UChar
-        | CType::Int
-        | CType::UInt
-        | CType::Long
-        | CType::ULong
-        | CType::Pointer(_)
-        | CType::Struct(_) => where_unfit(alloc, oracle, known, ty, item),
-    }
-}
-
-/// Where an expression that is no text is refused.
-#[tactic(auto, using(c_types::specs::TypeLaws::type_kinds))]
-pub(crate) fn where_expression_refused<K: Knowledge, O: Oracle>(
-    alloc: Global,
-    oracle: &mut O,
-    known: &K,
-    ty: &CType,
-    item: &Item,
-) -> Result<Formula, NoMemory>
-    ensures kept { O.admits oracle.new ≡ O.admits oracle.old }
-    ensures same { IfOk result (λ f. (c : List Bool) → IsTrue (value (has c) (K.admits known.now)) → IsTrue (value (has c) (O.admits oracle.old))
-        → value (has c) (condition_of f) ≡ spec.alone (K.known known.now c) (item_at (has c) (plain_item item.now)) (plain_type ty.now)) }
-{
-    match ty {
-        CType::Array(..) => always(),
-        CType::Void
-        | CType::Char
-        | CType::UChar
-        | CType::Int
-        | CType::UInt
-        | CType::Long
-        | CType::ULong
-        | CType::Pointer(_)
-        | CType::Struct(_) => where_unfit(alloc, oracle, known, ty, item),
-    }
 }

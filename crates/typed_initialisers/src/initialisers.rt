@@ -14,19 +14,19 @@ ghost use Rattle.operand_types.specs.OperandTypes.{renumbered};
 ghost use Rattle.statement_readings.specs.Walks.{is_refused};
 ghost use Rattle.type_tables.specs.Seen.{seen_tables};
 ghost use Rattle.typed_scopes.specs.Follows.{IsThere, Follows};
-ghost use Rattle.cond_initialisers.specs.Laws.{HaveNoneBefore};
+ghost use Rattle.cond_initialisers.specs.Refusals.{by_types};
 
-use crate::expressions::{where_expression_refused, where_texts_refused};
+use crate::expressions::{where_unfit, where_without_room};
 use c_types::CType;
 use choice_trees::Item;
 use cond_formula::{Formula, NoMemory, Oracle};
-use cond_initialisers::{Expressions, where_refused};
+use cond_initialisers::{Expressions, locals_are_refused_by_types, where_refused};
 use cond_nodes::Knowledge;
 use known_tables::Visible;
 use std::alloc::Global;
 use type_tables::Tables;
 
-/// Expressions that initialise, by what is known where they stand.
+/// Expressions that initialise locals, by what is known where they stand.
 #[derive(Drop)]
 pub struct Typed<'k, K> {
     pub known: &'k K,
@@ -35,26 +35,26 @@ pub struct Typed<'k, K> {
 impl<'k, K: Knowledge> Expressions for Typed<'k, K> {
     ghost admits = { λ x. K.admits x.known.now };
 
-    ghost known = { λ x c. K.known x.known.now c };
+    ghost asked = { λ x c. by_types (K.known x.known.now c) };
 
-    fn where_alone<O: Oracle>(
+    fn where_unfit<O: Oracle>(
         &self,
         alloc: Global,
         oracle: &mut O,
         ty: &CType,
         item: &Item,
     ) -> Result<Formula, NoMemory> {
-        where_expression_refused(alloc, oracle, self.known, ty, item)
+        where_unfit(alloc, oracle, self.known, ty, item)
     }
 
-    fn where_texts<O: Oracle>(
+    fn where_without_room<O: Oracle>(
         &self,
         alloc: Global,
         oracle: &mut O,
-        ty: &CType,
+        count: u32,
         item: &Item,
     ) -> Result<Formula, NoMemory> {
-        where_texts_refused(alloc, oracle, self.known, ty, item)
+        where_without_room(alloc, oracle, self.known, count, item)
     }
 }
 
@@ -68,11 +68,12 @@ pub fn where_initialiser_refused<O: Oracle>(
 ) -> Result<Formula, NoMemory>
     ensures kept { O.admits oracle.new ≡ O.admits oracle.old }
     ensures refused { IfOk result (λ f. (c : List Bool) → IsTrue (value (has c) (O.admits oracle.old))
-        → (scope : Scope) (follows : Follows (seen_tables (has c) tables.now) scope) → HaveNoneBefore scope.structs
+        → (scope : Scope) (follows : Follows (seen_tables (has c) tables.now) scope)
         → (t : PlainType) → plain_type ty.now ≡ renumbered follows.by t → IsThere scope.structs t
         → Derivation grammar.initialiser (item_at (has c) (plain_item initialiser.now)) → (path : Path) (behind : PlainToken)
         → value (has c) (condition_of f) ≡ is_refused (initial scope None t path (item_at (has c) (plain_item initialiser.now)) behind)) }
 {
+    locals_are_refused_by_types();
     let visible = Visible { tables };
     let typed = Typed { known: &visible };
     where_refused(alloc, oracle, &typed, tables, ty, initialiser)

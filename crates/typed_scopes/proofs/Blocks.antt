@@ -35,7 +35,7 @@ named_within depth (x ∷ ls) name h l e = first_within (bytes_eq name x.name) d
 -- ---- blocks
 
 structs_entered : (by : ℕ → ℕ) (t : Tables) (structs : List Struct) (n : ℕ) (s : Struct) → StructFollows by t structs n s → StructFollows by (entered t) structs n s
-structs_entered by t structs n s is = record { declared = is.declared; complete = is.complete; members = is.members; numbers = is.numbers; there = is.there }
+structs_entered by t structs n s is = record { declared = is.declared; complete = is.complete; members = is.members; numbers = is.numbers; there = is.there; scalars = is.scalars; none_before = is.none_before; named = is.named }
 
 pub block_entered : (t : Tables) (scope : Scope) → Follows t scope → FollowsInBlock (entered t) (with_block scope)
 block_entered t scope f = record {
@@ -47,12 +47,20 @@ block_entered t scope f = record {
     tagged = f.tagged;
     names = f.names;
     names_there = f.names_there;
+    names_numbered = f.names_numbered;
     locals = f.locals;
     locals_there = f.locals_there;
     within = deeper t.depth t.locals f.within;
+    completes = f.completes;
+    uncounted = f.uncounted;
   };
   innermost = λ name. not_there t.depth (local_named t.locals name) (named_within t.depth t.locals name f.within);
 }
+
+-- structs keep their numbers
+pub entered_by : (t : Tables) (scope : Scope) (f : Follows t scope) → (block_entered t scope f).follows.by ≡ f.by
+unfolding block_entered
+entered_by t scope f = refl
 
 -- ---- locals
 
@@ -88,7 +96,7 @@ either_innermost true l o depth before outer h i = sym (eq-eqb o.depth depth h)
 either_innermost false l o depth before outer h i = i
 
 structs_with_local : (by : ℕ → ℕ) (t : Tables) (name : List ℕ) (ty : PlainType) (structs : List Struct) (n : ℕ) (s : Struct) → StructFollows by t structs n s → StructFollows by (step.with_local name ty t) structs n s
-structs_with_local by t name ty structs n s is = record { declared = is.declared; complete = is.complete; members = is.members; numbers = is.numbers; there = is.there }
+structs_with_local by t name ty structs n s is = record { declared = is.declared; complete = is.complete; members = is.members; numbers = is.numbers; there = is.there; scalars = is.scalars; none_before = is.none_before; named = is.named }
 
 pub local_declared : (t : Tables) (scope : Scope) (f : FollowsInBlock t scope) (name : List ℕ) (slot : ℕ) (ty : PlainType) → IsThere scope.structs ty
     → FollowsInBlock (step.with_local name (renumbered f.follows.by ty) t) (with_local scope name slot ty)
@@ -101,14 +109,22 @@ local_declared t scope f name slot ty there = record {
     tagged = f.follows.tagged;
     names = f.follows.names;
     names_there = f.follows.names_there;
+    names_numbered = f.follows.names_numbered;
     locals = λ other. subst (λ o. LocalFollows f.follows.by o (local_named (step.with_local name (renumbered f.follows.by ty) t).locals other)) (sym (local_found scope.blocks name other (record { slot = slot; ty = ty })))
         (either_follows f.follows.by (bytes_eq other name) (record { slot = slot; ty = ty }) (record { name = name; ty = renumbered f.follows.by ty; depth = t.depth }) (local_in scope.blocks other) (local_named t.locals other) refl (f.follows.locals other));
     locals_there = λ other l e.
         either_there scope.structs (bytes_eq other name) (record { slot = slot; ty = ty }) (local_in scope.blocks other) there (f.follows.locals_there other) l
         (sym (local_found scope.blocks name other (record { slot = slot; ty = ty })) ∙ e);
     within = (omega (arith), f.follows.within);
+    completes = f.follows.completes;
+    uncounted = f.follows.uncounted;
   };
   innermost = λ other.
       ap is_some (innermost_found scope.blocks name other (record { slot = slot; ty = ty }))
       ∙ either_innermost (bytes_eq other name) (record { slot = slot; ty = ty }) (record { name = name; ty = renumbered f.follows.by ty; depth = t.depth }) t.depth (innermost scope.blocks other) (local_named t.locals other) refl (f.innermost other);
 }
+
+pub local_by : (t : Tables) (scope : Scope) (f : FollowsInBlock t scope) (name : List ℕ) (slot : ℕ) (ty : PlainType) (there : IsThere scope.structs ty)
+    → (local_declared t scope f name slot ty there).follows.by ≡ f.follows.by
+unfolding local_declared
+local_by t scope f name slot ty there = refl

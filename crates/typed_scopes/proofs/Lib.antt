@@ -4,3 +4,4 @@ pub mod Blocks
 pub mod Renumbering
 pub mod Structs
 pub mod Names
+pub mod Scalars

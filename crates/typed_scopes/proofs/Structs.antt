@@ -1,6 +1,6 @@
 -- Tables go on to follow a scope where structs are declared and completed.
-use Rattle.std.proofs.Common.{arith, ◌≡◌, ℕ, zero, suc, Bool, true, false, List, [], ◌∷◌, ◌++◌, length, refl, sym, ap, subst, ◌∙◌}
-use Rattle.std.specs.Prelude.{◌<◌, ◌==◌, map, Option, Some, None, option_map, slice_get, if◌then◌else◌}
+use Rattle.std.proofs.Common.{arith, ◌≡◌, ℕ, zero, suc, Bool, true, false, List, [], ◌∷◌, ◌++◌, length, refl, sym, ap, ap₂, subst, not, ◌∙◌}
+use Rattle.std.specs.Prelude.{◌<◌, ◌==◌, ◌&&◌, map, Option, Some, None, option_map, slice_get, if◌then◌else◌}
 use Rattle.std.specs.Str.{bytes_eq}
 use Rattle.std.proofs.lemmas.Bool.{eq-eqb, ne_eqb, eqb-true, false≢true}
 use Rattle.std.proofs.lemmas.Option.{slice_get_within}
@@ -16,13 +16,17 @@ use Rattle.typed_scopes.proofs.Renumbering.{Agree, members_same, name_follows, l
 
 -- ---- a struct that is declared
 
+before_declared : (b was : Bool) → (if b then true else was) ≡ false → was ≡ false
+before_declared true was h = absurd (false≢true (sym h))
+before_declared false was h = h
+
 found_or_new : (structs : List Struct) (s x : Struct) (n : ℕ) → slice_get (structs ++ s ∷ []) n ≡ Some x → (n ≡ length structs → ⊥) → slice_get structs n ≡ Some x
 found_or_new [] s x zero h other = absurd (other refl)
 found_or_new [] s x (suc n) h other = absurd cc
 found_or_new (y ∷ structs) s x zero h other = h
 found_or_new (y ∷ structs) s x (suc n) h other = found_or_new structs s x n h (λ e. other (ap suc e))
 
-module _ (t : Tables) (scope : Scope) (f : Follows t scope) (name : List ℕ) (number : ℕ) (undeclared : t.declared number ≡ false) (incomplete : t.complete number ≡ false) where
+module _ (t : Tables) (scope : Scope) (f : Follows t scope) (name : List ℕ) (number : ℕ) (undeclared : t.declared number ≡ false) where
   abbrev last : ℕ
   last = length scope.structs
 
@@ -48,6 +52,10 @@ module _ (t : Tables) (scope : Scope) (f : Follows t scope) (name : List ℕ) (n
   still_declared true n h = refl
   still_declared false n h = h
 
+  still_named : (b : Bool) (m : ℕ) → t.declared m ≡ true → (if b && not (t.declared m) then name else t.named m) ≡ t.named m
+  still_named true m h = ap (λ d. if not d then name else t.named m) h
+  still_named false m h = refl
+
   old_struct : (n : ℕ) (s : Struct) → slice_get scope.structs n ≡ Some s → StructFollows by_swapped (with_declared name number t) more n s
   old_struct n s e =
       let is = f.structs n s e in
@@ -57,7 +65,13 @@ module _ (t : Tables) (scope : Scope) (f : Follows t scope) (name : List ℕ) (n
         members = λ c. ap t.members (sym (agree n s e)) ∙ is.members c ∙ members_same scope.structs f.by by_swapped agree s.members (is.there c);
         numbers = is.numbers;
         there = λ c. all_still_there scope.structs more has (types_of s.members) (is.there c);
+        scalars = ap t.scalars (sym (agree n s e)) ∙ is.scalars;
+        none_before = is.none_before;
+        named = still_named (by_swapped n == number) (by_swapped n) (ap t.declared (sym (agree n s e)) ∙ is.declared) ∙ ap t.named (sym (agree n s e)) ∙ is.named;
       }
+
+  incomplete : t.complete number ≡ false
+  incomplete = f.completes number undeclared
 
   last_number : by_swapped last ≡ number
   last_number = swapped_second number (f.by last)
@@ -69,6 +83,11 @@ module _ (t : Tables) (scope : Scope) (f : Follows t scope) (name : List ℕ) (n
     members = λ c. absurd (false≢true (sym (ap (λ (s : Struct). s.complete) e) ∙ c));
     numbers = λ c. absurd (false≢true (sym (ap (λ (s : Struct). s.complete) e) ∙ c));
     there = λ c. absurd (false≢true (sym (ap (λ (s : Struct). s.complete) e) ∙ c));
+    scalars = ap t.scalars last_number ∙ f.uncounted number incomplete ∙ sym (ap (λ (s : Struct). s.scalars) e);
+    none_before = λ c. ap (λ (s : Struct). s.members) e;
+    named =
+        ap₂ (λ (b d : Bool). if b && not d then name else t.named (by_swapped last)) (eq-eqb (by_swapped last) number last_number) (ap t.declared last_number ∙ undeclared)
+        ∙ sym (ap (λ (s : Struct). s.name) e);
   }
 
   each_struct : (n : ℕ) (s : Struct) → slice_get more n ≡ Some s → StructFollows by_swapped (with_declared name number t) more n s
@@ -101,9 +120,12 @@ module _ (t : Tables) (scope : Scope) (f : Follows t scope) (name : List ℕ) (n
     tagged = λ other. either_tagged (bytes_eq other name) other;
     names = λ other. name_follows scope.structs f.by by_swapped agree t.signatures (scope.file_names other) (t.names other) (f.names_there other) (f.names other);
     names_there = λ other n e. sort_still_there scope.structs more has n.sort (f.names_there other n e);
+    names_numbered = f.names_numbered;
     locals = λ other. local_follows scope.structs f.by by_swapped agree (local_in scope.blocks other) (local_named t.locals other) (f.locals_there other) (f.locals other);
     locals_there = λ other l e. still_there scope.structs more has l.ty (f.locals_there other l e);
     within = f.within;
+    completes = λ n h. f.completes n (before_declared (n == number) (t.declared n) h);
+    uncounted = f.uncounted;
   }
 
   -- the structs that were there keep their numbers
@@ -128,7 +150,7 @@ got_other (x ∷ structs) (suc n) (suc m) known h = got_other structs n m known 
 module _ (t : Tables) (scope : Scope) (f : Follows t scope) (number : ℕ) (found : Struct) (is_found : slice_get scope.structs number ≡ Some found) (known : Members)
     (in_order : (name : List ℕ) → known.numbers name ≡ place_of known.members name) (there : AreThere scope.structs (types_of known.members)) where
   abbrev completed_tables : Tables
-  completed_tables = with_completed (f.by number) (map (renumbered_member f.by) known.members) t
+  completed_tables = with_completed (f.by number) (map (renumbered_member f.by) known.members) known.scalars t
 
   abbrev now : List Struct
   now = with_members_at number known scope.structs
@@ -149,6 +171,11 @@ module _ (t : Tables) (scope : Scope) (f : Follows t scope) (number : ℕ) (foun
         ∙ ap (λ (s : Struct). map (renumbered_member f.by) s.members) e;
     numbers = λ c name. ap (λ (s : Struct). s.numbers name) (sym e) ∙ in_order name ∙ ap (λ (s : Struct). place_of s.members name) e;
     there = λ c. subst (λ (s : Struct). AreThere now (types_of s.members)) e (all_still_there scope.structs now has_now (types_of known.members) there);
+    scalars =
+        ap (λ b. if b then known.scalars else t.scalars (f.by number)) (eq-eqb (f.by number) (f.by number) refl)
+        ∙ ap (λ (s : Struct). s.scalars) e;
+    none_before = λ c. absurd (false≢true (sym c ∙ sym (ap (λ (s : Struct). s.complete) e)));
+    named = (f.structs number found is_found).named ∙ ap (λ (s : Struct). s.name) e;
   }
 
   other_struct : (n : ℕ) (s : Struct) → (n ≡ number → ⊥) → slice_get scope.structs n ≡ Some s → StructFollows f.by completed_tables now n s
@@ -161,6 +188,9 @@ module _ (t : Tables) (scope : Scope) (f : Follows t scope) (number : ℕ) (foun
         members = λ c. ap (λ b. if b then map (renumbered_member f.by) known.members else t.members (f.by n)) apart ∙ is.members c;
         numbers = is.numbers;
         there = λ c. all_still_there scope.structs now has_now (types_of s.members) (is.there c);
+        scalars = ap (λ b. if b then known.scalars else t.scalars (f.by n)) apart ∙ is.scalars;
+        none_before = is.none_before;
+        named = is.named;
       }
 
   struct_now : (n : ℕ) (s : Struct) → slice_get now n ≡ Some s → StructFollows f.by completed_tables now n s
@@ -177,6 +207,14 @@ module _ (t : Tables) (scope : Scope) (f : Follows t scope) (number : ℕ) (foun
           let differs : (n ≡ number → ⊥) = λ i. false≢true (sym h ∙ eq-eqb n number i) in
           other_struct n s differs (sym (got_other scope.structs number n known differs) ∙ e)
 
+  still_incomplete : (n : ℕ) → t.declared n ≡ false → (b : Bool) → (n == f.by number) ≡ b → (if b then true else t.complete n) ≡ false
+  still_incomplete n h true e = absurd (false≢true (sym h ∙ ap t.declared (eqb-true n (f.by number) e) ∙ (f.structs number found is_found).declared))
+  still_incomplete n h false e = f.completes n h
+
+  still_uncounted : (b : Bool) (n : ℕ) → (if b then true else t.complete n) ≡ false → (if b then known.scalars else t.scalars n) ≡ 0
+  still_uncounted true n h = absurd (false≢true (sym h))
+  still_uncounted false n h = f.uncounted n h
+
   pub struct_completed : Follows completed_tables (record scope { structs = now })
   struct_completed = record {
     by = f.by;
@@ -186,7 +224,14 @@ module _ (t : Tables) (scope : Scope) (f : Follows t scope) (number : ℕ) (foun
     tagged = λ name n e. let s = f.tagged name n e in has_now n s.0 s.1;
     names = f.names;
     names_there = λ name n e. sort_still_there scope.structs now has_now n.sort (f.names_there name n e);
+    names_numbered = f.names_numbered;
     locals = f.locals;
     locals_there = λ name l e. still_there scope.structs now has_now l.ty (f.locals_there name l e);
     within = f.within;
+    completes = λ n h. still_incomplete n h (n == f.by number) refl;
+    uncounted = λ n h. still_uncounted (n == f.by number) n h;
   }
+
+  pub completed_by : struct_completed.by ≡ f.by
+  unfolding struct_completed
+  completed_by = refl

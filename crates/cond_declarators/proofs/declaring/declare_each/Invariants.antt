@@ -7,7 +7,6 @@ use Rattle.choice_expansions.specs.Expansions.{plain_expansion, expanded}
 use Rattle.core_meaning.specs.Entities.{Scope}
 use Rattle.type_tables.specs.Seen.{seen_tables}
 use Rattle.typed_scopes.specs.Follows.{Follows}
-use Rattle.cond_declarators.specs.DeclaredBases.{CompletesDeclared}
 use Rattle.cond_declarators.proofs.StructsDeclared.{DeclaredSoFar}
 use Rattle.cond_declarators.proofs.declaring.declare_each.Given as goal
 
@@ -15,8 +14,7 @@ abbrev pub invariant-loop-expansion : goal.invariant-loop-expansion
 invariant-loop-expansion g l = record {
   kept : g.O.Oracle.admits l.oracle ≡ g.O.Oracle.admits l.fn.oracle;
   elsewhere : (on : ℕ → Bool) → value on (condition_of l.when) ≡ false → seen_tables on l.tables ≡ seen_tables on l.fn.tables;
-  completes : (on : ℕ → Bool) → CompletesDeclared (seen_tables on l.fn.tables) → CompletesDeclared (seen_tables on l.tables);
   so_far : (n : List Bool) (scope : Scope) (f : Follows (seen_tables (has n) l.fn.tables) scope) (words : PlainTree) → IsTrue (value (has n) (g.O.Oracle.admits l.fn.oracle))
-      → IsTrue (value (has n) (condition_of l.when)) → CompletesDeclared (seen_tables (has n) l.fn.tables) → seen (has n) (expanded l.expansions) ≡ words ∷ []
+      → IsTrue (value (has n) (condition_of l.when)) → seen (has n) (expanded l.expansions) ≡ words ∷ []
       → DeclaredSoFar (has n) words scope (seen_tables (has n) l.fn.tables) f (map plain_expansion (drop l.expansion-index l.expansions)) (seen_tables (has n) l.tables) l.all;
 }

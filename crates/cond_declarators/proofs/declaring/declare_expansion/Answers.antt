@@ -9,9 +9,6 @@ use Rattle.type_tables.specs.Seen.{seen_tables}
 use Rattle.cond_declarators.proofs.StructsDeclared.{next_placed}
 use Rattle.cond_declarators.proofs.declaring.declare_expansion.Goals as goal
 
-pub returns-clause-completes : goal.returns-clause-completes
-returns-clause-completes g c = λ on. (c.in_ok-outcome.ensures on).completes
-
 pub returns-clause-places : goal.returns-clause-places
 returns-clause-places g c = λ n admitted here.
     next_placed (has n) (value (has n) (condition_of c.args.expansion.now.when)) (condition_of c.in_ok-here.here) (plain_tree c.args.expansion.now.tree)

@@ -7,6 +7,6 @@ use Rattle.choice_expansions.specs.Expansions.{expanded}
 use Rattle.cond_declarators.proofs.declaring.declared_base.Goals as goal
 
 pub returns-clause-declares : goal.returns-clause-declares
-returns-clause-declares g c = λ n scope f admitted here completes.
-    c.in_ok-all.ensures.declares n scope f (item_at (has n) (plain_item c.args.words.now)) (ap (value (has n)) c.in_ok-expansions.ensures.kept ∙ admitted) here completes
+returns-clause-declares g c = λ n scope f admitted here.
+    c.in_ok-all.ensures.declares n scope f (item_at (has n) (plain_item c.args.words.now)) (ap (value (has n)) c.in_ok-expansions.ensures.kept ∙ admitted) here
     (subst (λ list. seen (has n) (expanded list) ≡ item_at (has n) (plain_item c.args.words.now) ∷ []) (sym c.deref.ensures.value) (c.in_ok-expansions.ensures.alone n admitted))

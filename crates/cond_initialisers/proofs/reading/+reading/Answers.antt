@@ -28,7 +28,7 @@ pub entries_for-loop-part-init : goal.entries_for-loop-part-init
 entries_for-loop-part-init g t c = record {
   kept = refl;
   so_far = λ n right admitted.
-      ap (λ l. rows (has n) l ++ entries_from (g.K.Expressions.known c.args.known.now n) (members_in (seen_tables (has n) c.args.tables.now)) (plain_types c.args.types.now) (has n) c.args.parts.now) c.new-all.ensures.items;
+      ap (λ l. rows (has n) l ++ entries_from (g.K.Expressions.asked c.args.known.now n) (members_in (seen_tables (has n) c.args.tables.now)) (plain_types c.args.types.now) (has n) c.args.parts.now) c.new-all.ensures.items;
 }
 
 pub entries_for-push_part-requires : goal.entries_for-push_part-requires
@@ -42,14 +42,14 @@ pub entries_for-loop-part-preserved : goal.entries_for-loop-part-preserved
 entries_for-loop-part-preserved g t c = record {
   kept = c.in_ok-push_part.ensures.kept ∙ c.loop-part.invariant.kept;
   so_far = λ n right admitted.
-      next_part (g.K.Expressions.known c.args.known.now n) (members_in (seen_tables (has n) c.args.tables.now)) (plain_types c.args.types.now) (has n) c.args.parts.now c.part-item.result c.loop-part.part-index
+      next_part (g.K.Expressions.asked c.args.known.now n) (members_in (seen_tables (has n) c.args.tables.now)) (plain_types c.args.types.now) (has n) c.args.parts.now c.part-item.result c.loop-part.part-index
       (rows (has n) c.loop-part.all.items) (rows (has n) c.push_part.new.all.items) c.loop-part-test.true c.part-item.is
       (c.in_ok-push_part.ensures.pushes n right (ap (value (has n)) c.loop-part.invariant.kept ∙ admitted)) (c.loop-part.invariant.so_far n right admitted);
 }
 
 pub entries_for-returns-clause-same : goal.entries_for-returns-clause-same
 entries_for-returns-clause-same g t c = λ n right admitted.
-    all_parts (g.K.Expressions.known c.args.known.now n) (members_in (seen_tables (has n) c.args.tables.now)) (plain_types c.args.types.now) (has n) c.args.parts.now c.loop-part.part-index (rows (has n) c.loop-part.all.items) c.loop-part-test.false
+    all_parts (g.K.Expressions.asked c.args.known.now n) (members_in (seen_tables (has n) c.args.tables.now)) (plain_types c.args.types.now) (has n) c.args.parts.now c.loop-part.part-index (rows (has n) c.loop-part.all.items) c.loop-part-test.false
     (c.loop-part.invariant.so_far n right admitted)
 
 -- ---- alternatives
@@ -58,7 +58,7 @@ pub push_part-loop-when-init : goal.push_part-loop-when-init
 push_part-loop-when-init g t c = record {
   kept = refl;
   so_far = λ n right admitted.
-      part_start (g.K.Expressions.known c.args.known.now n) (members_in (seen_tables (has n) c.args.tables.now)) (plain_types c.args.types.now) (has n) c.deref-when-items.result.now (value (has n) (condition_of True)) (rows (has n) c.args.all.now.items)
+      part_start (g.K.Expressions.asked c.args.known.now n) (members_in (seen_tables (has n) c.args.tables.now)) (plain_types c.args.types.now) (has n) c.deref-when-items.result.now (value (has n) (condition_of True)) (rows (has n) c.args.all.now.items)
       (ap (value (has n)) condition_of-True);
 }
 
@@ -75,7 +75,7 @@ pub push_part-loop-when-preserved : goal.push_part-loop-when-preserved
 push_part-loop-when-preserved g t c = record {
   kept = c.in_ok-push_item.ensures.kept ∙ c.loop-when.invariant.kept;
   so_far = λ n right admitted.
-      part_step (g.K.Expressions.known c.args.known.now n) (members_in (seen_tables (has n) c.args.tables.now)) (plain_types c.args.types.now) (has n) c.deref-when-items.result.now c.loop-when-item.result c.loop-when.when-index
+      part_step (g.K.Expressions.asked c.args.known.now n) (members_in (seen_tables (has n) c.args.tables.now)) (plain_types c.args.types.now) (has n) c.deref-when-items.result.now c.loop-when-item.result c.loop-when.when-index
       (value (has n) (condition_of c.loop-when.left)) (value (has n) (condition_of c.in_ok-here.here)) (value (has n) (condition_of c.in_ok-left.left))
       (rows (has n) c.args.all.now.items) (rows (has n) c.loop-when.all.items) (rows (has n) c.push_item.new.all.items) c.loop-when-test.true c.loop-when-item.is
       (c.in_ok-here.ensures (has n) ∙ ap₂ (λ (a b : Condition). value (has n) a && value (has n) b) c.in_ok-try_clone.ensures c.in_ok-try_clone-2.ensures)
@@ -85,8 +85,8 @@ push_part-loop-when-preserved g t c = record {
 pub push_part-returns-clause-pushes : goal.push_part-returns-clause-pushes
 push_part-returns-clause-pushes g t c = λ n right admitted.
     subst (λ list. rows (has n) c.loop-when.all.items ≡ rows (has n) c.args.all.now.items
-    ++ asked_each (plain_types c.args.types.now) (entries_in (g.K.Expressions.known c.args.known.now n) (members_in (seen_tables (has n) c.args.tables.now)) (with_part false (branch_at (has n) (plain_branches list)) none))) c.deref-when-items.ensures.value
-    (part_end (g.K.Expressions.known c.args.known.now n) (members_in (seen_tables (has n) c.args.tables.now)) (plain_types c.args.types.now) (has n) c.deref-when-items.result.now c.loop-when.when-index (value (has n) (condition_of c.loop-when.left))
+    ++ asked_each (plain_types c.args.types.now) (entries_in (g.K.Expressions.asked c.args.known.now n) (members_in (seen_tables (has n) c.args.tables.now)) (with_part false (branch_at (has n) (plain_branches list)) none))) c.deref-when-items.ensures.value
+    (part_end (g.K.Expressions.asked c.args.known.now n) (members_in (seen_tables (has n) c.args.tables.now)) (plain_types c.args.types.now) (has n) c.deref-when-items.result.now c.loop-when.when-index (value (has n) (condition_of c.loop-when.left))
     (rows (has n) c.args.all.now.items) (rows (has n) c.loop-when.all.items) c.loop-when-test.false (c.loop-when.invariant.so_far n right admitted))
 
 -- ---- types
@@ -95,14 +95,14 @@ pub row_of-loop-ty-init : goal.row_of-loop-ty-init
 row_of-loop-ty-init g t c = record {
   kept = refl;
   so_far = λ n right admitted.
-      ap (λ l. map (λ f. value (has n) (condition_of f)) l ++ asked_for (plain_types c.args.types.now) (refuses (g.K.Expressions.known c.args.known.now n) (members_in (seen_tables (has n) c.args.tables.now)) (item_at (has n) (plain_item c.args.item.now)))) c.new-refused.ensures.items;
+      ap (λ l. map (λ f. value (has n) (condition_of f)) l ++ asked_for (plain_types c.args.types.now) (refuses (g.K.Expressions.asked c.args.known.now n) (members_in (seen_tables (has n) c.args.tables.now)) (item_at (has n) (plain_item c.args.item.now)))) c.new-refused.ensures.items;
 }
 
 pub row_of-loop-ty-preserved : goal.row_of-loop-ty-preserved
 row_of-loop-ty-preserved g t c = record {
   kept = c.in_ok-here.ensures.kept ∙ c.loop-ty.invariant.kept;
   so_far = λ n right admitted.
-      next_type (refuses (g.K.Expressions.known c.args.known.now n) (members_in (seen_tables (has n) c.args.tables.now)) (item_at (has n) (plain_item c.args.item.now))) c.args.types.now c.ty-item.result c.loop-ty.ty-index
+      next_type (refuses (g.K.Expressions.asked c.args.known.now n) (members_in (seen_tables (has n) c.args.tables.now)) (item_at (has n) (plain_item c.args.item.now))) c.args.types.now c.ty-item.result c.loop-ty.ty-index
       (map (λ f. value (has n) (condition_of f)) c.loop-ty.refused.items) (map (λ f. value (has n) (condition_of f)) c.push.new.self.items) (value (has n) (condition_of c.in_ok-here.here))
       c.loop-ty-test.true c.ty-item.is (c.in_ok-here.ensures.same n right (ap (value (has n)) c.loop-ty.invariant.kept ∙ admitted))
       (ap (map (λ f. value (has n) (condition_of f))) c.in_ok-push.ensures.items ∙ map-append (λ f. value (has n) (condition_of f)) c.loop-ty.refused.items (c.in_ok-here.here ∷ []))
@@ -111,7 +111,7 @@ row_of-loop-ty-preserved g t c = record {
 
 pub row_of-returns-clause-same : goal.row_of-returns-clause-same
 row_of-returns-clause-same g t c = λ n right admitted.
-    all_types (refuses (g.K.Expressions.known c.args.known.now n) (members_in (seen_tables (has n) c.args.tables.now)) (item_at (has n) (plain_item c.args.item.now))) c.args.types.now c.loop-ty.ty-index (map (λ f. value (has n) (condition_of f)) c.loop-ty.refused.items)
+    all_types (refuses (g.K.Expressions.asked c.args.known.now n) (members_in (seen_tables (has n) c.args.tables.now)) (item_at (has n) (plain_item c.args.item.now))) c.args.types.now c.loop-ty.ty-index (map (λ f. value (has n) (condition_of f)) c.loop-ty.refused.items)
     c.loop-ty-test.false (c.loop-ty.invariant.so_far n right admitted)
 
 pub where_item_refused-returns-in-Braces-clause-same : goal.where_item_refused-returns-in-Braces-clause-same
@@ -120,7 +120,7 @@ where_item_refused-returns-in-Braces-clause-same g t c =
     let e : plain_item c.args.item.now ≡ inner k.Braces (plain_choices c.deref.result.now) =
     ap plain_item c.in-Node.is ∙ (plain_item-Node c.in-Node.kind c.in-Node.parts ∙ ap₂ (λ kind parts. inner kind (plain_choices parts)) told (sym c.deref.ensures.value)) in
     IfOk-weaker c.where_braces_refused.result _ _ (λ f holds n right admitted.
-    subst (λ p. value (has n) (condition_of f) ≡ refuses (g.K.Expressions.known c.args.known.now n) (members_in (seen_tables (has n) c.args.tables.now)) (item_at (has n) p) (plain_type c.args.ty.now)) (sym e) (holds n right admitted)) c.where_braces_refused.ensures.same
+    subst (λ p. value (has n) (condition_of f) ≡ refuses (g.K.Expressions.asked c.args.known.now n) (members_in (seen_tables (has n) c.args.tables.now)) (item_at (has n) p) (plain_type c.args.ty.now)) (sym e) (holds n right admitted)) c.where_braces_refused.ensures.same
 
 pub where_item_refused-returns-in-List-clause-same : goal.where_item_refused-returns-in-List-clause-same
 where_item_refused-returns-in-List-clause-same g t c =
@@ -128,7 +128,7 @@ where_item_refused-returns-in-List-clause-same g t c =
     let e : plain_item c.args.item.now ≡ inner k.Initialisers (plain_choices c.deref-in-List.result.now) =
     ap plain_item c.in-Node.is ∙ (plain_item-Node c.in-Node.kind c.in-Node.parts ∙ ap₂ (λ kind parts. inner kind (plain_choices parts)) told (sym c.deref-in-List.ensures.value)) in
     IfOk-weaker c.where_list_refused.result _ _ (λ f holds n right admitted.
-    subst (λ p. value (has n) (condition_of f) ≡ refuses (g.K.Expressions.known c.args.known.now n) (members_in (seen_tables (has n) c.args.tables.now)) (item_at (has n) p) (plain_type c.args.ty.now)) (sym e) (holds n right admitted)) c.where_list_refused.ensures.same
+    subst (λ p. value (has n) (condition_of f) ≡ refuses (g.K.Expressions.asked c.args.known.now n) (members_in (seen_tables (has n) c.args.tables.now)) (item_at (has n) p) (plain_type c.args.ty.now)) (sym e) (holds n right admitted)) c.where_list_refused.ensures.same
 
 pub where_item_refused-returns-in-Texts-clause-same : goal.where_item_refused-returns-in-Texts-clause-same
 where_item_refused-returns-in-Texts-clause-same g t c =
@@ -136,37 +136,37 @@ where_item_refused-returns-in-Texts-clause-same g t c =
     let e : plain_item c.args.item.now ≡ inner k.Texts (plain_choices c.in-Node.parts.items) =
     ap plain_item c.in-Node.is ∙ (plain_item-Node c.in-Node.kind c.in-Node.parts ∙ ap (λ kind. inner kind (plain_choices c.in-Node.parts.items)) told) in
     IfOk-weaker c.where_texts.result _ _ (λ f holds n right admitted.
-    subst (λ p. value (has n) (condition_of f) ≡ refuses (g.K.Expressions.known c.args.known.now n) (members_in (seen_tables (has n) c.args.tables.now)) (item_at (has n) p) (plain_type c.args.ty.now)) (sym e)
-    (subst (λ p. value (has n) (condition_of f) ≡ as_text (g.K.Expressions.known c.args.known.now n) (item_at (has n) p) (plain_type c.args.ty.now)) e (holds n right admitted))) c.where_texts.ensures.same
+    subst (λ p. value (has n) (condition_of f) ≡ refuses (g.K.Expressions.asked c.args.known.now n) (members_in (seen_tables (has n) c.args.tables.now)) (item_at (has n) p) (plain_type c.args.ty.now)) (sym e)
+    (subst (λ p. value (has n) (condition_of f) ≡ as_text (g.K.Expressions.asked c.args.known.now n) (item_at (has n) p) (plain_type c.args.ty.now)) e (holds n right admitted))) c.where_texts.ensures.same
 
 pub where_item_refused-returns-in-Expression-clause-same : goal.where_item_refused-returns-in-Expression-clause-same
 where_item_refused-returns-in-Expression-clause-same g t c =
     let told : HasShape c.in-Node.kind Expression = subst (HasShape c.in-Node.kind) (sym c.shape_of.ensures ∙ c.in-Expression.is) (has_shape c.in-Node.kind) in
     let e : plain_item c.args.item.now ≡ inner c.in-Node.kind (plain_choices c.in-Node.parts.items) = ap plain_item c.in-Node.is ∙ plain_item-Node c.in-Node.kind c.in-Node.parts in
     IfOk-weaker c.where_alone-in-Expression.result _ _ (λ f holds n right admitted.
-    subst (λ p. value (has n) (condition_of f) ≡ refuses (g.K.Expressions.known c.args.known.now n) (members_in (seen_tables (has n) c.args.tables.now)) (item_at (has n) p) (plain_type c.args.ty.now)) (sym e)
-    (subst (λ p. value (has n) (condition_of f) ≡ alone (g.K.Expressions.known c.args.known.now n) (item_at (has n) p) (plain_type c.args.ty.now)) e (holds n right admitted)
-    ∙ sym (told (g.K.Expressions.known c.args.known.now n) (members_in (seen_tables (has n) c.args.tables.now)) (parts_at (has n) c.in-Node.kind 0 (plain_choices c.in-Node.parts.items)) (plain_type c.args.ty.now)))) c.where_alone-in-Expression.ensures.same
+    subst (λ p. value (has n) (condition_of f) ≡ refuses (g.K.Expressions.asked c.args.known.now n) (members_in (seen_tables (has n) c.args.tables.now)) (item_at (has n) p) (plain_type c.args.ty.now)) (sym e)
+    (subst (λ p. value (has n) (condition_of f) ≡ alone (g.K.Expressions.asked c.args.known.now n) (item_at (has n) p) (plain_type c.args.ty.now)) e (holds n right admitted)
+    ∙ sym (told (g.K.Expressions.asked c.args.known.now n) (members_in (seen_tables (has n) c.args.tables.now)) (parts_at (has n) c.in-Node.kind 0 (plain_choices c.in-Node.parts.items)) (plain_type c.args.ty.now)))) c.where_alone-in-Expression.ensures.same
 
 -- ---- lists
 
 pub where_braces_refused-returns-clause-same : goal.where_braces_refused-returns-clause-same
 where_braces_refused-returns-clause-same g t c = IfOk-weaker c.where_some_row.result _ _ (λ f holds n right admitted.
-    let each = entries_in (g.K.Expressions.known c.args.known.now n) (members_in (seen_tables (has n) c.args.tables.now)) (parts_at (has n) k.Initialisers 0 (plain_choices c.args.parts.now)) in
+    let each = entries_in (g.K.Expressions.asked c.args.known.now n) (members_in (seen_tables (has n) c.args.tables.now)) (parts_at (has n) k.Initialisers 0 (plain_choices c.args.parts.now)) in
     holds (has n)
     ∙ (ap (λ l. some_row (rows (has n) l)) c.deref.ensures.value
     ∙ (ap some_row (c.in_ok-entries.ensures.same n right admitted)
     ∙ (some_asked (plain_type c.args.ty.now) each
-    ∙ ap (λ ps. some_refused (entries_in (g.K.Expressions.known c.args.known.now n) (members_in (seen_tables (has n) c.args.tables.now)) ps) (plain_type c.args.ty.now)) (sym (same_places (has n) 0 0 (plain_choices c.args.parts.now))))))) c.where_some_row.ensures
+    ∙ ap (λ ps. some_refused (entries_in (g.K.Expressions.asked c.args.known.now n) (members_in (seen_tables (has n) c.args.tables.now)) ps) (plain_type c.args.ty.now)) (sym (same_places (has n) 0 0 (plain_choices c.args.parts.now))))))) c.where_some_row.ensures
 
 pub where_repeated_refused-returns-clause-same : goal.where_repeated_refused-returns-clause-same
 where_repeated_refused-returns-clause-same g t c = IfOk-weaker c.where_some_of.result _ _ (λ f holds n right admitted.
-    holds n (plain_type c.args.ty.now) (entries_in (g.K.Expressions.known c.args.known.now n) (members_in (seen_tables (has n) c.args.tables.now)) (parts_at (has n) k.Initialisers 0 (plain_choices c.args.parts.now))) (ap (value (has n)) c.in_ok-entries.ensures.kept ∙ admitted)
+    holds n (plain_type c.args.ty.now) (entries_in (g.K.Expressions.asked c.args.known.now n) (members_in (seen_tables (has n) c.args.tables.now)) (parts_at (has n) k.Initialisers 0 (plain_choices c.args.parts.now))) (ap (value (has n)) c.in_ok-entries.ensures.kept ∙ admitted)
     (ap (rows (has n)) c.deref.ensures.value ∙ c.in_ok-entries.ensures.same n right admitted)) c.where_some_of.ensures.same
 
 pub where_members_refused-returns-clause-same : goal.where_members_refused-returns-clause-same
 where_members_refused-returns-clause-same g t c = IfOk-weaker c.where_some_pair.result _ _ (λ f holds n right admitted.
-    let each = entries_in (g.K.Expressions.known c.args.known.now n) (members_in (seen_tables (has n) c.args.tables.now)) (parts_at (has n) k.Initialisers 0 (plain_choices c.args.parts.now)) in
+    let each = entries_in (g.K.Expressions.asked c.args.known.now n) (members_in (seen_tables (has n) c.args.tables.now)) (parts_at (has n) k.Initialisers 0 (plain_choices c.args.parts.now)) in
     holds n (ap (value (has n)) c.in_ok-entries.ensures.kept ∙ admitted)
     ∙ (ap₂ (λ es ps. rows_in_pairs (rows (has n) es) (numbers (has n) ps)) c.deref-2.ensures.value c.deref-3.ensures.value
     ∙ (ap (λ rs. rows_in_pairs rs (numbers (has n) c.in_ok-members.members.items)) (c.in_ok-entries.ensures.same n right admitted ∙ ap (λ l. asked_each (plain_types l) each) c.deref.ensures.value)
@@ -174,7 +174,7 @@ where_members_refused-returns-clause-same g t c = IfOk-weaker c.where_some_pair.
 
 pub entries_for_one-returns-clause-same : goal.entries_for_one-returns-clause-same
 entries_for_one-returns-clause-same g t c = IfOk-weaker c.entries_for.result _ _ (λ z same n right admitted.
-    let each = entries_in (g.K.Expressions.known c.args.known.now n) (members_in (seen_tables (has n) c.args.tables.now)) (parts_at (has n) k.Initialisers 0 (plain_choices c.args.parts.now)) in
+    let each = entries_in (g.K.Expressions.asked c.args.known.now n) (members_in (seen_tables (has n) c.args.tables.now)) (parts_at (has n) k.Initialisers 0 (plain_choices c.args.parts.now)) in
     same n right admitted
     ∙ ap (λ ts. asked_each ts each)
     (ap plain_types (c.deref.ensures.value ∙ (c.in_ok-push.ensures.items ∙ ap (λ l. l ++ c.in_ok-copied.field-0 ∷ []) c.new-types.ensures.items))
@@ -185,11 +185,11 @@ entries_for_one-returns-clause-same g t c = IfOk-weaker c.entries_for.result _ _
 pub push_item-returns-then-not-is_entry-clause-pushes : goal.push_item-returns-then-not-is_entry-clause-pushes
 push_item-returns-then-not-is_entry-clause-pushes g t c = λ n right admitted.
     nothing_under (value (has n) (condition_of c.args.when.now)) (rows (has n) c.args.all.now.items) _
-    (ap (asked_each (plain_types c.args.types.now)) (no_entry (g.K.Expressions.known c.args.known.now n) (members_in (seen_tables (has n) c.args.tables.now)) (item_at (has n) (plain_item c.args.item.now)) (sym (c.is_entry.ensures (has n)) ∙ c.if-not-is_entry.true)))
+    (ap (asked_each (plain_types c.args.types.now)) (no_entry (g.K.Expressions.asked c.args.known.now n) (members_in (seen_tables (has n) c.args.tables.now)) (item_at (has n) (plain_item c.args.item.now)) (sym (c.is_entry.ensures (has n)) ∙ c.if-not-is_entry.true)))
 
 pub push_item-returns-clause-pushes : goal.push_item-returns-clause-pushes
 push_item-returns-clause-pushes g t c = λ n right admitted.
     seen_push (row (has n)) (has n) c.args.all.now.items c.push.new.self.items (record { when = c.in_ok-when.when; what = c.in_ok-what.what }) c.in_ok-push.ensures.items
     ∙ (ap₂ (λ b r. rows (has n) c.args.all.now.items ++ under b (r ∷ [])) (ap (value (has n)) c.in_ok-when.ensures) (c.in_ok-what.ensures.same n right admitted)
     ∙ ap (λ es. rows (has n) c.args.all.now.items ++ under (value (has n) (condition_of c.args.when.now)) (asked_each (plain_types c.args.types.now) es))
-    (sym (an_entry (g.K.Expressions.known c.args.known.now n) (members_in (seen_tables (has n) c.args.tables.now)) (item_at (has n) (plain_item c.args.item.now)) (sym (c.is_entry.ensures (has n)) ∙ c.if-not-is_entry.false))))
+    (sym (an_entry (g.K.Expressions.asked c.args.known.now n) (members_in (seen_tables (has n) c.args.tables.now)) (item_at (has n) (plain_item c.args.item.now)) (sym (c.is_entry.ensures (has n)) ∙ c.if-not-is_entry.false))))

@@ -43,21 +43,21 @@ abbrev pub invariant-entries_for-loop-part : goal.invariant-entries_for-loop-par
 invariant-entries_for-loop-part g l = record {
   kept : g.O.Oracle.admits l.oracle ≡ g.O.Oracle.admits l.fn.oracle;
   so_far : (n : List Bool) → IsTrue (value (has n) (g.K.Expressions.admits l.known)) → IsTrue (value (has n) (g.O.Oracle.admits l.fn.oracle)) →
-      rows (has n) l.all.items ++ entries_from (g.K.Expressions.known l.known n) (members_in (seen_tables (has n) l.tables)) (plain_types l.types) (has n) (drop l.part-index l.parts)
-      ≡ entries_from (g.K.Expressions.known l.known n) (members_in (seen_tables (has n) l.tables)) (plain_types l.types) (has n) l.parts;
+      rows (has n) l.all.items ++ entries_from (g.K.Expressions.asked l.known n) (members_in (seen_tables (has n) l.tables)) (plain_types l.types) (has n) (drop l.part-index l.parts)
+      ≡ entries_from (g.K.Expressions.asked l.known n) (members_in (seen_tables (has n) l.tables)) (plain_types l.types) (has n) l.parts;
 }
 
 abbrev pub invariant-push_part-loop-when : goal.invariant-push_part-loop-when
 invariant-push_part-loop-when g l = record {
   kept : g.O.Oracle.admits l.oracle ≡ g.O.Oracle.admits l.fn.oracle;
   so_far : (n : List Bool) → IsTrue (value (has n) (g.K.Expressions.admits l.known)) → IsTrue (value (has n) (g.O.Oracle.admits l.fn.oracle)) →
-      PartSoFar (g.K.Expressions.known l.known n) (members_in (seen_tables (has n) l.tables)) (plain_types l.types) (has n) l.when-items l.when-index (value (has n) (condition_of l.left)) (rows (has n) l.fn.all.items) (rows (has n) l.all.items);
+      PartSoFar (g.K.Expressions.asked l.known n) (members_in (seen_tables (has n) l.tables)) (plain_types l.types) (has n) l.when-items l.when-index (value (has n) (condition_of l.left)) (rows (has n) l.fn.all.items) (rows (has n) l.all.items);
 }
 
 abbrev pub invariant-row_of-loop-ty : goal.invariant-row_of-loop-ty
 invariant-row_of-loop-ty g l = record {
   kept : g.O.Oracle.admits l.oracle ≡ g.O.Oracle.admits l.fn.oracle;
   so_far : (n : List Bool) → IsTrue (value (has n) (g.K.Expressions.admits l.known)) → IsTrue (value (has n) (g.O.Oracle.admits l.fn.oracle)) →
-      map (λ f. value (has n) (condition_of f)) l.refused.items ++ asked_for (plain_types (drop l.ty-index l.types)) (refuses (g.K.Expressions.known l.known n) (members_in (seen_tables (has n) l.tables)) (item_at (has n) (plain_item l.item)))
-      ≡ asked_for (plain_types l.types) (refuses (g.K.Expressions.known l.known n) (members_in (seen_tables (has n) l.tables)) (item_at (has n) (plain_item l.item)));
+      map (λ f. value (has n) (condition_of f)) l.refused.items ++ asked_for (plain_types (drop l.ty-index l.types)) (refuses (g.K.Expressions.asked l.known n) (members_in (seen_tables (has n) l.tables)) (item_at (has n) (plain_item l.item)))
+      ≡ asked_for (plain_types l.types) (refuses (g.K.Expressions.asked l.known n) (members_in (seen_tables (has n) l.tables)) (item_at (has n) (plain_item l.item)));
 }
