@@ -1,0 +1,4 @@
+pub mod Parameters
+pub mod Readings
+pub mod Types
+pub mod Walks
