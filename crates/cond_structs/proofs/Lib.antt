@@ -1,0 +1,11 @@
+pub mod Adding
+pub mod InTurn
+pub mod OneMember
+pub mod Outcome
+pub mod Steps
+pub mod Listed
+pub mod ListSteps
+pub mod OneDeclaration
+pub mod Reaching
+pub mod Completing
+pub mod Defined
