@@ -1,0 +1,5 @@
+pub mod Judging
+pub mod Fitting
+pub mod OneObject
+pub mod OneDeclarator
+pub mod Given

@@ -1,0 +1,4 @@
+pub mod Seen
+pub mod Units
+pub mod Definitions
+pub mod Values
