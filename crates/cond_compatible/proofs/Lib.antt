@@ -1,0 +1,9 @@
+pub mod PairsWhere
+pub mod AgreeLaws
+pub mod RenumberedPairs
+pub mod Renumbered
+pub mod Rows
+pub mod Matching
+pub mod Totals
+pub mod Levels
+pub mod AgreeingSorts
