@@ -1,0 +1,5 @@
+pub mod Given
+pub mod Staying
+pub mod OneFunction
+pub mod OneDeclarator
+pub mod ParameterLists

@@ -1,0 +1,56 @@
+//! Functions behind words that name types under conditions.
+ghost use Rattle.std.specs.Prelude.{◌≡◌, ℕ, Bool, true, false, List, Option, Some, is_some, IsTrue, IfOk};
+ghost use Rattle.cond_formula.specs.Features.{has};
+ghost use Rattle.cond_formula.specs.Conditions.{condition_of, value};
+ghost use Rattle.conditional.specs.Entries.{entries_of, Stands};
+ghost use Rattle.c_text.specs.Token.{plain_token};
+ghost use Rattle.c_types.specs.Types.{PlainType};
+ghost use Rattle.c_tree.specs.Trees.{PlainTree};
+ghost use Rattle.choice_trees.specs.ChoiceTrees.{plain_item, item_at};
+ghost use Rattle.plain_objects.specs.PlainStates.{plain_storage};
+ghost use Rattle.type_tables.specs.Forms.{declared_type_form};
+ghost use Rattle.cond_parameters.specs.Parameters.{IsList};
+ghost use Rattle.cond_objects.specs.Seen.{seen_unit};
+ghost use Rattle.cond_objects.specs.Units.{DeclaresTyped};
+ghost use Rattle.cond_functions.specs.Functions.{function_of_list};
+ghost use Rattle.cond_functions.specs.Where.{Stays};
+
+use crate::functions::{Function, declare_typed};
+use cond_formula::{Formula, NoMemory, Oracle};
+use cond_objects::UnitTables;
+use conditional::Guarded;
+use conditional_steps::{both_of, never};
+use reduced_conditions::{either, without};
+use std::alloc::Global;
+use type_tables::DeclaredType;
+
+/// A function where the condition is true, once in each configuration, though alternatives for the type before it may hold together. The answer is
+/// where it is refused.
+pub(crate) fn declare_by_types<O: Oracle>(
+    alloc: Global,
+    oracle: &mut O,
+    unit: &mut UnitTables,
+    when: &Formula,
+    declared: &Function<'_>,
+    types: &[Guarded<DeclaredType>],
+) -> Result<Formula, NoMemory>
+    ensures kept { O.admits oracle.new ≡ O.admits oracle.old }
+    ensures elsewhere { IfOk result (λ f. (c : List Bool) → IsTrue (value (has c) (O.admits oracle.old)) → value (has c) (condition_of when.now) ≡ false
+        → Stays (seen_unit (has c) unit.old) (seen_unit (has c) unit.new) × (value (has c) (condition_of f) ≡ false)) }
+    ensures declares { IfOk result (λ f. (c : List Bool) (initialiser : Option PlainTree) → IsTrue (value (has c) (O.admits oracle.old)) → is_some initialiser ≡ declared.now.initialised
+        → value (has c) (condition_of when.now) ≡ true → (ty : PlainType) → Stands (has c) ty (entries_of declared_type_form types.now)
+        → DeclaresTyped ty (function_of_list (plain_storage declared.now.storage) declared.now.stars (plain_token declared.now.name.now) (Some (item_at (has c) (plain_item declared.now.list.now))) initialiser)
+        (IsList (item_at (has c) (plain_item declared.now.list.now)))
+        (seen_unit (has c) unit.old) (seen_unit (has c) unit.new) (value (has c) (condition_of f))) }
+{
+    let mut refused = never()?;
+    let mut left = when.try_clone(alloc)?;
+    for alternative in types {
+        let here = both_of(alloc, &left, &alternative.when)?;
+        let ty = &alternative.what.ty;
+        let found = declare_typed(alloc, oracle, unit, &here, declared, ty)?;
+        refused = either(alloc, refused, found)?;
+        left = without(alloc, left, &alternative.when)?;
+    }
+    Ok(refused)
+}

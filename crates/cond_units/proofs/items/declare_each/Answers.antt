@@ -1,0 +1,45 @@
+use Rattle.std.proofs.Common.{refl, ap, ◌∙◌, subst}
+use Rattle.cond_formula.specs.Features.{has}
+use Rattle.cond_formula.specs.Conditions.{condition_of, value}
+use Rattle.conditional.specs.Entries.{seen}
+use Rattle.c_tree.specs.Trees.{trees}
+use Rattle.c_tree.specs.Grammar.{file_item}
+use Rattle.tree_derivations.specs.Derivations.{Derivation}
+use Rattle.choice_trees.specs.ChoiceTrees.{plain_item, item_at}
+use Rattle.declarator_lists.specs.Entries.{entries_at}
+use Rattle.core_meaning.specs.UnitNames.{judged_file_items}
+use Rattle.cond_objects.specs.Seen.{seen_unit}
+use Rattle.cond_functions.specs.Where.{Where}
+use Rattle.cond_units.specs.Items.{DeclaresItem}
+use Rattle.cond_units.specs.Units.{one_item}
+use Rattle.cond_units.proofs.EachItem.{going, next_item, no_item}
+use Rattle.cond_units.proofs.items.declare_each.Goals as goal
+
+pub loop-place-init : goal.loop-place-init
+loop-place-init g c = record {
+  kept = refl;
+  so_far = λ n globals admitted unit is_seen ready. going unit (c.in_ok-refused.ensures (has n)) is_seen ready (λ f t h. h);
+}
+
+pub loop-place-preserved : goal.loop-place-preserved
+loop-place-preserved g c = record {
+  kept = c.in_ok-found.ensures.kept ∙ c.loop-place.invariant.kept;
+  so_far = λ n globals admitted unit is_seen ready.
+      next_item globals (judged_file_items globals unit (trees (seen (has n) (entries_at (has n) c.args.all.now)))) (has n) c.args.all.now c.loop-place.place c.index-all-place.result
+      (seen_unit (has n) c.loop-place.unit) (seen_unit (has n) c.declare_entry.new.unit)
+      (value (has n) (condition_of c.loop-place.refused)) (value (has n) (condition_of c.in_ok-found.found)) (value (has n) (condition_of c.in_ok-refused-2.refused))
+      c.loop-place-test.true c.index-all-place.is (c.in_ok-refused-2.ensures (has n))
+      (subst (λ list. Where (value (has n) (condition_of c.index-all-place.result.when))
+      (DeclaresItem (one_item globals (item_at (has n) (plain_item c.index-all-place.result.item.now)) (trees (seen (has n) (entries_at (has n) list)))) (Derivation file_item (item_at (has n) (plain_item c.index-all-place.result.item.now))))
+      (seen_unit (has n) c.loop-place.unit) (seen_unit (has n) c.declare_entry.new.unit) (value (has n) (condition_of c.in_ok-found.found)))
+      c.split_at.ensures.back
+      (c.in_ok-found.ensures.declares n globals (ap (value (has n)) c.loop-place.invariant.kept ∙ admitted)))
+      (c.loop-place.invariant.so_far n globals admitted unit is_seen ready);
+}
+
+pub returns-clause-declares : goal.returns-clause-declares
+returns-clause-declares g c = λ n globals admitted. record {
+  comes = λ unit is_seen ready.
+      no_item globals (judged_file_items globals unit (trees (seen (has n) (entries_at (has n) c.args.all.now)))) (has n) c.args.all.now c.loop-place.place
+      (seen_unit (has n) c.loop-place.unit) (value (has n) (condition_of c.loop-place.refused)) c.loop-place-test.false (c.loop-place.invariant.so_far n globals admitted unit is_seen ready);
+}

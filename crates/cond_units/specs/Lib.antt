@@ -1,0 +1,4 @@
+pub mod Tags
+pub mod Names
+pub mod Items
+pub mod Units
