@@ -1,0 +1,3 @@
+pub mod SeenUnits
+pub mod Several
+pub mod Measures
