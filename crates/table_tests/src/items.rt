@@ -1,4 +1,5 @@
 use c_text::{Origin, Place, Token, TokenKind};
+use c_tree::Kind;
 use choice_trees::{Choice, Item};
 use cond_formula::{Formula, NoMemory};
 use std::alloc::Global;
@@ -27,4 +28,11 @@ pub(crate) fn when(alloc: Global, when: Formula, item: Item) -> Result<Choice<It
     let mut branches = Vec::with_capacity(alloc, 1)?;
     branches.push((when, item))?;
     Ok(Choice { branches })
+}
+
+/// A node with one part.
+pub(crate) fn around(alloc: Global, kind: Kind, part: Item) -> Result<Item, NoMemory> {
+    let mut parts = Vec::with_capacity(alloc, 1)?;
+    parts.push(when(alloc, Formula::True, part)?)?;
+    Ok(Item::Node(kind, parts))
 }
