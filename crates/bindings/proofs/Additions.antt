@@ -30,7 +30,7 @@ declarator_adds suffix adds place (more (leaf token) rest) r = by (is_name token
         → Adds r.found (if x then declared place token (declaring place token r) (suffix rest (occurs token (bound_to (declaring place token r)) r)) else if y then read_expressions rest (passed r) else read_declarator suffix place rest (passed r)).found
     by true y further =
         let r1 : Reading = occurs token (bound_to (declaring place token r)) r in
-        declared_adds place token (declaring place token r) r (suffix rest r1) (adds_both (record { others = record { number = r.next; token = token; binding = bound_to (declaring place token r) } ∷ []; is = refl }) (adds rest r1))
+        declared_adds place token (declaring place token r) r (suffix rest r1) (adds_both (record { others = record { number = r.next; token = token; binding = bound_to (declaring place token r); uses_file_name = false } ∷ []; is = refl }) (adds rest r1))
     by false true further = expressions_add rest (passed r)
     by false false further = further
 declarator_adds suffix adds place (more (node kind parts) rest) r = adds_both (expressions_add parts r) (expressions_add rest (read_expressions parts r))

@@ -28,7 +28,7 @@ use Rattle.bindings.proofs.Types.{MadeSort, made_words}
 use Rattle.bindings.proofs.Spellings.{Told, Holds, AllHold, no_name, steps, assignments, operators, step_named, assignment_named, operator_found}
 use Rattle.bindings.proofs.Operators.{Anything, loads, yields_some, written_yields, stepped_yields, assignment_yields, prefixed_yields, cast_yields, indexed_yields, combined_yields, logical_and_yields, logical_or_yields, chosen_yields, called_yields, passed_yields, condition_yields}
 use Rattle.bindings.proofs.Related.{Room, numbering, or_else_none}
-use Rattle.bindings.proofs.Expressions.{expression_adds, expressions_add, read_leaf, skip, skip_texts, skip_words_of, member_used_adds, bytes_known, first_known, Rel, After, Goal, Operands, Values, then_quietly, then_on, quietly, use_of, single_read, selected_read, two}
+use Rattle.bindings.proofs.Expressions.{expression_adds, expressions_add, read_leaf, skip, skip_texts, skip_words_of, member_used_adds, bytes_known, first_known, Rel, After, Goal, Operands, Values, then_quietly, then_on, quietly, file_used, use_of, single_read, selected_read, two}
 
 pub leaf_only_adds : (token : PlainToken) (r : Reading) → Adds r.found (read_leaf token r).found
 leaf_only_adds token r = expression_adds (leaf token) r
@@ -63,8 +63,8 @@ module _ (at : ℕ → Entity) (taken : Room) (scope : Scope) where
       → Goal at taken scope (λ x. MadeSort scope.tags (function signature)) h r.found (used token r) (uses (file_entity token.text))
   called_by_name token signature r h rel hidden n e made =
       let found = (rel.names token.text n e).found in
-      let f = use_of at taken scope r h token (file_entity token.text) found.by refl (or_else_none (look_up ordinary token.text r.blocks) (look_up ordinary token.text r.file) (rel.no_local token.text hidden) ∙ found.entry) found.first rel in
-      record { os = f.os; is = f.is; alike = f.alike; plain = f.plain; after = (made, f.after.1) }
+      let f = use_of at taken scope r h token (file_entity token.text) found.by refl (file_used token r found.by.number (rel.no_local token.text hidden) found.entry) (or_else_none (look_up ordinary token.text r.blocks) (look_up ordinary token.text r.file) (rel.no_local token.text hidden) ∙ found.entry) found.first rel in
+      record { os = f.os; is = f.is; alike = f.alike; plain = f.plain; used = f.used; after = (made, f.after.1) }
 
   called_name :
       (token : PlainToken) (f : Callee) (r : Reading) (h : List Identified) → Rel at taken scope r h → (l : Option Local) → local_in scope.blocks token.text ≡ l

@@ -3,7 +3,8 @@ use Rattle.std.proofs.Common.{◌≡◌, ℕ, Bool, true, false, List, [], ◌�
 use Rattle.std.specs.Prelude.{Option, Some, None, is_some, slice_get, codes, pos, not, if◌then◌else◌, ◌&&◌, ◌||◌, ◌==◌}
 use Rattle.std.specs.List.{list_all}
 use Rattle.std.specs.Str.{bytes_eq}
-use Rattle.std.proofs.lemmas.Bool.{and_parts, false≢true}
+use Rattle.std.specs.Cmp.Lexicographic.{bytes_decides}
+use Rattle.std.proofs.lemmas.Bool.{and_parts, and_from, false≢true}
 use Rattle.c_text.specs.Token.{PlainToken}
 use Rattle.c_text.specs.Constants.{quoted_values}
 use Rattle.c_types.specs.Types.{PlainType, char, array_of, structure, pointer_to}
@@ -20,11 +21,11 @@ use Rattle.core_meaning.specs.Entities.{Local, Sort, variable, function, FileNam
 use Rattle.core_meaning.specs.Typing.{Operand, Typed, of_object, loaded, Designation}
 use Rattle.core_meaning.specs.Expressions.{judged, judged_arguments, single_operand, name_operand, file_name_operand, file_operand, number_operand, character_operand, character_value, text_bytes, joined_bytes, first_text, first_token, stepped, prefixed, cast_to, arithmetic_words, selected, member_of, member_in, member_operand, member_of_target, struct_place, is_free, indexed, Callee, callee, callee_unless_local, callee_of_name, callee_of_sort, count_entries, may_be_called, result_of_call, passed as passed_argument, condition_value, chosen, combined_by, combined, operator_named, written_place, assignment, valued}
 use Rattle.core_meaning.specs.declared.refusals.TypeKind.TheVariants.{Incomplete, NoMember}
-use Rattle.bindings.specs.Visible.{ordinary, members_of, look_up, Binding, bound_to, undeclared, member_use, Occurrence, Reading, passed, binding_found, visible_name, used, member_used}
+use Rattle.bindings.specs.Visible.{ordinary, members_of, look_up, Binding, bound_to, undeclared, member_use, Occurrence, Reading, passed, binding_found, visible_name, is_of_file, used, member_used}
 use Rattle.bindings.specs.Bindings.{is_name, read_expression, read_expressions}
 use Rattle.bindings.specs.Judged.{Identified, first_with, identified, IsMember, struct_of}
 use Rattle.bindings.proofs.Histories.{first_again}
-use Rattle.bindings.proofs.Follows.{is_plain, Adds, adds_none, adds_both, renamed_one, Follows, follows_both, quietly_follows, quietly_before, Yields, yields, yields_both}
+use Rattle.bindings.proofs.Follows.{is_plain, used_alike, Adds, adds_none, adds_both, renamed_one, Follows, follows_both, quietly_follows, quietly_before, Yields, yields, yields_both}
 use Rattle.bindings.proofs.Types.{Made, MadeSort, made_number}
 use Rattle.bindings.proofs.Spellings.{Told, AllHold, no_name}
 use Rattle.bindings.proofs.Operators.{Anything, MadeOperand, MadeTyped, loads, yields_unless, yields_found, yields_some}
@@ -34,14 +35,14 @@ use Rattle.bindings.proofs.Related.{Room, numbering, LocalFound, TagFound, Relat
 -- ---- reading only adds
 
 leaf_adds : (b : Bool) (token : PlainToken) (r : Reading) → Adds r.found (if b then used token r else passed r).found
-leaf_adds true token r = record { others = record { number = r.next; token = token; binding = binding_found (visible_name token.text r) } ∷ []; is = refl }
+leaf_adds true token r = record { others = record { number = r.next; token = token; binding = binding_found (visible_name token.text r); uses_file_name = is_of_file token.text r } ∷ []; is = refl }
 leaf_adds false token r = adds_none r.found
 
 mutual
   pub expression_adds : (tree : PlainTree) (r : Reading) → Adds r.found (read_expression tree r).found
   expression_adds (leaf token) r = leaf_adds (is_name token) token r
   expression_adds (node k.Selection (more whole (more (leaf sign) (more (leaf name) none)))) r =
-      adds_both (expression_adds whole r) (record { others = record { number = (passed (read_expression whole r)).next; token = name; binding = member_use (λ tag. look_up (members_of tag) name.text (read_expression whole r).file) } ∷ []; is = refl })
+      adds_both (expression_adds whole r) (record { others = record { number = (passed (read_expression whole r)).next; token = name; binding = member_use (λ tag. look_up (members_of tag) name.text (read_expression whole r).file); uses_file_name = false } ∷ []; is = refl })
   expression_adds (node kind parts) r = expressions_add parts r
 
   pub expressions_add : (trees : PlainTrees) (r : Reading) → Adds r.found (read_expressions trees r).found
@@ -116,6 +117,24 @@ first_known none h some = absurd (false≢true some)
 first_known (more (leaf token) rest) h some = refl
 first_known (more (node kind parts) rest) h some = absurd cc
 
+-- ---- what names a use is of
+
+of_file : (inner outer : Option ℕ) (by : ℕ) → inner ≡ None → outer ≡ Some by → (not (is_some inner) && is_some outer) ≡ true
+of_file inner outer by e f = ap (λ (o : Option ℕ). not (is_some o) && is_some outer) e ∙ ap (λ (o : Option ℕ). is_some o) f
+
+pub file_used :
+    (token : PlainToken) (r : Reading) (by : ℕ) → look_up ordinary token.text r.blocks ≡ None → look_up ordinary token.text r.file ≡ Some by
+    → used_alike (is_of_file token.text r) token.text (record { entity = file_entity token.text; in_expression = true }) ≡ true
+file_used token r by inner outer =
+    ap (λ (b : Bool). used_alike b token.text (record { entity = file_entity token.text; in_expression = true })) (of_file (look_up ordinary token.text r.blocks) (look_up ordinary token.text r.file) by inner outer)
+    ∙ (bytes_decides token.text token.text).1 refl
+
+pub block_used :
+    (token : PlainToken) (r : Reading) (slot by : ℕ) → look_up ordinary token.text r.blocks ≡ Some by
+    → used_alike (is_of_file token.text r) token.text (record { entity = local_entity slot; in_expression = true }) ≡ true
+block_used token r slot by inner =
+    ap (λ (o : Option ℕ). used_alike (not (is_some o) && is_some (look_up ordinary token.text r.file)) token.text (record { entity = local_entity slot; in_expression = true })) inner
+
 module _ (at : ℕ → Entity) (taken : Room) (scope : Scope) where
   abbrev pub Rel : Reading → List Identified → Type 0
   Rel r h = Related at taken scope r.file r.blocks h
@@ -154,12 +173,13 @@ module _ (at : ℕ → Entity) (taken : Room) (scope : Scope) where
   -- ---- names
 
   pub use_of :
-      (r : Reading) (h : List Identified) (token : PlainToken) (entity : Entity) (by : Identified) → is_plain entity ≡ true → visible_name token.text r ≡ Some by.number
+      (r : Reading) (h : List Identified) (token : PlainToken) (entity : Entity) (by : Identified) → is_plain entity ≡ true
+      → used_alike (is_of_file token.text r) token.text (record { entity = entity; in_expression = true }) ≡ true → visible_name token.text r ≡ Some by.number
       → first_with (numbering at entity) h ≡ Some by → Rel r h → Goal Anything h r.found (used token r) (uses entity)
-  use_of r h token entity by plain visible first rel =
-      let o : Occurrence = record { number = r.next; token = token; binding = binding_found (visible_name token.text r) } in
-      one_occurrence (numbering at) h r.found o (record { entity = entity; in_expression = true }) (λ g. Unit {0} × Rel (used token r) g) plain
-      (bound_first h r.next token (binding_found (visible_name token.text r)) (numbering at entity) by (ap binding_found visible) first) (
+  use_of r h token entity by plain alike visible first rel =
+      let o : Occurrence = record { number = r.next; token = token; binding = binding_found (visible_name token.text r); uses_file_name = is_of_file token.text r } in
+      one_occurrence (numbering at) h r.found o (record { entity = entity; in_expression = true }) (λ g. Unit {0} × Rel (used token r) g) plain alike
+      (bound_first h r.next token (binding_found (visible_name token.text r)) (is_of_file token.text r) (numbering at entity) by (ap binding_found visible) first) (
         tt,
         related_same at taken scope r.file r.blocks h (h ++ identified o (renamed_one (numbering at) (record { entity = entity; in_expression = true })) ∷ [])
             (first_again h (identified o (renamed_one (numbering at) (record { entity = entity; in_expression = true }))) by first) rel,
@@ -169,7 +189,7 @@ module _ (at : ℕ → Entity) (taken : Room) (scope : Scope) where
       (r : Reading) (h : List Identified) (token : PlainToken) → Rel r h → local_in scope.blocks token.text ≡ None → (n : Option FileName)
       → scope.file_names token.text ≡ n → Goal Operands h r.found (used token r) (file_name_operand scope token n)
   file_name_read r h token rel hidden None e =
-      one_undeclared token r.found r.next (binding_found (visible_name token.text r))
+      one_undeclared token r.found r.next (binding_found (visible_name token.text r)) (is_of_file token.text r)
       (ap binding_found (or_else_none (look_up ordinary token.text r.blocks) (look_up ordinary token.text r.file) (rel.no_local token.text hidden) ∙ rel.no_name token.text e))
   file_name_read r h token rel hidden (Some n) e = by n.sort (rel.names token.text n e).made
     where
@@ -177,22 +197,23 @@ module _ (at : ℕ → Entity) (taken : Room) (scope : Scope) where
       by (variable ty) made =
           let f = (rel.names token.text n e).found in
           then_quietly Anything Operands h r.found (used token r) (uses (file_entity token.text)) (λ bound. give (of_object token ty (Rattle.core_meaning.specs.Program.global (entity_number scope.numbers.globals token.text)) true))
-          (use_of r h token (file_entity token.text) f.by refl (or_else_none (look_up ordinary token.text r.blocks) (look_up ordinary token.text r.file) (rel.no_local token.text hidden) ∙ f.entry) f.first rel)
+          (use_of r h token (file_entity token.text) f.by refl (file_used token r f.by.number (rel.no_local token.text hidden) f.entry) (or_else_none (look_up ordinary token.text r.blocks) (look_up ordinary token.text r.file) (rel.no_local token.text hidden) ∙ f.entry) f.first rel)
           (λ x a. yields Operands (of_object token ty (Rattle.core_meaning.specs.Program.global (entity_number scope.numbers.globals token.text)) true) made)
       by (function signature) made = tt
 
   -- a parameter of a declaration that defines no function
   dead_use :
-      (r : Reading) (h : List Identified) (token : PlainToken) (slot by : ℕ) → visible_name token.text r ≡ Some by → taken.alive ≡ false → Rel r h
+      (r : Reading) (h : List Identified) (token : PlainToken) (slot by : ℕ) → look_up ordinary token.text r.blocks ≡ Some by → visible_name token.text r ≡ Some by → taken.alive ≡ false → Rel r h
       → Goal Anything h r.found (used token r) (uses (local_entity slot))
-  dead_use r h token slot by visible dead rel =
-      let o : Occurrence = record { number = r.next; token = token; binding = binding_found (visible_name token.text r) } in
+  dead_use r h token slot by inner visible dead rel =
+      let o : Occurrence = record { number = r.next; token = token; binding = binding_found (visible_name token.text r); uses_file_name = is_of_file token.text r } in
       let i : Identified = record { number = r.next; token = token; entity = at slot } in
       let is : at slot ≡ local_entity slot = rel.dead dead slot in
       record {
         os = o ∷ [];
         is = refl;
         plain = refl;
+        used = and_from (used_alike (is_of_file token.text r) token.text (record { entity = local_entity slot; in_expression = true })) true (block_used token r slot by inner) refl;
         alike = (subst (λ e. Rattle.bindings.specs.Judged.IsAlike h o e) (sym is) (subst (λ (b : Binding). elim b as (λ x. Type 0) [ bound_to n ↦ Unit {0} | undeclared ↦ ⊥ | member_use w ↦ Unit {0} ]) (sym (ap binding_found visible)) tt), tt);
         after = (
           tt,
@@ -219,8 +240,8 @@ module _ (at : ℕ → Entity) (taken : Room) (scope : Scope) where
       (λ x a. yields Operands (of_object token l.ty (Rattle.core_meaning.specs.Program.slot l.slot) true) f.made)
     where
       by : (f : LocalFound at taken.alive scope.tags r.blocks h token.text l) → visible_name token.text r ≡ Some f.by → (b : Bool) → taken.alive ≡ b → Goal Anything h r.found (used token r) (uses (local_entity l.slot))
-      by f visible true alive = let i = f.first alive in use_of r h token (local_entity l.slot) i.by refl (visible ∙ ap Some (sym i.is)) i.first rel
-      by f visible false dead = dead_use r h token l.slot f.by visible dead rel
+      by f visible true alive = let i = f.first alive in use_of r h token (local_entity l.slot) i.by refl (block_used token r l.slot f.by f.entry) (visible ∙ ap Some (sym i.is)) i.first rel
+      by f visible false dead = dead_use r h token l.slot f.by f.entry visible dead rel
 
   one_byte : (o : Option (List ℕ)) (byte : ℕ) → o ≡ Some (byte ∷ []) → is_some (character_value o) ≡ true
   one_byte o byte e = ap (λ x. is_some (character_value x)) e
@@ -253,15 +274,15 @@ module _ (at : ℕ → Entity) (taken : Room) (scope : Scope) where
   -- ---- members
 
   pub member_used_adds : (name : PlainToken) (r : Reading) → Adds r.found (member_used name r).found
-  member_used_adds name r = record { others = record { number = r.next; token = name; binding = member_use (λ tag. look_up (members_of tag) name.text r.file) } ∷ []; is = refl }
+  member_used_adds name r = record { others = record { number = r.next; token = name; binding = member_use (λ tag. look_up (members_of tag) name.text r.file); uses_file_name = false } ∷ []; is = refl }
 
   use_of_member :
       (r : Reading) (h : List Identified) (name : PlainToken) (number n : ℕ) (tag : List ℕ) (f : TagFound taken.members scope.tags scope.structs r.file h tag number)
       → f.struct.numbers name.text ≡ Some n → Rel r h → Goal Anything h r.found (member_used name r) (uses (member_entity number n))
   use_of_member r h name number n tag f e rel =
-      let o : Occurrence = record { number = r.next; token = name; binding = member_use (λ tag. look_up (members_of tag) name.text r.file) } in
+      let o : Occurrence = record { number = r.next; token = name; binding = member_use (λ tag. look_up (members_of tag) name.text r.file); uses_file_name = false } in
       let m = f.members name.text n e in
-      one_occurrence (numbering at) h r.found o (record { entity = member_entity number n; in_expression = true }) (λ g. Unit {0} × Rel (member_used name r) g) refl
+      one_occurrence (numbering at) h r.found o (record { entity = member_entity number n; in_expression = true }) (λ g. Unit {0} × Rel (member_used name r) g) refl refl
       (record { tag = f.found.by; member = m.found.by; declares_struct = f.found.first; declares_member = m.found.first; bound = ap (λ x. look_up (members_of x) name.text r.file) f.spelt ∙ m.found.entry }) (
         tt,
         related_same at taken scope r.file r.blocks h (h ++ identified o (renamed_one (numbering at) (record { entity = member_entity number n; in_expression = true })) ∷ [])

@@ -79,11 +79,11 @@ module _ (at : ℕ → Entity) (slots_are : IsSlots at) (alive : Bool) (scope : 
   name_declared name s h rel (Some n) e =
       let f = rel.names name.text n e in
       subst (λ by. Follows (numbering at) h s.found (occurs name (bound_to by) s).found (λ x g. NameKnown at alive scope name.text by s.file s.blocks g) (declares (file_entity name.text))) (sym (ap (λ x. first_or x s.next) f.found.entry))
-      (let o : Occurrence = record { number = s.next; token = name; binding = bound_to f.found.by.number } in
+      (let o : Occurrence = record { number = s.next; token = name; binding = bound_to f.found.by.number; uses_file_name = false } in
       let j : JudgedBinding = record { entity = file_entity name.text; in_expression = false } in
       let i : Identified = identified o (renamed_one (numbering at) j) in
-      one_occurrence (numbering at) h s.found o j (λ g. NameKnown at alive scope name.text f.found.by.number s.file s.blocks g) refl
-      (bound_first h s.next name (bound_to f.found.by.number) (file_entity name.text) f.found.by refl f.found.first)
+      one_occurrence (numbering at) h s.found o j (λ g. NameKnown at alive scope name.text f.found.by.number s.file s.blocks g) refl refl
+      (bound_first h s.next name (bound_to f.found.by.number) false (file_entity name.text) f.found.by refl f.found.first)
       (record {
         i = f.found.by;
         first = first_kept (file_entity name.text) h i f.found.by f.found.first;
@@ -92,11 +92,11 @@ module _ (at : ℕ → Entity) (slots_are : IsSlots at) (alive : Bool) (scope : 
       }))
   name_declared name s h rel None e =
       subst (λ by. Follows (numbering at) h s.found (occurs name (bound_to by) s).found (λ x g. NameKnown at alive scope name.text by s.file s.blocks g) (declares (file_entity name.text))) (sym (ap (λ x. first_or x s.next) (rel.no_name name.text e)))
-      (let o : Occurrence = record { number = s.next; token = name; binding = bound_to s.next } in
+      (let o : Occurrence = record { number = s.next; token = name; binding = bound_to s.next; uses_file_name = false } in
       let j : JudgedBinding = record { entity = file_entity name.text; in_expression = false } in
       let i : Identified = identified o (renamed_one (numbering at) j) in
       let none_before : first_with (file_entity name.text) h ≡ None = rel.no_first name.text e refl in
-      one_occurrence (numbering at) h s.found o j (λ g. NameKnown at alive scope name.text s.next s.file s.blocks g) refl
+      one_occurrence (numbering at) h s.found o j (λ g. NameKnown at alive scope name.text s.next s.file s.blocks g) refl refl
       (sym (ap (λ f. number_or f s.next) none_before))
       (record {
         i = i;

@@ -54,7 +54,7 @@ count_object : (unit : UnitState) (name : List ℕ) (body : Body) → is_functio
 count_object unit name body e = count_more unit.defined name body ∙ ap (λ b. count_functions unit.defined + (if b then 1 else 0)) e ∙ (let n : count_functions unit.defined + 0 ≡ count_functions unit.defined = omega arith in n)
 
 pub unit_given : (unit x : UnitState) (r : Reading) (h : List Identified) → UnitThen unit r.file r.blocks x h → Follows (numbering local_entity) h r.found r.found (UnitThen unit r.file r.blocks) (give x)
-unit_given unit x r h v = record { os = []; is = sym (append-nil r.found); alike = tt; plain = refl; after = v }
+unit_given unit x r h v = record { os = []; is = sym (append-nil r.found); alike = tt; plain = refl; used = refl; after = v }
 
 global_quiet : (storage : Storage) (initialised : Bool) (scope : Scope) (ty : PlainType) (name : PlainToken) (rest : PlainTrees) → Yields Anything (judged_global storage initialised scope ty name rest)
 global_quiet storage initialised scope ty name rest =

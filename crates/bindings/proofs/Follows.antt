@@ -1,13 +1,15 @@
 -- Judgements and readings side by side.
-use Rattle.std.proofs.Common.{◌≡◌, Bool, true, false, List, [], ◌∷◌, ◌++◌, refl, sym, ap, subst, ◌∙◌}
-use Rattle.std.specs.Prelude.{map, ◌&&◌, if◌then◌else◌}
+use Rattle.std.proofs.Common.{◌≡◌, ℕ, Bool, true, false, List, [], ◌∷◌, ◌++◌, refl, sym, ap, subst, ◌∙◌}
+use Rattle.std.specs.Prelude.{map, not, ◌&&◌, if◌then◌else◌}
+use Rattle.std.proofs.lemmas.Bool.{and_parts, and_from, false≢true}
 use Rattle.std.proofs.lemmas.List.{append_assoc, append-nil, map-append}
 use Rattle.c_text.specs.Token.{PlainToken}
 use Rattle.core_meaning.specs.declared.refusals.TypeKind.{TypeKind}
 use Rattle.core_meaning.specs.declared.refusals.TypeKind.TheVariants.{Undeclared, Redeclared, BadOperand, NotAssignable, Incomplete, ArgumentCount, NoMember, BadConstant, Misplaced}
 use Rattle.core_meaning.specs.Checking.{Entity, Binding as JudgedBinding, Checked, fine, refused, broken, with_bindings, ◌>>=◌, give, unless_so, found_or, or_broken}
 use Rattle.bindings.specs.Visible.{Occurrence}
-use Rattle.bindings.specs.Judged.{Identified, AreAlike, IsFirstUndeclared}
+use Rattle.core_meaning.specs.Linking.{is_use_of}
+use Rattle.bindings.specs.Judged.{Identified, AreAlike, is_file_entity, IsFirstUndeclared}
 use Rattle.bindings.proofs.Histories.{recorded, alike_append, recorded_append, unbound_append, unbound_behind, Grows, recorded_grows}
 
 -- ---- what is found only grows
@@ -48,14 +50,35 @@ all_plain (j ∷ js) = is_plain j.entity && all_plain js
 plain_both : (js ks : List JudgedBinding) → all_plain js ≡ true → all_plain ks ≡ true → all_plain (js ++ ks) ≡ true
 plain_both [] ks f g = g
 plain_both (j ∷ js) ks f g =
-    let both = Rattle.std.proofs.lemmas.Bool.and_parts (is_plain j.entity) (all_plain js) f in
-    Rattle.std.proofs.lemmas.Bool.and_from (is_plain j.entity) (all_plain (js ++ ks)) both.0 (plain_both js ks both.1 g)
+    let both = and_parts (is_plain j.entity) (all_plain js) f in
+    and_from (is_plain j.entity) (all_plain (js ++ ks)) both.0 (plain_both js ks both.1 g)
+
+-- an expression uses a name of file scope by the reading and by the judgement alike
+abbrev pub used_alike : Bool → List ℕ → JudgedBinding → Bool
+used_alike true name j = j.in_expression && is_use_of name j.entity
+used_alike false name j = not (j.in_expression && is_file_entity j.entity)
+
+abbrev pub all_used_alike : List Occurrence → List JudgedBinding → Bool
+all_used_alike [] [] = true
+all_used_alike [] (j ∷ js) = false
+all_used_alike (o ∷ os) [] = false
+all_used_alike (o ∷ os) (j ∷ js) = used_alike o.uses_file_name o.token.text j && all_used_alike os js
+
+pub used_both :
+    (os ps : List Occurrence) (js ks : List JudgedBinding) → all_used_alike os js ≡ true → all_used_alike ps ks ≡ true → all_used_alike (os ++ ps) (js ++ ks) ≡ true
+used_both [] ps [] ks f g = g
+used_both [] ps (j ∷ js) ks f g = absurd (false≢true f)
+used_both (o ∷ os) ps [] ks f g = absurd (false≢true f)
+used_both (o ∷ os) ps (j ∷ js) ks f g =
+    let both = and_parts (used_alike o.uses_file_name o.token.text j) (all_used_alike os js) f in
+    and_from (used_alike o.uses_file_name o.token.text j) (all_used_alike (os ++ ps) (js ++ ks)) both.0 (used_both os ps js ks both.1 g)
 
 pub record Fine (names : Renaming) (before : List Identified) (found further : List Occurrence) (js : List JudgedBinding) (W : List Identified → Type 0) : Type 0 where
   pub os : List Occurrence
   pub is : further ≡ found ++ os
   pub alike : AreAlike before os (renamed names js)
   pub plain : all_plain js ≡ true
+  pub used : all_used_alike os js ≡ true
   pub after : W (recorded before os (renamed names js))
 
 pub record Unbound (found further : List Occurrence) (token : PlainToken) : Type 0 where
@@ -110,6 +133,7 @@ fine_then names before a b c js V W (fine y ks) f g =
       is = g.is ∙ ap (λ l. l ++ g.os) f.is ∙ append_assoc a f.os g.os;
       alike = subst (AreAlike before (f.os ++ g.os)) (sym all) (alike_append before f.os g.os (renamed names js) (renamed names ks) f.alike g.alike);
       plain = plain_both js ks f.plain g.plain;
+      used = used_both f.os g.os js ks f.used g.used;
       after = subst (W y) (sym (ap (recorded before (f.os ++ g.os)) all ∙ recorded_append before f.os g.os (renamed names js) (renamed names ks) f.alike)) g.after;
     }
 fine_then names before a b c js V W (refused kind token) f g = if_undeclared kind (λ u. unbound_later names before a b c js V token f u) g
@@ -128,7 +152,7 @@ follows_both names before a b c V W broken next f g adds = f
 pub follows_as :
     {A : Type 0} (names : Renaming) (before : List Identified) (a b : List Occurrence) (V W : A → List Identified → Type 0) (c : Checked A)
     → Follows names before a b V c → ((x : A) (after : List Identified) → V x after → W x after) → Follows names before a b W c
-follows_as names before a b V W (fine x js) f g = record { os = f.os; is = f.is; alike = f.alike; plain = f.plain; after = g x (recorded before f.os (renamed names js)) f.after }
+follows_as names before a b V W (fine x js) f g = record { os = f.os; is = f.is; alike = f.alike; plain = f.plain; used = f.used; after = g x (recorded before f.os (renamed names js)) f.after }
 follows_as names before a b V W (refused kind token) f g = f
 follows_as names before a b V W broken f g = f
 
@@ -170,7 +194,7 @@ yields_if Q false c d f g = g refl
 pub quietly_follows :
     {A : Type 0} (names : Renaming) (before : List Identified) (found : List Occurrence) (Q : A → Type 0) (V : A → List Identified → Type 0) (c : Checked A)
     → Yields Q c → ((x : A) → Q x → V x before) → Follows names before found found V c
-quietly_follows names before found Q V (fine x js) h g = subst (λ l. Fine names before found found l (V x)) (sym h.none) (record { os = []; is = sym (append-nil found); alike = tt; plain = refl; after = g x h.value })
+quietly_follows names before found Q V (fine x js) h g = subst (λ l. Fine names before found found l (V x)) (sym h.none) (record { os = []; is = sym (append-nil found); alike = tt; plain = refl; used = refl; after = g x h.value })
 quietly_follows names before found Q V (refused kind token) h g = if_undeclared kind absurd h
 quietly_follows names before found Q V broken h g = absurd h
 
@@ -201,6 +225,6 @@ pub follows_as_growing :
     {A : Type 0} (names : Renaming) (before : List Identified) (a b : List Occurrence) (V W : A → List Identified → Type 0) (c : Checked A)
     → Follows names before a b V c → ((x : A) (after : List Identified) → V x after → Grows before after → W x after) → Follows names before a b W c
 follows_as_growing names before a b V W (fine x js) f g =
-    record { os = f.os; is = f.is; alike = f.alike; plain = f.plain; after = g x (recorded before f.os (renamed names js)) f.after (recorded_grows before f.os (renamed names js)) }
+    record { os = f.os; is = f.is; alike = f.alike; plain = f.plain; used = f.used; after = g x (recorded before f.os (renamed names js)) f.after (recorded_grows before f.os (renamed names js)) }
 follows_as_growing names before a b V W (refused kind token) f g = f
 follows_as_growing names before a b V W broken f g = f

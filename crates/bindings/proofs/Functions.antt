@@ -120,7 +120,7 @@ body_read n (made_of k.Block b a (a_row (a_word {token = open_} w (given {tree =
 body_read n (made_of k.Block b a (a_row (a_word {token = open_} w (left_out (a_word {token = close} v at_end))))) holds = λ scope result slots r h rel.
     skip open_ r (no_name (t.OpenBrace ∷ []) open_ refl w) (λ s. Follows (numbering (local_of_function n)) h r.found (read_leaf close s).found (BodyThen n scope (read_leaf close s).file) (give (items_as slots no_item)))
     (skip close (passed r) (no_name (t.CloseBrace ∷ []) close refl v) (λ s. Follows (numbering (local_of_function n)) h r.found s.found (BodyThen n scope s.file) (give (items_as slots no_item)))
-    (record { os = []; is = sym (append-nil r.found); alike = tt; plain = refl; after = record { tables_ = scope.blocks; inner = r.blocks; rel = rel } }))
+    (record { os = []; is = sym (append-nil r.found); alike = tt; plain = refl; used = refl; after = record { tables_ = scope.blocks; inner = r.blocks; rel = rel } }))
 body_read n (made_of _ b a s) holds = absurd cc
 
 -- ---- the definition
@@ -199,6 +199,7 @@ function_defined unit storage ty parts n {body = body} d holds body_holds made r
       is = sym (append-nil last.found);
       alike = tt;
       plain = refl;
+      used = refl;
       after = record {
         rel = leave_function number (length items.slots) scope unit.scope v.tables_ r.file last.file r.blocks v.inner h g3 file_rel outside (nt.outside ∙ outside) v.rel;
         outside = nt.outside ∙ outside;

@@ -1,19 +1,20 @@
 -- Items of units, one after the other.
-use Rattle.std.proofs.Common.{◌≡◌, ℕ, ◌+◌, ◌≤◌, ◌<◌, true, false, List, [], ◌∷◌, ◌++◌, map, refl, sym, ap, subst, ◌∙◌, arith}
+use Rattle.std.proofs.Common.{◌≡◌, ℕ, ◌+◌, ◌≤◌, ◌<◌, Bool, true, false, List, [], ◌∷◌, ◌++◌, map, refl, sym, ap, subst, ◌∙◌, arith}
 use Rattle.std.specs.Prelude.{None, ◌==◌}
-use Rattle.std.proofs.lemmas.Bool.{false≢true, and_parts, and_left, ne_eqb}
+use Rattle.std.proofs.lemmas.Bool.{false≢true, and_parts, and_from, and_left, ne_eqb}
 use Rattle.std.proofs.lemmas.List.{append_assoc}
 use Rattle.core_meaning.specs.Checking.{Entity, local_entity, local_of_function, file_entity, struct_entity, member_entity, own_entity, Binding as JudgedBinding, Checked, fine, refused, broken, with_bindings, ◌>>=◌, in_function, numbered, numbered_binding}
 use Rattle.bindings.specs.Visible.{Occurrence}
 use Rattle.bindings.specs.Judged.{same_entity, Identified, first_with, identified, AreAlike}
 use Rattle.bindings.proofs.Histories.{recorded, alike_append, recorded_append, unbound_behind, first_other}
-use Rattle.bindings.proofs.Follows.{Adds, Unbound, unbound_further, IfUndeclared, if_undeclared, is_plain, all_plain, renamed, Follows}
+use Rattle.bindings.proofs.Follows.{Adds, Unbound, unbound_further, IfUndeclared, if_undeclared, is_plain, all_plain, used_alike, all_used_alike, used_both, renamed, Follows}
 use Rattle.bindings.proofs.Related.{numbering}
 
 pub record Bound (before : List Identified) (found further : List Occurrence) (js : List JudgedBinding) (W : List Identified → Type 0) : Type 0 where
   pub os : List Occurrence
   pub is : further ≡ found ++ os
   pub alike : AreAlike before os js
+  pub used : all_used_alike os js ≡ true
   pub after : W (recorded before os js)
 
 abbrev pub Binds : {A : Type 0} → List Identified → List Occurrence → List Occurrence → (A → List Identified → Type 0) → Checked A → Type 0
@@ -28,6 +29,7 @@ bound_then before a b c js V W (fine y ks) f g = record {
   os = f.os ++ g.os;
   is = g.is ∙ ap (λ l. l ++ g.os) f.is ∙ append_assoc a f.os g.os;
   alike = alike_append before f.os g.os js ks f.alike g.alike;
+  used = used_both f.os g.os js ks f.used g.used;
   after = subst (W y) (sym (recorded_append before f.os g.os js ks f.alike)) g.after;
 }
 bound_then before a b c js V W (refused kind token) f g = if_undeclared kind (λ (u : Unbound b c token). (let v : Unbound a c token = record {
@@ -102,13 +104,27 @@ renamed_numbered n (j ∷ js) plain =
     ap (λ e. record j { entity = e } ∷ renamed (numbering (local_of_function n)) js) (numbered_same n j.entity both.0)
     ∙ ap (λ l. numbered_binding n j ∷ l) (renamed_numbered n js both.1)
 
+numbered_alike : (n : ℕ) (uses : Bool) (name : List ℕ) (e : Entity) (b : Bool) → used_alike uses name (record { entity = e; in_expression = b }) ≡ true → used_alike uses name (record { entity = numbered n e; in_expression = b }) ≡ true
+numbered_alike n true name (local_entity slot) b h = h
+numbered_alike n false name (local_entity slot) b h = h
+numbered_alike n uses name _ b h = h
+
+numbered_used : (n : ℕ) (os : List Occurrence) (js : List JudgedBinding) → all_used_alike os js ≡ true → all_used_alike os (map (numbered_binding n) js) ≡ true
+numbered_used n [] [] h = h
+numbered_used n [] (j ∷ js) h = h
+numbered_used n (o ∷ os) [] h = h
+numbered_used n (o ∷ os) (j ∷ js) h =
+    let both = and_parts (used_alike o.uses_file_name o.token.text j) (all_used_alike os js) h in
+    and_from (used_alike o.uses_file_name o.token.text (numbered_binding n j)) (all_used_alike os (map (numbered_binding n) js))
+    (numbered_alike n o.uses_file_name o.token.text j.entity j.in_expression both.0) (numbered_used n os js both.1)
+
 pub binds_plain :
     {A : Type 0} (n : ℕ) (before : List Identified) (a b : List Occurrence) (V W : A → List Identified → Type 0) (c : Checked A) → Fresh n before → Follows (numbering local_entity) before a b V c
     → ((x : A) (g : List Identified) → V x g → Fresh n g → W x g) → Binds before a b W c
 binds_plain n before a b V W (fine x js) fresh f g =
     let same_ = renamed_same js in
     let after : V x (recorded before f.os js) = subst (λ l. V x (recorded before f.os l)) same_ f.after in
-    record { os = f.os; is = f.is; alike = subst (AreAlike before f.os) same_ f.alike; after = g x (recorded before f.os js) after (fresh_kept n before f.os js f.plain fresh) }
+    record { os = f.os; is = f.is; alike = subst (AreAlike before f.os) same_ f.alike; used = f.used; after = g x (recorded before f.os js) after (fresh_kept n before f.os js f.plain fresh) }
 binds_plain n before a b V W (refused kind token) fresh f g = f
 binds_plain n before a b V W broken fresh f g = f
 
@@ -122,6 +138,7 @@ binds_function n before a b V W (fine x js) fresh f g =
       os = f.os;
       is = f.is;
       alike = subst (AreAlike before f.os) same_ f.alike;
+      used = numbered_used n f.os js f.used;
       after = g x (recorded before f.os (map (numbered_binding n) js)) after (fresh_behind n before f.os js f.plain (λ m s far. fresh m s (omega (arith, far))));
     }
 binds_function n before a b V W (refused kind token) fresh f g = f

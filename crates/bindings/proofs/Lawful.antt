@@ -1,19 +1,25 @@
 -- The laws on judged units.
-use Rattle.std.proofs.Common.{◌≡◌, ℕ, ◌+◌, false, List, [], ◌∷◌, ◌++◌, refl, sym, subst, length, IsTrue}
+use Rattle.std.proofs.Common.{◌≡◌, ℕ, ◌+◌, Bool, true, false, List, [], ◌∷◌, ◌++◌, refl, sym, ap, subst, ◌∙◌, length, IsTrue}
+use Rattle.std.specs.Prelude.{not, ◌&&◌, ◌||◌}
+use Rattle.std.specs.List.{AllZip}
+use Rattle.std.specs.Str.{bytes_eq}
+use Rattle.std.specs.Cmp.Lexicographic.{bytes_decides}
+use Rattle.std.proofs.lemmas.Bool.{false≢true, and_parts, and_from}
 use Rattle.c_text.specs.Token.{PlainToken}
 use Rattle.c_tree.specs.declared.kinds.Kind.TheVariants as k
 use Rattle.c_tree.specs.Trees.{PlainTree, leaf, node}
 use Rattle.core_meaning.specs.declared.refusals.TypeKind.TheVariants.{Undeclared}
-use Rattle.core_meaning.specs.Checking.{Binding as JudgedBinding, Checked, fine, refused, broken, with_bindings, ◌>>=◌, give}
+use Rattle.core_meaning.specs.Checking.{Entity, file_entity, Binding as JudgedBinding, Checked, fine, refused, broken, with_bindings, ◌>>=◌, give}
 use Rattle.core_meaning.specs.Entities.{Struct, Numbers}
 use Rattle.core_meaning.specs.UnitNames.{UnitState, judged_unit}
-use Rattle.core_meaning.specs.Linking.{Units, closed, judged_units, no_numbers, numbers_in, literals_of, listed}
+use Rattle.core_meaning.specs.Linking.{is_use_of, uses_in, Units, closed, judged_units, no_numbers, numbers_in, literals_of, listed}
 use Rattle.tree_derivations.specs.Derivations.{UnitsAreDerived}
-use Rattle.bindings.specs.Visible.{Binding, bound_to, undeclared, member_use, Occurrence}
+use Rattle.bindings.specs.Visible.{Binding, bound_to, undeclared, member_use, Occurrence, uses_among}
 use Rattle.bindings.specs.Bindings.{bindings_of}
-use Rattle.bindings.specs.Judged.{Identified, identified, AreAlike, IsFirstUndeclared, AreDeclared}
+use Rattle.bindings.specs.Judged.{Identified, identified, AreAlike, is_file_entity, IsUsedAlike, IsFirstUndeclared, AreDeclared}
 use Rattle.bindings.proofs.Histories.{is_declared}
-use Rattle.bindings.specs.Laws.{IsWritten, AreWritten, JudgementsBindAlike, UndeclaredIsFirst, DeclaredIsUnrefused, UnitsAreJudged, ProgramsAreJudged}
+use Rattle.bindings.specs.Laws.{IsWritten, AreWritten, JudgementsBindAlike, FileNamesAreUsedAlike, UndeclaredIsFirst, DeclaredIsUnrefused, UnitsAreJudged, ProgramsAreJudged}
+use Rattle.bindings.proofs.Follows.{used_alike, all_used_alike}
 use Rattle.bindings.proofs.Items.{Bound, Binds}
 use Rattle.bindings.proofs.Pieces.{holds_of}
 use Rattle.bindings.proofs.Units.{Nothing, unit_read}
@@ -27,6 +33,61 @@ pub judgements_bind_alike : UnitsAreDerived → JudgementsBindAlike
 judgements_bind_alike derived tree w globals structs numbers unit js e =
     let b : Bound [] [] (bindings_of tree) js (Nothing unit) = subst (Binds [] [] (bindings_of tree) Nothing) e (written_read derived tree w globals structs numbers) in
     subst (λ os. AreAlike [] os js) (sym b.is) b.alike
+
+-- ---- names of file scope that are used
+
+use_named : (name : List ℕ) (e : Entity) → is_use_of name e ≡ true → e ≡ file_entity name
+use_named name (file_entity other) h = ap file_entity ((bytes_decides other name).0 h)
+use_named name _ h = absurd (false≢true h)
+
+use_is_file : (name : List ℕ) (e : Entity) → is_use_of name e ≡ true → is_file_entity e ≡ true
+use_is_file name (file_entity other) h = refl
+use_is_file name _ h = absurd (false≢true h)
+
+one_alike : (uses : Bool) (o : Occurrence) (j : JudgedBinding) → o.uses_file_name ≡ uses → used_alike uses o.token.text j ≡ true → IsUsedAlike o j
+one_alike true o j e h =
+    let both = and_parts j.in_expression (is_use_of o.token.text j.entity) h in
+    record { same = e ∙ sym (and_from j.in_expression (is_file_entity j.entity) both.0 (use_is_file o.token.text j.entity both.1)); named = λ used. use_named o.token.text j.entity both.1 }
+one_alike false o j e h = record { same = e ∙ sym (not_true (j.in_expression && is_file_entity j.entity) h); named = λ used. absurd (false≢true (sym e ∙ used)) }
+  where
+    not_true : (b : Bool) → not b ≡ true → b ≡ false
+    not_true true h = absurd (false≢true h)
+    not_true false h = refl
+
+all_alike : (os : List Occurrence) (js : List JudgedBinding) → all_used_alike os js ≡ true → AllZip IsUsedAlike os js
+all_alike [] [] h = tt
+all_alike [] (j ∷ js) h = absurd (false≢true h)
+all_alike (o ∷ os) [] h = absurd (false≢true h)
+all_alike (o ∷ os) (j ∷ js) h =
+    let both = and_parts (used_alike o.uses_file_name o.token.text j) (all_used_alike os js) h in
+    (one_alike o.uses_file_name o j refl both.0, all_alike os js both.1)
+
+same_use : (uses : Bool) (own name : List ℕ) (b : Bool) (e : Entity) → used_alike uses own (record { entity = e; in_expression = b }) ≡ true → (b && is_use_of name e) ≡ (uses && bytes_eq own name)
+same_use true own name true e h = ap (is_use_of name) (use_named own e h)
+same_use true own name false e h = absurd (false≢true h)
+same_use false own name false e h = refl
+same_use false own name true (file_entity other) h = absurd (false≢true h)
+same_use false own name true _ h = refl
+
+same_uses : (name : List ℕ) (os : List Occurrence) (js : List JudgedBinding) → all_used_alike os js ≡ true → uses_in js name ≡ uses_among os name
+same_uses name [] [] h = refl
+same_uses name [] (j ∷ js) h = absurd (false≢true h)
+same_uses name (o ∷ os) [] h = absurd (false≢true h)
+same_uses name (o ∷ os) (j ∷ js) h =
+    let both = and_parts (used_alike o.uses_file_name o.token.text j) (all_used_alike os js) h in
+    ap (λ (b : Bool). b || uses_in js name) (same_use o.uses_file_name o.token.text name j.in_expression j.entity both.0)
+    ∙ ap (λ (b : Bool). (o.uses_file_name && bytes_eq o.token.text name) || b) (same_uses name os js both.1)
+
+bound_used : UnitsAreDerived → (tree : PlainTree) → IsWritten tree → (globals : ℕ) (structs : List Struct) (numbers : Numbers) (unit : UnitState) (js : List JudgedBinding) → judged_unit globals structs numbers tree ≡ fine unit js → all_used_alike (bindings_of tree) js ≡ true
+bound_used derived tree w globals structs numbers unit js e =
+    let b : Bound [] [] (bindings_of tree) js (Nothing unit) = subst (Binds [] [] (bindings_of tree) Nothing) e (written_read derived tree w globals structs numbers) in
+    subst (λ os. all_used_alike os js ≡ true) (sym b.is) b.used
+
+pub file_names_are_used_alike : UnitsAreDerived → FileNamesAreUsedAlike
+file_names_are_used_alike derived = record {
+  each = λ tree w globals structs numbers unit js e. all_alike (bindings_of tree) js (bound_used derived tree w globals structs numbers unit js e);
+  names = λ tree w globals structs numbers unit js e name. same_uses name (bindings_of tree) js (bound_used derived tree w globals structs numbers unit js e);
+}
 
 pub undeclared_is_first : UnitsAreDerived → UndeclaredIsFirst
 undeclared_is_first derived tree w globals structs numbers at e =

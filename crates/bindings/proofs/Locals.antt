@@ -103,6 +103,7 @@ module _ (at : ℕ → Entity) (slots_are : IsSlots at) where
         is = sym (Rattle.std.proofs.lemmas.List.append-nil (after s).found);
         alike = tt;
         plain = refl;
+        used = refl;
         after = record {
           tables = with_local_in scope.blocks name.text (record { slot = length slots; ty = ty });
           is = refl;
@@ -126,7 +127,7 @@ module _ (at : ℕ → Entity) (slots_are : IsSlots at) where
       let r2 : Reading = leave r1 (read_suffix n.rest r1) in
       let last : Reading = after (with_block_entry name.text s.next r2) in
       let taken : Room = room (length slots + 1) in
-      let o : Occurrence = record { number = s.next; token = name; binding = bound_to s.next } in
+      let o : Occurrence = record { number = s.next; token = name; binding = bound_to s.next; uses_file_name = false } in
       let j : JudgedBinding = record { entity = local_entity (length slots); in_expression = false } in
       let i : Identified = identified o (renamed_one (numbering at) j) in
       let none_before : first_with (at (length slots)) h ≡ None = rel.free refl (length slots) (omega arith) in
@@ -142,7 +143,7 @@ module _ (at : ℕ → Entity) (slots_are : IsSlots at) where
       (yields_unless (is_new_local scope name.text) Redeclared name tt)
       (λ x new. follows_both (numbering at) h s.found r1.found last.found (λ y g. (first_with (at (length slots)) g ≡ Some i) × Rel at taken scope r1 g) (LocalsAfter at scope last)
       (declares (local_entity (length slots))) (λ bound. object_type scope ty kind parts name v >>= rest_of)
-      (one_occurrence (numbering at) h s.found o j (λ g. (first_with (at (length slots)) g ≡ Some i) × Rel at taken scope r1 g) refl
+      (one_occurrence (numbering at) h s.found o j (λ g. (first_with (at (length slots)) g ≡ Some i) × Rel at taken scope r1 g) refl refl
       (sym (ap (λ f. number_or f s.next) none_before)) (
         first_new (at (length slots)) h i none_before (slots_are.itself (length slots)),
         related_grown at (room (length slots)) taken scope s.file s.blocks h i read.still.0 (new_slot at slots_are scope (length slots)),
@@ -240,7 +241,7 @@ module _ (at : ℕ → Entity) (slots_are : IsSlots at) where
       subst (λ x. Follows (numbering at) g s.found u.found (LocalsAfter at scope u) (locals_from x first.slots ty rest >>= (λ others. give (with_items first.items others)))) (sym w.is)
       (follows_both (numbering at) g s.found u.found u.found (LocalsAfter at inner u) (LocalsAfter at scope u) (locals_from inner first.slots ty rest) (λ others. give (with_items first.items others))
       (next inner first.slots g refl w.rel)
-      (λ others g2 w2. record { os = []; is = sym (Rattle.std.proofs.lemmas.List.append-nil u.found); alike = tt; plain = refl; after = record { tables = w2.tables; is = w2.is; rel = w2.rel } })
+      (λ others g2 w2. record { os = []; is = sym (Rattle.std.proofs.lemmas.List.append-nil u.found); alike = tt; plain = refl; used = refl; after = record { tables = w2.tables; is = w2.is; rel = w2.rel } })
       (adds_none u.found)))
       adds
 

@@ -145,7 +145,7 @@ module _ (tag : List ℕ) (number : ℕ) (scope : Scope) where
       let last : Reading = with_file_entry (members_of tag) name.text s.next r2 in
       let start_ = read.still.0 in
       let taken : Room = with_members number (m + 1) in
-      let o : Occurrence = record { number = s.next; token = name; binding = bound_to s.next } in
+      let o : Occurrence = record { number = s.next; token = name; binding = bound_to s.next; uses_file_name = false } in
       let j : JudgedBinding = record { entity = member_entity number m; in_expression = false } in
       let i : Identified = identified o (renamed_one (numbering local_entity) j) in
       let f = start_.rel.tagged tag number start_.here in
@@ -160,7 +160,7 @@ module _ (tag : List ℕ) (number : ℕ) (scope : Scope) where
       (λ x new. follows_both (numbering local_entity) h s.found r1.found last.found
       (λ y g. (first_with (member_entity number m) g ≡ Some i) × Rel local_entity taken scope r1 g × Grows h g) (MembersThen last)
       (declares (member_entity number m)) (λ bound. object_type scope ty kind parts name None >>= rest_of)
-      (one_occurrence (numbering local_entity) h s.found o j (λ g. (first_with (member_entity number m) g ≡ Some i) × Rel local_entity taken scope r1 g × Grows h g) refl
+      (one_occurrence (numbering local_entity) h s.found o j (λ g. (first_with (member_entity number m) g ≡ Some i) × Rel local_entity taken scope r1 g × Grows h g) refl refl
       (sym (ap (λ x. number_or x s.next) none_before)) (
         first_new (member_entity number m) h i none_before (Rattle.std.proofs.lemmas.Bool.and_from (number == number) (m == m) (eq-eqb number number refl) (eq-eqb m m refl)),
         related_grown local_entity (with_members number m) taken scope s.file s.blocks h i start_.rel (new_member scope number m (slice_get_within scope.structs number start_.struct start_.is)),
@@ -177,6 +177,7 @@ module _ (tag : List ℕ) (number : ℕ) (scope : Scope) where
         is = sym (append-nil last.found);
         alike = tt;
         plain = refl;
+        used = refl;
         after = record {
           rel = related_member (with_members number (length (known.members ++ record { name = name.text; ty = whole } ∷ []))) scope r2.file r2.blocks g2 tag name.text s.next number start_.struct
               (subst (λ z. Rel local_entity (with_members number z) scope r2 g2) (sym (length-append known.members (record { name = name.text; ty = whole } ∷ []))) v.1) start_.here start_.is start_.empty;

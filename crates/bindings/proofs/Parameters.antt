@@ -240,11 +240,11 @@ module _ (at : ℕ → Entity) (slots_are : IsSlots at) (base : Room) where
       → Follows (numbering at) h s.found (occurs name (bound_to s.next) s).found (λ x g. (base.alive ≡ true → FirstIs (at n) g s.next) × Rel at (taken (n + 1)) scope (occurs name (bound_to s.next) s) g)
       (declares (parameter_entity defining n))
   name_step true alive scope n name s h rel =
-      let o : Occurrence = record { number = s.next; token = name; binding = bound_to s.next } in
+      let o : Occurrence = record { number = s.next; token = name; binding = bound_to s.next; uses_file_name = false } in
       let j : JudgedBinding = record { entity = local_entity n; in_expression = false } in
       let i : Identified = identified o (renamed_one (numbering at) j) in
       let none_before : first_with (at n) h ≡ None = rel.free alive n (omega arith) in
-      one_occurrence (numbering at) h s.found o j (λ g. (base.alive ≡ true → FirstIs (at n) g s.next) × Rel at (taken (n + 1)) scope (occurs name (bound_to s.next) s) g) refl
+      one_occurrence (numbering at) h s.found o j (λ g. (base.alive ≡ true → FirstIs (at n) g s.next) × Rel at (taken (n + 1)) scope (occurs name (bound_to s.next) s) g) refl refl
       (sym (ap (λ f. number_or f s.next) none_before)) (
         (λ x. record { by = i; is = refl; first = first_new (at n) h i none_before (slots_are.itself n) }),
         related_grown at (taken n) (taken (n + 1)) scope s.file s.blocks h i rel (record {
@@ -257,10 +257,10 @@ module _ (at : ℕ → Entity) (slots_are : IsSlots at) (base : Room) where
         }),
       )
   name_step false dead scope n name s h rel =
-      let o : Occurrence = record { number = s.next; token = name; binding = bound_to s.next } in
+      let o : Occurrence = record { number = s.next; token = name; binding = bound_to s.next; uses_file_name = false } in
       let j : JudgedBinding = record { entity = own_entity; in_expression = false } in
       let i : Identified = identified o (renamed_one (numbering at) j) in
-      one_occurrence (numbering at) h s.found o j (λ g. (base.alive ≡ true → FirstIs (at n) g s.next) × Rel at (taken (n + 1)) scope (occurs name (bound_to s.next) s) g) refl
+      one_occurrence (numbering at) h s.found o j (λ g. (base.alive ≡ true → FirstIs (at n) g s.next) × Rel at (taken (n + 1)) scope (occurs name (bound_to s.next) s) g) refl refl
       (sym (ap (λ f. number_or f s.next) (first_own h))) (
         (λ x. absurd (false≢true (sym dead ∙ x))),
         related_grown at (taken n) (taken (n + 1)) scope s.file s.blocks h i rel (record {
@@ -309,6 +309,7 @@ module _ (at : ℕ → Entity) (slots_are : IsSlots at) (base : Room) where
         is = sym (append-nil last.found);
         alike = tt;
         plain = refl;
+        used = refl;
         after = (w2.0, related_local at (taken (m + 1)) scope r2.file r2.blocks g2 name.text m whole s.next w2.1 (λ yes_. let i = w.0 yes_ in record { by = i.by; is = i.is; first = grows (at m) i.by i.first }) w2.0);
       }))
       (adds_none r2.found))
@@ -339,7 +340,7 @@ module _ (at : ℕ → Entity) (slots_are : IsSlots at) (base : Room) where
       (sizing at (taken m) scope ty first holds made s h rel)
       (λ whole g w. quietly_before (numbering at) g last.found last.found Anything (ParameterAfter scope m last) (judged_parameter defining scope whole first) (λ judged. give (record { name = None; ty = whole }))
       (parameter_quiet defining scope whole first)
-      (λ z any. record { os = []; is = sym (append-nil last.found); alike = tt; plain = refl; after = (w.0, related_more at (taken m) (taken (m + 1)) scope last.file last.blocks g w.1 refl) }))
+      (λ z any. record { os = []; is = sym (append-nil last.found); alike = tt; plain = refl; used = refl; after = (w.0, related_more at (taken m) (taken (m + 1)) scope last.file last.blocks g w.1 refl) }))
       (adds_none last.found))))))
 
   absent_parameter :
@@ -348,7 +349,7 @@ module _ (at : ℕ → Entity) (slots_are : IsSlots at) (base : Room) where
   absent_parameter defining scope before ty first made r h rel =
       quietly_before (numbering at) h r.found r.found Anything (ParameterAfter scope (length before) r) (judged_parameter defining scope ty first) (λ judged. give (record { name = None; ty = ty }))
       (parameter_quiet defining scope ty first)
-      (λ z any. record { os = []; is = sym (append-nil r.found); alike = tt; plain = refl; after = (made, related_more at (taken (length before)) (taken (length before + 1)) scope r.file r.blocks h rel refl) })
+      (λ z any. record { os = []; is = sym (append-nil r.found); alike = tt; plain = refl; used = refl; after = (made, related_more at (taken (length before)) (taken (length before + 1)) scope r.file r.blocks h rel refl) })
 
   -- ---- a parameter of the grammar
 
@@ -459,7 +460,7 @@ module _ (at : ℕ → Entity) (slots_are : IsSlots at) (base : Room) where
       follows_both (numbering at) h r.found s.found s.found (ParameterAfter inner (length before) s) (λ x g. ParametersThen scope s.file s.blocks x g)
       (one_parameter defining inner before tree behind) (λ p. give (before ++ p ∷ []))
       (one_read defining alive d holds.0 inner before behind r h rel)
-      (λ p g v. record { os = []; is = sym (append-nil s.found); alike = tt; plain = refl; after = record { made = typed_more scope.tags before p made v.0; rel = then_more scope before s p g v } })
+      (λ p g v. record { os = []; is = sym (append-nil s.found); alike = tt; plain = refl; used = refl; after = record { made = typed_more scope.tags before p made v.0; rel = then_more scope before s p g v } })
       (adds_none s.found)
   parameters_read defining alive (next_one {tree = tree} {comma = comma} {rest = rest} d w others) holds scope before behind r h made rel =
       let inner : Scope = record scope { blocks = tables (no_entry ∷ scope.blocks) 0 before } in
@@ -479,7 +480,7 @@ module _ (at : ℕ → Entity) (slots_are : IsSlots at) (base : Room) where
   -- ---- the parentheses of a function's declarator
 
   no_parameter : (scope : Scope) (r : Reading) (h : List Identified) → Rel at (taken 0) scope r h → Follows (numbering at) h r.found r.found (λ x g. ParametersThen scope r.file r.blocks x g) (give [])
-  no_parameter scope r h rel = record { os = []; is = sym (append-nil r.found); alike = tt; plain = refl; after = record { made = tt; rel = related_block at (taken 0) scope r.file r.blocks h rel } }
+  no_parameter scope r h rel = record { os = []; is = sym (append-nil r.found); alike = tt; plain = refl; used = refl; after = record { made = tt; rel = related_block at (taken 0) scope r.file r.blocks h rel } }
 
   listed_read :
       (defining : Bool) → base.alive ≡ defining → (parts : PlainTrees) → Separated parameter parts → AllHold parts → (scope : Scope) (behind : PlainToken) (r : Reading) (h : List Identified) → Rel at (taken 0) scope r h

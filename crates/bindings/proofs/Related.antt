@@ -11,7 +11,7 @@ use Rattle.core_meaning.specs.Entities.{Table, Struct, Local, FileName, Scope, l
 use Rattle.bindings.specs.Visible.{NameSpace, ordinary, tags as tag_space, members_of, Entry, look_up, Binding, bound_to, undeclared, Occurrence}
 use Rattle.bindings.specs.Judged.{Identified, first_with, number_or, identified, IsAlike, IsBoundAlike, IsMember}
 use Rattle.bindings.proofs.Histories.{SameFirsts, alike_bound}
-use Rattle.bindings.proofs.Follows.{is_plain, Fine, Unbound, renamed_one}
+use Rattle.bindings.proofs.Follows.{is_plain, used_alike, Fine, Unbound, renamed_one}
 use Rattle.bindings.proofs.Types.{Made, MadeSort}
 
 -- the slots of a function are entities by what stands here for them
@@ -117,22 +117,31 @@ same_place_refl token =
 
 pub one_occurrence :
     (names : Entity → Entity) (before : List Identified) (found : List Occurrence) (o : Occurrence) (j : JudgedBinding) (W : List Identified → Type 0)
-    → is_plain j.entity ≡ true → IsBoundAlike before o (names j.entity) → W (before ++ identified o (renamed_one names j) ∷ []) → Fine names before found (found ++ o ∷ []) (j ∷ []) W
-one_occurrence names before found o j W plain is w = record { os = o ∷ []; is = refl; alike = (alike_bound before o (names j.entity) is, tt); plain = Rattle.std.proofs.lemmas.Bool.and_from (is_plain j.entity) true plain refl; after = w }
+    → is_plain j.entity ≡ true → used_alike o.uses_file_name o.token.text j ≡ true → IsBoundAlike before o (names j.entity) → W (before ++ identified o (renamed_one names j) ∷ []) → Fine names before found (found ++ o ∷ []) (j ∷ []) W
+one_occurrence names before found o j W plain used is w = record {
+  os = o ∷ [];
+  is = refl;
+  alike = (alike_bound before o (names j.entity) is, tt);
+  plain = and_from (is_plain j.entity) true plain refl;
+  used = and_from (used_alike o.uses_file_name o.token.text j) true used refl;
+  after = w;
+}
 
 -- an identifier bound to what is first
 pub bound_first :
-    (before : List Identified) (number : ℕ) (token : PlainToken) (binding : Binding) (entity : Entity) (by : Identified) → binding ≡ bound_to by.number
-    → first_with entity before ≡ Some by → IsBoundAlike before (record { number = number; token = token; binding = binding }) entity
-bound_first before number token binding entity by is first =
-    subst (λ (b : Binding). IsBoundAlike before (record { number = number; token = token; binding = b }) entity) (sym is) (sym (ap (λ f. number_or f number) first))
+    (before : List Identified) (number : ℕ) (token : PlainToken) (binding : Binding) (uses_file_name : Bool) (entity : Entity) (by : Identified) → binding ≡ bound_to by.number
+    → first_with entity before ≡ Some by → IsBoundAlike before (record { number = number; token = token; binding = binding; uses_file_name = uses_file_name }) entity
+bound_first before number token binding uses_file_name entity by is first =
+    subst (λ (b : Binding). IsBoundAlike before (record { number = number; token = token; binding = b; uses_file_name = uses_file_name }) entity) (sym is) (sym (ap (λ f. number_or f number) first))
 
 -- one that is undeclared
-pub one_undeclared : (token : PlainToken) (found : List Occurrence) (number : ℕ) (binding : Binding) → binding ≡ undeclared → Unbound found (found ++ record { number = number; token = token; binding = binding } ∷ []) token
-one_undeclared token found number binding is = record {
-  os = record { number = number; token = token; binding = binding } ∷ [];
+pub one_undeclared :
+    (token : PlainToken) (found : List Occurrence) (number : ℕ) (binding : Binding) (uses_file_name : Bool) → binding ≡ undeclared
+    → Unbound found (found ++ record { number = number; token = token; binding = binding; uses_file_name = uses_file_name } ∷ []) token
+one_undeclared token found number binding uses_file_name is = record {
+  os = record { number = number; token = token; binding = binding; uses_file_name = uses_file_name } ∷ [];
   is = refl;
-  first = subst (λ (b : Binding). Rattle.bindings.specs.Judged.IsFirstUndeclared token (record { number = number; token = token; binding = b } ∷ [])) (sym is) (same_place_refl token);
+  first = subst (λ (b : Binding). Rattle.bindings.specs.Judged.IsFirstUndeclared token (record { number = number; token = token; binding = b; uses_file_name = uses_file_name } ∷ [])) (sym is) (same_place_refl token);
 }
 
 pub or_else_some : {A : Type 0} (a b : Option A) (x : A) → a ≡ Some x → or_else a b ≡ Some x

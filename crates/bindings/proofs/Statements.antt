@@ -170,7 +170,7 @@ module _ (at : ℕ → Entity) (slots_are : IsSlots at) where
       → Follows (numbering at) h found r.found W c → ((x : A) (g : List Identified) → W x g → V (make x) g) → Follows (numbering at) h found r.found V (c >>= (λ x. give (make x)))
   then_made scope h found r W V c make f g =
       follows_both (numbering at) h found r.found r.found W V c (λ x. give (make x)) f
-      (λ x after w. record { os = []; is = sym (Rattle.std.proofs.lemmas.List.append-nil r.found); alike = tt; plain = refl; after = g x after w }) (adds_none r.found)
+      (λ x after w. record { os = []; is = sym (Rattle.std.proofs.lemmas.List.append-nil r.found); alike = tt; plain = refl; used = refl; after = g x after w }) (adds_none r.found)
 
   -- ---- blocks
 
@@ -190,6 +190,7 @@ module _ (at : ℕ → Entity) (slots_are : IsSlots at) where
         is = sym (Rattle.std.proofs.lemmas.List.append-nil one_.found);
         alike = tt;
         plain = refl;
+        used = refl;
         after = related_left at (room (length slots)) (room (length inner.slots)) around.scope w.tables r.file one_.file r.blocks one_.blocks h g rel refl grows w.rel;
       })
       (adds_none one_.found)))
@@ -199,7 +200,7 @@ module _ (at : ℕ → Entity) (slots_are : IsSlots at) where
       let all : Checked Judged = give (judged_as slots (core.block core.no_item)) in
       skip open_ r o (λ s. Follows (numbering at) h r.found (leave r (read_leaf close s)).found (StatementAfter around.scope (leave r (read_leaf close s))) all)
       (skip close (passed r) c (λ s. Follows (numbering at) h r.found s.found (StatementAfter around.scope (leave r s)) all)
-      (record { os = []; is = sym (Rattle.std.proofs.lemmas.List.append-nil r.found); alike = tt; plain = refl; after = rel }))
+      (record { os = []; is = sym (Rattle.std.proofs.lemmas.List.append-nil r.found); alike = tt; plain = refl; used = refl; after = rel }))
 
   -- ---- choices and loops
 
@@ -421,7 +422,7 @@ module _ (at : ℕ → Entity) (slots_are : IsSlots at) where
       (λ first k1 rel1. follows_both (numbering at) k1 one_.found last.found last.found (ItemsAfter around.scope last) (ItemsAfter around.scope last) (judged_items around first.slots rest)
       (λ others. give (items_as others.slots (core.statement_item first.core others.core)))
       (g around first.slots one_ k1 rel1)
-      (λ others k2 v. record { os = []; is = sym (Rattle.std.proofs.lemmas.List.append-nil last.found); alike = tt; plain = refl; after = v })
+      (λ others k2 v. record { os = []; is = sym (Rattle.std.proofs.lemmas.List.append-nil last.found); alike = tt; plain = refl; used = refl; after = v })
       (adds_none last.found))
       (statements_add rest one_)
 
@@ -438,7 +439,7 @@ module _ (at : ℕ → Entity) (slots_are : IsSlots at) where
       (follows_both (numbering at) k1 one_.found last.found last.found (ItemsAfter inner last) (ItemsAfter around.scope last) (judged_items (record around { scope = inner }) locals.slots rest)
       (λ others. give (items_as others.slots (before_items locals.items others.core)))
       (g (record around { scope = inner }) locals.slots one_ k1 v.rel)
-      (λ others k2 w. record { os = []; is = sym (Rattle.std.proofs.lemmas.List.append-nil last.found); alike = tt; plain = refl; after = record { tables = w.tables; rel = w.rel } })
+      (λ others k2 w. record { os = []; is = sym (Rattle.std.proofs.lemmas.List.append-nil last.found); alike = tt; plain = refl; used = refl; after = record { tables = w.tables; rel = w.rel } })
       (adds_none last.found)))
       (statements_add rest one_)
 
@@ -453,7 +454,7 @@ module _ (at : ℕ → Entity) (slots_are : IsSlots at) where
   item_step (made_of kind {parts = parts} b a s) holds f rest g = λ around slots r h rel. next_item (node kind parts) rest around slots r h (f refl) g rel
 
   no_items : ItemsRead none
-  no_items around slots r h rel = record { os = []; is = sym (Rattle.std.proofs.lemmas.List.append-nil r.found); alike = tt; plain = refl; after = record { tables = around.scope.blocks; rel = rel } }
+  no_items around slots r h rel = record { os = []; is = sym (Rattle.std.proofs.lemmas.List.append-nil r.found); alike = tt; plain = refl; used = refl; after = record { tables = around.scope.blocks; rel = rel } }
 
   no_declaration : {tree : PlainTree} → Derivation statement tree → is_declaration tree ≡ false
   no_declaration (single is) = absurd cc
@@ -461,7 +462,7 @@ module _ (at : ℕ → Entity) (slots_are : IsSlots at) where
   no_declaration (made_of _ b a s) = refl
 
   no_else : ElseRead absent
-  no_else around slots r h rel = record { os = []; is = sym (Rattle.std.proofs.lemmas.List.append-nil r.found); alike = tt; plain = refl; after = rel }
+  no_else around slots r h rel = record { os = []; is = sym (Rattle.std.proofs.lemmas.List.append-nil r.found); alike = tt; plain = refl; used = refl; after = rel }
 
   some_else : (word : PlainToken) (tree : PlainTree) → is_name word ≡ false → StatementRead tree → ElseRead (node k.Else (more (leaf word) (more tree none)))
   some_else word tree w f around slots r h rel =

@@ -91,7 +91,7 @@ record AllThen (tag : List ℕ) (number : ℕ) (scope : Scope) (file blocks : Li
 all_read :
     (tag : List ℕ) (number : ℕ) {parts : PlainTrees} → Each member parts → AllHold parts → (scope : Scope) (known : Members) (r : Reading) (h : List Identified) → InStruct tag number scope known r.file r.blocks h
     → Follows (numbering local_entity) h r.found (read_members tag parts r).found (AllThen tag number scope (read_members tag parts r).file (read_members tag parts r).blocks) (all_members scope number known parts)
-all_read tag number no_more holds scope known r h inside = record { os = []; is = sym (append-nil r.found); alike = tt; plain = refl; after = record { inside = inside; outside = refl } }
+all_read tag number no_more holds scope known r h inside = record { os = []; is = sym (append-nil r.found); alike = tt; plain = refl; used = refl; after = record { inside = inside; outside = refl } }
 all_read tag number (one_more {rest = rest} d others) holds scope known r h inside = by d holds.0 (λ s k1 x g i. all_read tag number others holds.1 s k1 x g i)
   where
     by :
@@ -267,6 +267,6 @@ struct_defined unit words parts form each holds r h rel =
     (follows_both (numbering local_entity) g one_.found last.found last.found (AllThen tag.text v.number base.scope last.file last.blocks) V (all_members base.scope v.number none_known parts)
     (λ all. give (with_scope unit (record all.scope { structs = with_members_at v.number all.known all.scope.structs })))
     (all_read tag.text v.number each holds base.scope none_known (passed one_) g (open_struct tag.text v.number base.scope one_.file one_.blocks g v.rel v.here v.struct v.is (v.open_ (Rattle.std.proofs.lemmas.Bool.not-true (is_defined_tag unit.scope (unit.scope.tags tag.text)) new))))
-    (λ all g2 z. record { os = []; is = sym (append-nil last.found); alike = tt; plain = refl; after = (related_completed tag.text v.number all.scope all.known last.file last.blocks g2 z.inside, z.outside ∙ v.outside, refl) })
+    (λ all g2 z. record { os = []; is = sym (append-nil last.found); alike = tt; plain = refl; used = refl; after = (related_completed tag.text v.number all.scope all.known last.file last.blocks g2 z.inside, z.outside ∙ v.outside, refl) })
     (adds_none last.found)))
     (members_add tag.text parts (passed one_))))))))

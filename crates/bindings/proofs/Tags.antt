@@ -156,11 +156,11 @@ module _ (at : ℕ → Entity) (slots_are : IsSlots at) (taken : Room) (scope : 
   tag_declared r h tag rel (Some n) e =
       let f = rel.tagged tag.text n e in
       subst (λ x. Follows (numbering at) h r.found (tag_found true tag x r).found (TagThen at taken scope tag.text (Some n) (tag_found true tag x r).file (tag_found true tag x r).blocks) (based_on_tag true scope tag (Some n))) (sym f.found.entry)
-      (let o : Occurrence = record { number = r.next; token = tag; binding = bound_to f.found.by.number } in
+      (let o : Occurrence = record { number = r.next; token = tag; binding = bound_to f.found.by.number; uses_file_name = false } in
       let j : JudgedBinding = record { entity = struct_entity n; in_expression = false } in
       let i : Identified = identified o (renamed_one (numbering at) j) in
-      one_occurrence (numbering at) h r.found o j (λ g. TagThen at taken scope tag.text (Some n) r.file r.blocks (record { ty = structure n; scope = scope }) g) refl
-      (bound_first h r.next tag (bound_to f.found.by.number) (struct_entity n) f.found.by refl f.found.first)
+      one_occurrence (numbering at) h r.found o j (λ g. TagThen at taken scope tag.text (Some n) r.file r.blocks (record { ty = structure n; scope = scope }) g) refl refl
+      (bound_first h r.next tag (bound_to f.found.by.number) false (struct_entity n) f.found.by refl f.found.first)
       (record {
         number = n;
         ty = refl;
@@ -175,10 +175,10 @@ module _ (at : ℕ → Entity) (slots_are : IsSlots at) (taken : Room) (scope : 
       }))
   tag_declared r h tag rel None e =
       subst (λ x. Follows (numbering at) h r.found (tag_found true tag x r).found (TagThen at taken scope tag.text None (tag_found true tag x r).file (tag_found true tag x r).blocks) (based_on_tag true scope tag None)) (sym (rel.no_tag tag.text e))
-      (let o : Occurrence = record { number = r.next; token = tag; binding = bound_to r.next } in
+      (let o : Occurrence = record { number = r.next; token = tag; binding = bound_to r.next; uses_file_name = false } in
       let j : JudgedBinding = record { entity = struct_entity (length scope.structs); in_expression = false } in
       let i : Identified = identified o (renamed_one (numbering at) j) in
-      one_occurrence (numbering at) h r.found o j (λ g. TagThen at taken scope tag.text None (record { space = tag_space; name = tag.text; declared_by = r.next } ∷ r.file) r.blocks (record { ty = structure (length scope.structs); scope = with_struct scope tag.text }) g) refl
+      one_occurrence (numbering at) h r.found o j (λ g. TagThen at taken scope tag.text None (record { space = tag_space; name = tag.text; declared_by = r.next } ∷ r.file) r.blocks (record { ty = structure (length scope.structs); scope = with_struct scope tag.text }) g) refl refl
       (sym (ap (λ f. number_or f r.next) (rel.new_structs (length scope.structs) (omega arith))))
       (record {
         number = length scope.structs;
@@ -225,4 +225,4 @@ module _ (at : ℕ → Entity) (slots_are : IsSlots at) (taken : Room) (scope : 
       let last : Reading = read_words true words r in
       subst (λ b. Follows (numbering at) h r.found last.found (BasedThen last.file last.blocks) (if b then or_broken (name_in words) >>= (λ tag. based_on_tag true scope tag (scope.tags tag.text)) else give (record { ty = arithmetic_words words; scope = scope }))) (sym has)
       (subst (λ f. Follows (numbering at) h f last.found (BasedThen last.file last.blocks) (give (record { ty = arithmetic_words words; scope = scope }))) still.1
-      (record { os = []; is = sym (append-nil last.found); alike = tt; plain = refl; after = record { made = made_words scope.tags words; rel = still.0; outside = refl; more_tags = λ tag n e. e; more_structs = λ n s e. e } }))
+      (record { os = []; is = sym (append-nil last.found); alike = tt; plain = refl; used = refl; after = record { made = made_words scope.tags words; rel = still.0; outside = refl; more_tags = λ tag n e. e; more_structs = λ n s e. e } }))

@@ -152,7 +152,7 @@ struct_declared_read words end_ form globals unit behind r h between =
     plain_item unit r last h (based true unit.scope words >>= (λ base. give (with_scope unit base.scope))) between
     (follows_both (numbering local_entity) h r.found last.found last.found (BasedThen local_entity local_slots (closed false) unit.scope last.file last.blocks) (ItemThen unit last) (based true unit.scope words) (λ base. give (with_scope unit base.scope))
     (based_declared local_entity local_slots (closed false) unit.scope words (Rattle.bindings.proofs.Words.with_tag form.has form.form) r h between.rel)
-    (λ base g v. record { os = []; is = sym (append-nil last.found); alike = tt; plain = refl; after = record { rel = v.rel; outside = v.outside; count = refl } })
+    (λ base g v. record { os = []; is = sym (append-nil last.found); alike = tt; plain = refl; used = refl; after = record { rel = v.rel; outside = v.outside; count = refl } })
     (adds_none last.found))
 
 struct_read :
@@ -218,7 +218,7 @@ item_read (made_of k.Function b a (a_row (a_part {tree = words} w (a_part {tree 
 item_read (made_of _ b a s) holds = absurd cc
 
 nothing_between : (unit : UnitState) (r : Reading) (h : List Identified) → Between unit r h → Binds h r.found r.found (λ x g. Between x r g) (give unit)
-nothing_between unit r h between = record { os = []; is = sym (append-nil r.found); alike = tt; after = between }
+nothing_between unit r h between = record { os = []; is = sym (append-nil r.found); alike = tt; used = refl; after = between }
 
 items_read :
     {parts : PlainTrees} → Each file_item parts → AllHold parts → (globals : ℕ) (unit : UnitState) (r : Reading) (h : List Identified) → Between unit r h
@@ -256,7 +256,7 @@ abbrev pub Nothing : {A : Type 0} → A → List Identified → Type 0
 Nothing x h = Unit {0}
 
 small_binds : (o : Option PlainToken) (unit : UnitState) (h : List Identified) (found : List Rattle.bindings.specs.Visible.Occurrence) → Binds h found found Nothing (unless_too_big o >>= (λ small. give unit))
-small_binds None unit h found = record { os = []; is = sym (append-nil found); alike = tt; after = tt }
+small_binds None unit h found = record { os = []; is = sym (append-nil found); alike = tt; used = refl; after = tt }
 small_binds (Some name) unit h found = tt
 
 pub unit_read :

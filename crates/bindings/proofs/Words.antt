@@ -28,9 +28,9 @@ use Rattle.bindings.proofs.Operators.{Anything}
 -- ---- reading only adds
 
 tag_adds : (may_declare : Bool) (token : PlainToken) (found : Option ℕ) (r : Reading) → Adds r.found (tag_found may_declare token found r).found
-tag_adds may_declare token (Some by) r = record { others = record { number = r.next; token = token; binding = bound_to by } ∷ []; is = refl }
-tag_adds true token None r = record { others = record { number = r.next; token = token; binding = bound_to r.next } ∷ []; is = refl }
-tag_adds false token None r = record { others = record { number = r.next; token = token; binding = undeclared } ∷ []; is = refl }
+tag_adds may_declare token (Some by) r = record { others = record { number = r.next; token = token; binding = bound_to by; uses_file_name = false } ∷ []; is = refl }
+tag_adds true token None r = record { others = record { number = r.next; token = token; binding = bound_to r.next; uses_file_name = false } ∷ []; is = refl }
+tag_adds false token None r = record { others = record { number = r.next; token = token; binding = undeclared; uses_file_name = false } ∷ []; is = refl }
 
 word_adds : (may_declare b : Bool) (token : PlainToken) (r : Reading) → Adds r.found (if b then tag_named may_declare token r else passed r).found
 word_adds may_declare true token r = tag_adds may_declare token (look_up tag_space token.text r.file) r
@@ -146,10 +146,10 @@ module _ (at : ℕ → Entity) (taken : Room) (scope : Scope) where
   tag_use may_declare r h tag n e rel =
       let f = rel.tagged tag.text n e in
       subst (λ x. Goal at taken scope Anything h r.found (tag_found may_declare tag x r) (declares (struct_entity n))) (sym f.found.entry)
-      (let o : Occurrence = record { number = r.next; token = tag; binding = bound_to f.found.by.number } in
+      (let o : Occurrence = record { number = r.next; token = tag; binding = bound_to f.found.by.number; uses_file_name = false } in
       let i : Identified = identified o (renamed_one (numbering at) (record { entity = struct_entity n; in_expression = false })) in
-      one_occurrence (numbering at) h r.found o (record { entity = struct_entity n; in_expression = false }) (λ g. Unit {0} × Rel at taken scope (occurs tag (bound_to f.found.by.number) r) g) refl
-      (bound_first h r.next tag (bound_to f.found.by.number) (struct_entity n) f.found.by refl f.found.first)
+      one_occurrence (numbering at) h r.found o (record { entity = struct_entity n; in_expression = false }) (λ g. Unit {0} × Rel at taken scope (occurs tag (bound_to f.found.by.number) r) g) refl refl
+      (bound_first h r.next tag (bound_to f.found.by.number) false (struct_entity n) f.found.by refl f.found.first)
       (tt, related_same at taken scope r.file r.blocks h (h ++ i ∷ []) (first_again h i f.found.by f.found.first) rel))
 
   abbrev pub BasedHere : Based → Type 0
@@ -162,7 +162,7 @@ module _ (at : ℕ → Entity) (taken : Room) (scope : Scope) where
       then_quietly at taken scope Anything BasedHere h r.found (tag_named false tag r) (declares (struct_entity n)) (λ bound. give (record { ty = structure n; scope = scope }))
       (tag_use false r h tag n e rel) (λ x any. yields BasedHere (record { ty = structure n; scope = scope }) (record { tag = tag.text; is = e }))
   tag_read r h tag rel None e =
-      subst (λ x. Rattle.bindings.proofs.Follows.Unbound r.found (tag_found false tag x r).found tag) (sym (rel.no_tag tag.text e)) (one_undeclared tag r.found r.next undeclared refl)
+      subst (λ x. Rattle.bindings.proofs.Follows.Unbound r.found (tag_found false tag x r).found tag) (sym (rel.no_tag tag.text e)) (one_undeclared tag r.found r.next undeclared false refl)
 
   -- the words of a type where they declare no struct
   pub based_read :

@@ -1,6 +1,6 @@
 -- What the bindings of a unit have to do with how `core_meaning` judges it. A judgement binds each identifier to an entity; the first that it
 -- binds to an entity is the one that declares it.
-use Rattle.std.specs.Prelude.{◌≡◌, ℕ, ◌==◌, Bool, false, ◌&&◌, List, [], ◌∷◌, ◌++◌, Option, Some, None, if◌then◌else◌, IsTrue}
+use Rattle.std.specs.Prelude.{◌≡◌, ℕ, ◌==◌, Bool, true, false, ◌&&◌, List, [], ◌∷◌, ◌++◌, Option, Some, None, if◌then◌else◌, IsTrue}
 use Rattle.std.specs.Str.{bytes_eq}
 use Rattle.c_text.specs.Token.{PlainToken}
 use Rattle.core_meaning.specs.Checking.{Entity, local_entity, local_of_function, file_entity, struct_entity, member_entity, Binding as JudgedBinding}
@@ -57,6 +57,15 @@ IsDeclared o = elim o.binding as (λ x. Type 0) [ bound_to by ↦ Unit {0} | und
 abbrev pub IsAlike : List Identified → Occurrence → Entity → Type 0
 IsAlike before o (local_entity slot) = IsDeclared o
 IsAlike before o entity = IsBoundAlike before o entity
+
+abbrev pub is_file_entity : Entity → Bool
+is_file_entity (file_entity name) = true
+is_file_entity other = false
+
+-- An identifier is used in an expression as a name of file scope by both or by neither, and then it is this name.
+pub record IsUsedAlike (o : Occurrence) (j : JudgedBinding) : Type 0 where
+  pub same : o.uses_file_name ≡ (j.in_expression && is_file_entity j.entity)
+  pub named : IsTrue o.uses_file_name → j.entity ≡ file_entity o.token.text
 
 abbrev pub identified : Occurrence → JudgedBinding → Identified
 identified o j = record { number = o.number; token = o.token; entity = j.entity }

@@ -1,5 +1,6 @@
 -- What holds of the bindings of units and of how they are judged; each is the contract of a function of this crate.
 use Rattle.std.specs.Prelude.{◌≡◌, ℕ, List, [], ◌∷◌, Some, IsTrue}
+use Rattle.std.specs.List.{AllZip}
 use Rattle.c_text.specs.Token.{PlainToken}
 use Rattle.c_text.specs.Pieces.{piece_of, token}
 use Rattle.c_tree.specs.Trees.{PlainTree, spelled}
@@ -8,9 +9,10 @@ use Rattle.core_meaning.specs.declared.refusals.TypeKind.TheVariants.{Undeclared
 use Rattle.core_meaning.specs.Checking.{Binding as JudgedBinding, fine, refused, broken}
 use Rattle.core_meaning.specs.Entities.{Struct, Numbers}
 use Rattle.core_meaning.specs.UnitNames.{UnitState, judged_unit}
-use Rattle.core_meaning.specs.Linking.{judged_program}
+use Rattle.core_meaning.specs.Linking.{uses_in, judged_program}
+use Rattle.bindings.specs.Visible.{uses_among}
 use Rattle.bindings.specs.Bindings.{bindings_of}
-use Rattle.bindings.specs.Judged.{AreAlike, IsFirstUndeclared, AreDeclared}
+use Rattle.bindings.specs.Judged.{AreAlike, IsUsedAlike, IsFirstUndeclared, AreDeclared}
 
 -- each token is spelt as one of its kind
 abbrev pub ArePieces : List PlainToken → Type 0
@@ -31,6 +33,15 @@ abbrev pub JudgementsBindAlike : Type 0
 JudgementsBindAlike =
     (tree : PlainTree) → IsWritten tree → (globals : ℕ) (structs : List Struct) (numbers : Numbers) (unit : UnitState) (js : List JudgedBinding)
     → judged_unit globals structs numbers tree ≡ fine unit js → AreAlike [] (bindings_of tree) js
+
+-- and its expressions use these names of file scope
+pub record FileNamesAreUsedAlike : Type 0 where
+  pub each :
+      (tree : PlainTree) → IsWritten tree → (globals : ℕ) (structs : List Struct) (numbers : Numbers) (unit : UnitState) (js : List JudgedBinding)
+      → judged_unit globals structs numbers tree ≡ fine unit js → AllZip IsUsedAlike (bindings_of tree) js
+  pub names :
+      (tree : PlainTree) → IsWritten tree → (globals : ℕ) (structs : List Struct) (numbers : Numbers) (unit : UnitState) (js : List JudgedBinding)
+      → judged_unit globals structs numbers tree ≡ fine unit js → (name : List ℕ) → uses_in js name ≡ uses_among (bindings_of tree) name
 
 -- one that is refused as undeclared is refused at the first identifier that is
 abbrev pub UndeclaredIsFirst : Type 0

@@ -1,5 +1,5 @@
 -- Worked examples, no part of the definitions: units that are written with a blank between two tokens, and what their identifiers are bound to.
-use Rattle.std.specs.Prelude.{◌≡◌, ℕ, ◌==◌, nat_le, false, Bool, ◌&&◌, ◌||◌, List, [], ◌∷◌, ◌++◌, map, codes, Option, Some, None, if◌then◌else◌}
+use Rattle.std.specs.Prelude.{◌≡◌, ℕ, ◌==◌, nat_le, false, Bool, ◌&&◌, ◌||◌, List, [], ◌∷◌, ◌++◌, map, filter, codes, Option, Some, None, if◌then◌else◌}
 use Rattle.text_edits.specs.Span.{PlainSpan}
 use Rattle.c_text.specs.declared.origin.Place.TheVariants.{Text}
 use Rattle.c_text.specs.declared.token.TokenKind.{TokenKind}
@@ -107,3 +107,18 @@ abbrev pub ForIsABlock : Type 0
 ForIsABlock =
     Binds (codes "int f ( void ) { for ( int i = 0 ; i < 3 ; i ++ ) i ; i ; }")
     (bound 1 1 ∷ bound 9 9 ∷ bound 13 9 ∷ bound 17 9 ∷ bound 20 9 ∷ unbound 22 ∷ [])
+
+-- ---- which names of file scope expressions use
+
+abbrev pub used_in : Option PlainTree → List ℕ
+used_in None = []
+used_in (Some tree) = map (λ o. o.number) (filter (λ o. o.uses_file_name) (bindings_of tree))
+
+abbrev pub Uses : List ℕ → List ℕ → Type 0
+Uses text expected = used_in (read of_trees (tokens_of text)) ≡ expected
+
+-- one that a block hides isn't used there; declarators, members and tags aren't uses, and what is undeclared is none
+abbrev pub ExpressionsUseFileNames : Type 0
+ExpressionsUseFileNames =
+    Uses (codes "struct x { int m ; } ; int m ; int x ; int f ( struct x * p ) { int y = x ; { int x ; x = p -> m ; } return f ( p ) + z ; }")
+    (26 ∷ 40 ∷ [])

@@ -1,6 +1,7 @@
 -- What is visible at a place of a unit (ISO/IEC 9899:2011, 6.2.1 to 6.2.3), and what an identifier there is bound to. A token of a unit is
 -- named by its number, so that two tokens that come from one place of a file are told apart.
-use Rattle.std.specs.Prelude.{ℕ, ◌+◌, Bool, true, false, ◌&&◌, List, [], ◌∷◌, ◌++◌, Option, Some, None, if◌then◌else◌}
+use Rattle.std.specs.Prelude.{ℕ, ◌+◌, Bool, true, false, not, ◌&&◌, List, [], ◌∷◌, ◌++◌, Option, Some, None, is_some, if◌then◌else◌}
+use Rattle.std.specs.List.{list_any}
 use Rattle.std.specs.Str.{bytes_eq}
 use Rattle.c_text.specs.Token.{PlainToken}
 use Rattle.core_meaning.specs.Entities.{or_else}
@@ -41,6 +42,12 @@ pub record Occurrence : Type 0 where
   pub number : ℕ
   pub token : PlainToken
   pub binding : Binding
+  -- it is a name of file scope, and an expression uses it
+  pub uses_file_name : Bool
+
+-- whether an expression uses this name of file scope
+abbrev pub uses_among : List Occurrence → List ℕ → Bool
+uses_among occurrences name = list_any (λ o. o.uses_file_name && bytes_eq o.token.text name) occurrences
 
 -- A unit up to a token.
 pub record Reading : Type 0 where
@@ -60,9 +67,12 @@ start = record { next = 0; file = []; blocks = []; found = [] }
 abbrev pub passed : Reading → Reading
 passed r = record r { next = r.next + 1 }
 
+abbrev pub occurs_as : Bool → PlainToken → Binding → Reading → Reading
+occurs_as uses_file_name token binding r =
+    record r { next = r.next + 1; found = r.found ++ record { number = r.next; token = token; binding = binding; uses_file_name = uses_file_name } ∷ [] }
+
 abbrev pub occurs : PlainToken → Binding → Reading → Reading
-occurs token binding r =
-    record r { next = r.next + 1; found = r.found ++ record { number = r.next; token = token; binding = binding } ∷ [] }
+occurs token binding r = occurs_as false token binding r
 
 abbrev pub with_file_entry : NameSpace → List ℕ → ℕ → Reading → Reading
 with_file_entry space name by r = record r { file = record { space = space; name = name; declared_by = by } ∷ r.file }
@@ -82,8 +92,12 @@ binding_found (Some by) = bound_to by
 abbrev pub visible_name : List ℕ → Reading → Option ℕ
 visible_name name r = or_else (look_up ordinary name r.blocks) (look_up ordinary name r.file)
 
+-- whether it is one of file scope
+abbrev pub is_of_file : List ℕ → Reading → Bool
+is_of_file name r = not (is_some (look_up ordinary name r.blocks)) && is_some (look_up ordinary name r.file)
+
 abbrev pub used : PlainToken → Reading → Reading
-used token r = occurs token (binding_found (visible_name token.text r)) r
+used token r = occurs_as (is_of_file token.text r) token (binding_found (visible_name token.text r)) r
 
 -- a member that is used, behind `.` or `->`
 abbrev pub member_used : PlainToken → Reading → Reading

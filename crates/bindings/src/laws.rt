@@ -1,10 +1,18 @@
 //! Laws of bindings. Each function is its contract, and leans on how units are derived.
-ghost use Rattle.bindings.specs.Laws.{JudgementsBindAlike, UndeclaredIsFirst, DeclaredIsUnrefused, UnitsAreJudged, ProgramsAreJudged};
+ghost use Rattle.bindings.specs.Laws.{JudgementsBindAlike, FileNamesAreUsedAlike, UndeclaredIsFirst, DeclaredIsUnrefused, UnitsAreJudged, ProgramsAreJudged};
 
 /// Where a unit is judged well, the judgement binds its identifiers as the bindings of the unit do: each to what the first
 /// identifier of its entity declares. So none is undeclared.
 pub fn judgements_bind_alike()
     ensures { JudgementsBindAlike }
+{
+    tree_derivations::units_are_derived();
+}
+
+/// Where a unit is judged well, its expressions use the names of file scope that the bindings of the unit say: those that stand
+/// at file scope and in no block.
+pub fn file_names_are_used_alike()
+    ensures { FileNamesAreUsedAlike }
 {
     tree_derivations::units_are_derived();
 }

@@ -1,5 +1,5 @@
 //! Worked rows. Each function is its contract alone.
-ghost use Rattle.bindings.specs.Rows.{BlocksHide, PrototypesHaveTheirOwn, TagsAreOfFileScope, StructsAreNamedBefore, EarlierParametersAreVisible, InitialisersSeeTheirName, ForIsABlock};
+ghost use Rattle.bindings.specs.Rows.{BlocksHide, PrototypesHaveTheirOwn, TagsAreOfFileScope, StructsAreNamedBefore, EarlierParametersAreVisible, InitialisersSeeTheirName, ForIsABlock, ExpressionsUseFileNames};
 
 /// Which identifiers units by hand bind, and to what.
 pub fn worked_rows()
@@ -10,4 +10,5 @@ pub fn worked_rows()
     ensures parameters { EarlierParametersAreVisible }
     ensures initialisers { InitialisersSeeTheirName }
     ensures turns { ForIsABlock }
+    ensures uses { ExpressionsUseFileNames }
 {}

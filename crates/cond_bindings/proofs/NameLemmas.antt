@@ -8,10 +8,11 @@ use Rattle.std.proofs.lemmas.Bool.{and_parts}
 use Rattle.cond_formula.specs.Conditions.{Condition, condition_of}
 use Rattle.core_meaning.specs.Entities.{with_entry}
 use Rattle.cond_bindings.specs.declared.unit_bindings.Declaration.{Declaration}
+use Rattle.cond_bindings.specs.declared.unit_bindings.FileUse.{FileUse}
 use Rattle.cond_bindings.specs.declared.unit_bindings.Identifier.{Identifier}
 use Rattle.cond_bindings.specs.declared.unit_bindings.Meaning.{Meaning}
 use Rattle.cond_bindings.specs.declared.unit_bindings.Meaning.TheVariants.{Use, Declares}
-use Rattle.cond_bindings.specs.Bindings.{Visible, visible, PlainMeaning, use_of, declares, PlainIdentifier, plain_meaning, plain_identifier}
+use Rattle.cond_bindings.specs.Bindings.{Visible, visible, PlainMeaning, use_of, declares, PlainIdentifier, plain_meaning, plain_identifier, PlainUse, plain_use}
 use Rattle.cond_bindings.specs.Names.{BlockName, PlainNames, visible_in}
 use Rattle.cond_bindings.specs.NameSteps.{as_visible, with_visible, with_file, with_tag, with_local}
 use Rattle.cond_bindings.specs.Places.{LocalPlace, innermost_in, is_below, meaning_below, identifier_below, local_below, TableBelow, IdentifiersBelow}
@@ -73,26 +74,26 @@ module _ (ds : List Declaration) (d : Declaration) where
       (visible_new ds d ∙ ap (λ place. as_visible d ∷ visible ds place) hides ∙ ap (λ vs. as_visible d ∷ vs) (visible_innermost ds locals name))
       ∙ ap (λ (bs : List BlockName). let b : BlockName = record { name = name; visible = as_visible d ∷ visible_in (map (block_name ds) locals) name } in b ∷ bs) (blocks_kept locals below)
 
-same_names : (f g t u : List ℕ → List Visible) (bs cs : List BlockName) (is js : List PlainIdentifier) (refused : Condition) → f ≡ g → t ≡ u → bs ≡ cs → is ≡ js → let named : (List ℕ → List Visible) → (List ℕ → List Visible) → List BlockName → List PlainIdentifier → PlainNames = λ file tags blocks identifiers. record { file = file; tags = tags; blocks = blocks; identifiers = identifiers; refused = refused } in named f t bs is ≡ named g u cs js
-same_names f g t u bs cs is js refused ef et eb ei =
-    let named : (List ℕ → List Visible) → (List ℕ → List Visible) → List BlockName → List PlainIdentifier → PlainNames = λ file tags blocks identifiers. record { file = file; tags = tags; blocks = blocks; identifiers = identifiers; refused = refused } in
+same_names : (f g t u : List ℕ → List Visible) (bs cs : List BlockName) (is js : List PlainIdentifier) (uses : List PlainUse) (refused : Condition) → f ≡ g → t ≡ u → bs ≡ cs → is ≡ js → let named : (List ℕ → List Visible) → (List ℕ → List Visible) → List BlockName → List PlainIdentifier → PlainNames = λ file tags blocks identifiers. record { file = file; tags = tags; blocks = blocks; identifiers = identifiers; uses = uses; refused = refused } in named f t bs is ≡ named g u cs js
+same_names f g t u bs cs is js uses refused ef et eb ei =
+    let named : (List ℕ → List Visible) → (List ℕ → List Visible) → List BlockName → List PlainIdentifier → PlainNames = λ file tags blocks identifiers. record { file = file; tags = tags; blocks = blocks; identifiers = identifiers; uses = uses; refused = refused } in
     ap (λ x. named x t bs is) ef ∙ ap (λ x. named g x bs is) et ∙ ap (λ x. named g u x is) eb ∙ ap (λ x. named g u cs x) ei
 
-module _ (ds longer : List Declaration) (d : Declaration) (file tags : List ℕ → Option ℕ) (locals : List LocalPlace) (identifiers : List Identifier) (refused : Condition) (name : List ℕ) (below : AreBelow (length ds) file tags locals identifiers) (one_more : longer ≡ ds ++ d ∷ []) where
-  pub file_shown : (entered : List ℕ → Option ℕ) → d.hides ≡ file name → entered ≡ with_entry file name (length ds) → names_of longer entered tags locals identifiers refused ≡ with_file (names_of ds file tags locals identifiers refused) name (as_visible d)
+module _ (ds longer : List Declaration) (d : Declaration) (file tags : List ℕ → Option ℕ) (locals : List LocalPlace) (identifiers : List Identifier) (uses : List FileUse) (refused : Condition) (name : List ℕ) (below : AreBelow (length ds) file tags locals identifiers) (one_more : longer ≡ ds ++ d ∷ []) where
+  pub file_shown : (entered : List ℕ → Option ℕ) → d.hides ≡ file name → entered ≡ with_entry file name (length ds) → names_of longer entered tags locals identifiers uses refused ≡ with_file (names_of ds file tags locals identifiers uses refused) name (as_visible d)
   file_shown entered hides is =
-      ap (λ (ls : List Declaration). names_of ls entered tags locals identifiers refused) one_more
-      ∙ ap (λ (table : List ℕ → Option ℕ). names_of (ds ++ d ∷ []) table tags locals identifiers refused) is
-      ∙ same_names _ _ _ _ _ _ _ _ refused (table_shown ds d file name hides below.file_below) (table_kept ds d tags below.tags_below) (blocks_kept ds d locals below.locals_below) (identifiers_kept ds d identifiers below.identifiers_below)
+      ap (λ (ls : List Declaration). names_of ls entered tags locals identifiers uses refused) one_more
+      ∙ ap (λ (table : List ℕ → Option ℕ). names_of (ds ++ d ∷ []) table tags locals identifiers uses refused) is
+      ∙ same_names _ _ _ _ _ _ _ _ (map plain_use uses) refused (table_shown ds d file name hides below.file_below) (table_kept ds d tags below.tags_below) (blocks_kept ds d locals below.locals_below) (identifiers_kept ds d identifiers below.identifiers_below)
 
-  pub tag_shown : (entered : List ℕ → Option ℕ) → d.hides ≡ tags name → entered ≡ with_entry tags name (length ds) → names_of longer file entered locals identifiers refused ≡ with_tag (names_of ds file tags locals identifiers refused) name (as_visible d)
+  pub tag_shown : (entered : List ℕ → Option ℕ) → d.hides ≡ tags name → entered ≡ with_entry tags name (length ds) → names_of longer file entered locals identifiers uses refused ≡ with_tag (names_of ds file tags locals identifiers uses refused) name (as_visible d)
   tag_shown entered hides is =
-      ap (λ (ls : List Declaration). names_of ls file entered locals identifiers refused) one_more
-      ∙ ap (λ (table : List ℕ → Option ℕ). names_of (ds ++ d ∷ []) file table locals identifiers refused) is
-      ∙ same_names _ _ _ _ _ _ _ _ refused (table_kept ds d file below.file_below) (table_shown ds d tags name hides below.tags_below) (blocks_kept ds d locals below.locals_below) (identifiers_kept ds d identifiers below.identifiers_below)
+      ap (λ (ls : List Declaration). names_of ls file entered locals identifiers uses refused) one_more
+      ∙ ap (λ (table : List ℕ → Option ℕ). names_of (ds ++ d ∷ []) file table locals identifiers uses refused) is
+      ∙ same_names _ _ _ _ _ _ _ _ (map plain_use uses) refused (table_kept ds d file below.file_below) (table_shown ds d tags name hides below.tags_below) (blocks_kept ds d locals below.locals_below) (identifiers_kept ds d identifiers below.identifiers_below)
 
-  pub local_shown : (entered : List LocalPlace) → d.hides ≡ innermost_in locals name → entered ≡ record { name = name; place = length ds } ∷ locals → names_of longer file tags entered identifiers refused ≡ with_local (names_of ds file tags locals identifiers refused) name (as_visible d)
+  pub local_shown : (entered : List LocalPlace) → d.hides ≡ innermost_in locals name → entered ≡ record { name = name; place = length ds } ∷ locals → names_of longer file tags entered identifiers uses refused ≡ with_local (names_of ds file tags locals identifiers uses refused) name (as_visible d)
   local_shown entered hides is =
-      ap (λ (ls : List Declaration). names_of ls file tags entered identifiers refused) one_more
-      ∙ ap (λ (ls : List LocalPlace). names_of (ds ++ d ∷ []) file tags ls identifiers refused) is
-      ∙ same_names _ _ _ _ _ _ _ _ refused (table_kept ds d file below.file_below) (table_kept ds d tags below.tags_below) (blocks_shown ds d locals name hides below.locals_below) (identifiers_kept ds d identifiers below.identifiers_below)
+      ap (λ (ls : List Declaration). names_of ls file tags entered identifiers uses refused) one_more
+      ∙ ap (λ (ls : List LocalPlace). names_of (ds ++ d ∷ []) file tags ls identifiers uses refused) is
+      ∙ same_names _ _ _ _ _ _ _ _ (map plain_use uses) refused (table_kept ds d file below.file_below) (table_kept ds d tags below.tags_below) (blocks_shown ds d locals name hides below.locals_below) (identifiers_kept ds d identifiers below.identifiers_below)

@@ -7,10 +7,10 @@ use Rattle.std.proofs.Math.Path.{fun_ext}
 use Rattle.std.proofs.lemmas.Bool.{cases_Bool}
 use Rattle.cond_formula.specs.Conditions.{Condition, value}
 use Rattle.core_meaning.specs.Entities.{Table, with_entry, or_else}
-use Rattle.scope_readings.specs.Scopes.{Pairing, Scopes, or_own, paired, tagged, named, shown, Scope, file_scope, block_scope, members}
-use Rattle.cond_bindings.specs.Bindings.{Visible, PlainIdentifier, innermost, first, declared_by, declares, pairings_at}
+use Rattle.scope_readings.specs.Scopes.{Pairing, Scopes, or_own, paired, is_of_file, file_used, tagged, named, shown, Scope, file_scope, block_scope, members}
+use Rattle.cond_bindings.specs.Bindings.{Visible, PlainIdentifier, innermost, first, declared_by, declares, pairings_at, PlainUse, uses_at}
 use Rattle.cond_bindings.specs.Names.{PlainNames, visible_in, seen, Steps, some_undeclared, TellsUndeclared}
-use Rattle.cond_bindings.specs.NameSteps.{noted, with_visible, with_file, with_tag, with_local, before_in}
+use Rattle.cond_bindings.specs.NameSteps.{noted, with_use, with_visible, with_file, with_tag, with_local, before_in}
 
 -- ---- steps
 
@@ -45,6 +45,43 @@ pub noted_steps : (on : ℕ → Bool) (b : Bool) (coming : List ℕ) (names : Pl
 noted_steps on true coming names i refused there = ap (λ (ps : List Pairing). record (seen on coming names) { found = ps }) (found_more on true names.identifiers i there)
 noted_steps on false coming names i refused there =
     ap (λ (ps : List Pairing). record (seen on coming names) { found = ps }) (found_more on false names.identifiers i there ∙ append-nil (pairings_at on names.identifiers))
+
+-- ---- names of file scope that are used
+
+or_assoc : (a b c : Bool) → ((a || b) || c) ≡ (a || (b || c))
+or_assoc true b c = refl
+or_assoc false b c = refl
+
+or_false : (a : Bool) → (a || false) ≡ a
+or_false true = refl
+or_false false = refl
+
+uses_more : (on : ℕ → Bool) (uses : List PlainUse) (u : PlainUse) (name : List ℕ) → uses_at on (uses ++ u ∷ []) name ≡ (uses_at on uses name || (value on u.when && bytes_eq u.name name))
+uses_more on [] u name = or_false (value on u.when && bytes_eq u.name name)
+uses_more on (v ∷ uses) u name =
+    let here : Bool = value on v.when && bytes_eq v.name name in
+    ap (λ (b : Bool). here || b) (uses_more on uses u name) ∙ sym (or_assoc here (uses_at on uses name) (value on u.when && bytes_eq u.name name))
+
+abbrev with_more : Bool → List ℕ → Scopes → Scopes
+with_more b name s = record s { uses = λ other. s.uses other || (b && bytes_eq name other) }
+
+used_more : (on : ℕ → Bool) (coming : List ℕ) (names : PlainNames) (u : PlainUse) → seen on coming (with_use names u) ≡ with_more (value on u.when) u.name (seen on coming names)
+used_more on coming names u = ap (λ (t : List ℕ → Bool). record (seen on coming names) { uses = t }) (fun_ext (uses_more on names.uses u))
+
+no_more : (name : List ℕ) (s : Scopes) → with_more false name s ≡ s
+no_more name s = ap (λ (t : List ℕ → Bool). record s { uses = t }) (fun_ext (λ other. or_false (s.uses other)))
+
+-- a use that is nowhere isn't seen
+pub nowhere_used : (on : ℕ → Bool) (coming : List ℕ) (names : PlainNames) (u : PlainUse) → value on u.when ≡ false → seen on coming names ≡ seen on coming (with_use names u)
+nowhere_used on coming names u is = sym (used_more on coming names u ∙ ap (λ (b : Bool). with_more b u.name (seen on coming names)) is ∙ no_more u.name (seen on coming names))
+
+-- a use that was noted as an identifier is noted as one of a name of file scope, where it is one
+pub use_steps :
+    (on : ℕ → Bool) (b : Bool) (before coming : List ℕ) (by : Option ℕ) (old mid new : PlainNames) (u : PlainUse) → value on u.when ≡ (b && is_of_file u.name (seen on before old))
+    → Steps on b before (paired by) coming old mid → seen on coming new ≡ seen on coming (with_use mid u) → Steps on b before (λ s. paired by (file_used u.name s)) coming old new
+use_steps on true before coming by old mid new u is steps same =
+    same ∙ used_more on coming mid u ∙ ap (with_more (value on u.when) u.name) steps ∙ ap (λ (b : Bool). with_more b u.name (paired by (seen on before old))) is
+use_steps on false before coming by old mid new u is steps same = same ∙ sym (nowhere_used on coming mid u is) ∙ steps
 
 -- what a declarator names
 pub named_is : (on : ℕ → Bool) (scope : Scope) (coming : List ℕ) (number : ℕ) (name : List ℕ) (names : PlainNames) → paired (declared_by on number (declares (before_in scope names name))) (seen on (number ∷ coming) names) ≡ named scope name (seen on (number ∷ coming) names)
@@ -115,14 +152,6 @@ module _ (on : ℕ → Bool) (name : List ℕ) (v : Visible) where
       ap (λ (t : Table ℕ). record (seen on coming (noted names i)) { tags = t }) (file_hidden names.tags there) ∙ noted_steps on false coming names i names.refused at
 
 -- ---- undeclared identifiers
-
-or_assoc : (a b c : Bool) → ((a || b) || c) ≡ (a || (b || c))
-or_assoc true b c = refl
-or_assoc false b c = refl
-
-or_false : (a : Bool) → (a || false) ≡ a
-or_false true = refl
-or_false false = refl
 
 undeclared-append : (ps qs : List Pairing) → some_undeclared (ps ++ qs) ≡ (some_undeclared ps || some_undeclared qs)
 undeclared-append [] qs = refl

@@ -1,6 +1,6 @@
 -- Where none of the declarations is there that a use may see.
 use Rattle.std.proofs.Common.{◌≡◌, ℕ, ◌<◌, ◌≤◌, Bool, true, false, not, ◌&&◌, List, [], ◌∷◌, length, take, get_or, IsTrue, refl, sym, ap, ◌∙◌, arith}
-use Rattle.std.specs.Prelude.{Option, Some, None, is_none, if◌then◌else◌}
+use Rattle.std.specs.Prelude.{Option, Some, None, is_none, is_some, if◌then◌else◌}
 use Rattle.std.proofs.lemmas.List.{length-take}
 use Rattle.cond_formula.specs.Conditions.{condition_of, value}
 use Rattle.core_meaning.specs.Entities.{or_else}
@@ -75,3 +75,18 @@ undeclared_is on path block file =
     ∙ ap (λ b. path && (b && none_there on file)) (sym (innermost_is_none on block))
     ∙ ap (λ b. path && (is_none (innermost on block) && b)) (sym (first_is_none on file))
     ∙ ap (λ b. path && b) (sym (none_of_both (innermost on block) (first on file)))
+
+not_some : (o : Option ℕ) → is_none o ≡ not (is_some o)
+not_some None = refl
+not_some (Some n) = refl
+
+is_there : (o : Option ℕ) → not (is_none o) ≡ is_some o
+is_there None = refl
+is_there (Some n) = refl
+
+-- of file scope is what has no declaration in open blocks, and one at file scope
+pub of_file_is : (on : ℕ → Bool) (path : Bool) (block file : List Visible) → ((path && none_there on block) && not (none_there on file)) ≡ (path && (not (is_some (innermost on block)) && is_some (first on file)))
+of_file_is on path block file =
+    and_assoc path (none_there on block) (not (none_there on file))
+    ∙ ap (λ b. path && (b && not (none_there on file))) (sym (innermost_is_none on block) ∙ not_some (innermost on block))
+    ∙ ap (λ b. path && (not (is_some (innermost on block)) && b)) (ap not (sym (first_is_none on file)) ∙ is_there (first on file))

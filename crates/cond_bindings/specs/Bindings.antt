@@ -1,9 +1,12 @@
 -- What the identifiers of a unit are bound to in all configurations (ISO/IEC 9899:2011, 6.2.1 to 6.2.3), and what a configuration sees of it.
-use Rattle.std.specs.Prelude.{ℕ, Bool, ◌==◌, List, [], ◌∷◌, map, reverse, length, Option, Some, None, if◌then◌else◌}
+use Rattle.std.specs.Prelude.{ℕ, Bool, ◌==◌, ◌&&◌, List, [], ◌∷◌, map, reverse, length, Option, Some, None, if◌then◌else◌}
+use Rattle.std.specs.List.{list_any}
+use Rattle.std.specs.Str.{bytes_eq}
 use Rattle.cond_formula.specs.Conditions.{Condition, value, condition_of}
 use Rattle.core_meaning.specs.Entities.{or_else}
 use Rattle.scope_readings.specs.Scopes.{Pairing, or_own}
 use Rattle.cond_bindings.specs.declared.unit_bindings.Declaration.{Declaration}
+use Rattle.cond_bindings.specs.declared.unit_bindings.FileUse.{FileUse}
 use Rattle.cond_bindings.specs.declared.unit_bindings.Identifier.{Identifier}
 use Rattle.cond_bindings.specs.declared.unit_bindings.Meaning.{Meaning}
 use Rattle.cond_bindings.specs.declared.unit_bindings.Meaning.TheVariants.{Use, Declares}
@@ -48,6 +51,17 @@ plain_identifier declarations i = record { number = i.number; when = condition_o
 abbrev pub identifiers_of : UnitBindings → List PlainIdentifier
 identifiers_of unit = map (plain_identifier unit.declarations.items) unit.identifiers.items
 
+-- a name of file scope that an expression uses where the condition is true
+pub record PlainUse : Type 0 where
+  pub name : List ℕ
+  pub when : Condition
+
+abbrev pub plain_use : FileUse → PlainUse
+plain_use u = record { name = u.name.items; when = condition_of u.when }
+
+abbrev pub file_uses_of : UnitBindings → List PlainUse
+file_uses_of unit = map plain_use unit.uses.items
+
 -- ---- what a configuration sees
 
 module _ (on : ℕ → Bool) where
@@ -73,3 +87,7 @@ module _ (on : ℕ → Bool) where
   pairings_at (i ∷ rest) =
       if value on i.when then record { number = i.number; declared_by = declared_by i.number i.meaning } ∷ pairings_at rest
       else pairings_at rest
+
+  -- whether some expression uses this name of file scope
+  abbrev pub uses_at : List PlainUse → List ℕ → Bool
+  uses_at uses name = list_any (λ u. value on u.when && bytes_eq u.name name) uses

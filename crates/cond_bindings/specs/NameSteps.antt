@@ -4,7 +4,7 @@ use Rattle.std.specs.Str.{bytes_eq}
 use Rattle.cond_formula.specs.Conditions.{condition_of}
 use Rattle.cond_bindings.specs.declared.unit_bindings.Declaration.{Declaration}
 use Rattle.scope_readings.specs.Scopes.{Scope, file_scope, block_scope, members}
-use Rattle.cond_bindings.specs.Bindings.{Visible, PlainIdentifier}
+use Rattle.cond_bindings.specs.Bindings.{Visible, PlainIdentifier, PlainUse}
 use Rattle.cond_bindings.specs.Names.{PlainNames, visible_in}
 
 abbrev pub as_visible : Declaration → Visible
@@ -12,6 +12,9 @@ as_visible d = record { when = condition_of d.when; number = d.number }
 
 abbrev pub noted : PlainNames → PlainIdentifier → PlainNames
 noted names i = record names { identifiers = names.identifiers ++ i ∷ [] }
+
+abbrev pub with_use : PlainNames → PlainUse → PlainNames
+with_use names u = record names { uses = names.uses ++ u ∷ [] }
 
 -- of the name there is one more declaration, the latest
 abbrev pub with_visible : (List ℕ → List Visible) → List ℕ → Visible → List ℕ → List Visible

@@ -3,7 +3,7 @@ use Rattle.std.specs.Prelude.{◌≡◌, ℕ, Bool, true, false, ◌||◌, List,
 use Rattle.std.specs.Str.{bytes_eq}
 use Rattle.cond_formula.specs.Conditions.{Condition, value}
 use Rattle.scope_readings.specs.Scopes.{Pairing, Scopes}
-use Rattle.cond_bindings.specs.Bindings.{Visible, PlainIdentifier, innermost, first, pairings_at}
+use Rattle.cond_bindings.specs.Bindings.{Visible, PlainIdentifier, PlainUse, innermost, first, pairings_at, uses_at}
 
 -- a name that a block declares: this declaration, and those of blocks that it hides
 pub record BlockName : Type 0 where
@@ -17,6 +17,8 @@ pub record PlainNames : Type 0 where
   -- the names that open blocks declare, the latest first
   pub blocks : List BlockName
   pub identifiers : List PlainIdentifier
+  -- the names of file scope that expressions use
+  pub uses : List PlainUse
   -- where an identifier is undeclared
   pub refused : Condition
 
@@ -32,6 +34,7 @@ seen on coming names = record {
   tags = λ name. first on (names.tags name);
   blocks = λ name. innermost on (visible_in names.blocks name);
   found = pairings_at on names.identifiers;
+  uses = uses_at on names.uses;
 }
 
 -- on a path the names become what a step makes of what is seen, and elsewhere they stay

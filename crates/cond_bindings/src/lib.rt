@@ -2,6 +2,7 @@
 #![tactic(auto)]
 
 mod declarations;
+mod file_uses;
 mod locals;
 mod names;
 mod occurrences;
@@ -10,4 +11,4 @@ mod unit_bindings;
 
 pub use names::Names;
 pub use occurrences::{Occurrence, Scope};
-pub use unit_bindings::{CondBindings, Declaration, Identifier, Meaning, UnitBindings};
+pub use unit_bindings::{CondBindings, Declaration, FileUse, Identifier, Meaning, UnitBindings};

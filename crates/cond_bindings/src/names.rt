@@ -5,13 +5,15 @@ ghost use Rattle.name_places.specs.Places.{place_of};
 ghost use Rattle.cond_bindings.specs.Places.{TableBelow, IdentifiersBelow, LocalsBelow};
 
 use crate::declarations::show;
+use crate::file_uses::where_of_file;
 use crate::locals::{LocalName, innermost_place, show_local};
 use crate::occurrences::{Occurrence, Scope};
 use crate::undeclared::{where_undeclared, with_undeclared};
-use crate::unit_bindings::{Identifier, Meaning, UnitBindings};
+use crate::unit_bindings::{FileUse, Identifier, Meaning, UnitBindings};
 use cond_formula::{Formula, NoMemory, Oracle};
 use name_places::place_in;
 use path_conditions::conjoined;
+use reduced_conditions::is_never;
 use std::alloc::Global;
 use std::collections::HashMap;
 use std::mem;
@@ -38,9 +40,9 @@ impl Names {
     ghost use Rattle.cond_formula.specs.Conditions.{condition_of, conditions_of, value, all_true};
     ghost use Rattle.core_meaning.specs.Entities.{or_else};
     ghost use Rattle.scope_readings.specs.Scopes as scopes;
-    ghost use Rattle.cond_bindings.specs.Bindings.{visible, plain_meaning, identifiers_of, innermost, first};
+    ghost use Rattle.cond_bindings.specs.Bindings.{visible, plain_meaning, identifiers_of, file_uses_of, innermost, first};
     ghost use Rattle.cond_bindings.specs.Names.{BlockName, visible_in, seen, Steps, Grows, TellsUndeclared};
-    ghost use Rattle.cond_bindings.specs.NameSteps.{noted, with_file, with_tag, with_local, before_in};
+    ghost use Rattle.cond_bindings.specs.NameSteps.{noted, with_use, with_file, with_tag, with_local, before_in};
     ghost use Rattle.cond_bindings.specs.Places.{is_below, meaning_below};
     ghost use Rattle.cond_bindings.specs.PlainNames.{plain_names};
     ghost use Rattle.cond_bindings.specs.Scopes.{plain_scope};
@@ -56,6 +58,7 @@ impl Names {
             bindings: UnitBindings {
                 declarations: Vec::new(alloc),
                 identifiers: Vec::new(alloc),
+                uses: Vec::new(alloc),
             },
             file: HashMap::new(alloc),
             tags: HashMap::new(alloc),
@@ -140,6 +143,29 @@ impl Names {
         Ok(())
     }
 
+    /// An expression uses a name of file scope.
+    fn note_file_use(&mut self, alloc: Global, name: &[u8], when: Formula) -> Result<(), NoMemory>
+        ensures { OnOk result (plain_names self.new ≡ with_use (plain_names self.old) record { name = name.now; when = condition_of when }) }
+    {
+        let name = Vec::from_slice(alloc, name)?;
+        self.bindings.uses.push(FileUse { name, when })?;
+        Ok(())
+    }
+
+    /// An expression uses a name of file scope, if that may be.
+    fn use_file(&mut self, alloc: Global, name: &[u8], when: Formula) -> Result<(), NoMemory>
+        ensures seen { OnOk result ((on : ℕ → Bool) (coming : List ℕ)
+            → seen on coming (plain_names self.new) ≡ seen on coming (with_use (plain_names self.old) record { name = name.now; when = condition_of when })) }
+        ensures blocks { OnOk result ((plain_names self.new).blocks ≡ (plain_names self.old).blocks) }
+        ensures tells { OnOk result ((on : ℕ → Bool) → TellsUndeclared on (plain_names self.old) → TellsUndeclared on (plain_names self.new)) }
+    {
+        if is_never(&when) {
+            return Ok(());
+        }
+        self.note_file_use(alloc, name, when)?;
+        Ok(())
+    }
+
     /// An ordinary name that is used.
     pub fn used<O: Oracle>(
         &mut self,
@@ -157,7 +183,10 @@ impl Names {
     {
         let block = self.block_place(occurrence.name);
         let file = self.file_place(occurrence.name);
+        let declarations = self.bindings.declarations.as_slice();
+        let of_file = where_of_file(alloc, declarations, block, file, occurrence.path)?;
         self.note_use(alloc, occurrence, block, file, oracle)?;
+        self.use_file(alloc, occurrence.name, of_file)?;
         Ok(())
     }
 
@@ -344,9 +373,10 @@ impl Names {
         self.blocks.truncate(kept);
     }
 
-    /// What the identifiers are bound to, and the condition under which one of them is undeclared.
+    /// What the identifiers are bound to with the names of file scope that are used, and the condition under which one of them is undeclared.
     pub fn finished(self) -> (UnitBindings, Formula)
         ensures identifiers { identifiers_of result.0 ≡ (plain_names self).identifiers }
+        ensures uses { file_uses_of result.0 ≡ (plain_names self).uses }
         ensures refused { condition_of result.1 ≡ (plain_names self).refused }
     {
         let Names {

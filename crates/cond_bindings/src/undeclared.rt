@@ -14,7 +14,7 @@ use reduced_conditions::{either, is_never};
 use std::alloc::Global;
 
 /// The path without the configurations that see a declaration from the place on, or nothing if each of the path's does.
-fn without_visible(
+pub fn without_visible(
     alloc: Global,
     declarations: &[Declaration],
     latest: Option<u32>,

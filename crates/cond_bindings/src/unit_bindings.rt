@@ -33,12 +33,23 @@ pub struct Identifier {
     pub meaning: Meaning,
 }
 
+/// A name of file scope that an expression uses.
+#[derive(Drop)]
+pub struct FileUse {
+    pub name: Vec<u8>,
+    /// The condition under which the expression is there, and the name is declared at file scope before it and in no block
+    /// around it.
+    pub when: Formula,
+}
+
 /// What the identifiers of a unit are bound to.
 #[derive(Drop)]
 pub struct UnitBindings {
     pub declarations: Vec<Declaration>,
     /// The identifiers in the order of the text.
     pub identifiers: Vec<Identifier>,
+    /// The names of file scope that expressions use; a name may stand here more than once.
+    pub uses: Vec<FileUse>,
 }
 
 /// What the identifiers of all units are bound to, in all configurations.

@@ -11,18 +11,15 @@ use Rattle.core_meaning.specs.Entities.{Struct, Signature, variable, function, t
 use Rattle.core_meaning.specs.Linking.{TypesAgree, SortsAgree}
 use Rattle.operand_types.specs.OperandTypes.{renumbered}
 use Rattle.type_tables.specs.Tables as plain
-use Rattle.type_tables.specs.Tables.{object, declared_function}
+use Rattle.type_tables.specs.Tables.{object, declared_function, sort_in}
 use Rattle.type_tables.specs.Seen.{seen_tables}
 use Rattle.type_tables.specs.declared.tables.Tables.{Tables}
 use Rattle.typed_scopes.specs.Follows.{AreThere, SortIsThere, StructFollows, SortFollows, renumbered_signature}
 use Rattle.cond_compatible.specs.Depths.{types_agree, parameters_agree, sorts_agree}
 use Rattle.cond_compatible.specs.SeenTags.{tags_seen}
-use Rattle.cond_compatible.specs.SeenSorts.{sort_seen, SeenSortsAgree}
+use Rattle.cond_compatible.specs.SeenSorts.{SeenSortsAgree}
 use Rattle.cond_compatible.proofs.AgreeLaws.{both_true, left_true, right_true}
 use Rattle.cond_compatible.proofs.Renumbered.{stay_compatible}
-
-abbrev pub signature_of_parts : PlainType → List PlainType → Signature
-signature_of_parts result parameters = record { result = result; parameters = parameters }
 
 module _ (alike : ℕ → ℕ → Bool) (tags : List PlainTag) (told : (a b : PlainType) → IsTrue (types_agree alike a b) ↔ Compatible tags tags a b) where
   parameters_told : (as_ bs : List PlainType) → IsTrue (parameters_agree alike as_ bs) → AllZip (TypesAgree tags) as_ bs
@@ -81,20 +78,20 @@ module _ (on : ℕ → Bool) (tables : Tables) (structs : List Struct) (by : ℕ
       let rest = parameters_stay f.parameters g.parameters p.1 q.1 in
       (λ h. (one.0 h.0, rest.0 h.1), λ h. (one.1 h.0, rest.1 h.1))
 
-  abbrev seen_sort : plain.Sort → scopes.Sort
-  seen_sort x = sort_seen (seen_tables on tables) x
+  abbrev pub seen_sort : plain.Sort → scopes.Sort
+  seen_sort x = sort_in (seen_tables on tables).signatures x
 
-  abbrev renumbered_sort : scopes.Sort → scopes.Sort
+  abbrev pub renumbered_sort : scopes.Sort → scopes.Sort
   renumbered_sort (variable ty) = variable (renumbered by ty)
   renumbered_sort (function f) = function (renumbered_signature by f)
 
-  sort_followed : (a : scopes.Sort) (x : plain.Sort) → SortFollows by (seen_tables on tables).signatures a x → seen_sort x ≡ renumbered_sort a
+  pub sort_followed : (a : scopes.Sort) (x : plain.Sort) → SortFollows by (seen_tables on tables).signatures a x → seen_sort x ≡ renumbered_sort a
   sort_followed (variable ty) (object other) h = ap variable h
   sort_followed (variable ty) (declared_function number) h = absurd h
   sort_followed (function f) (object other) h = absurd h
   sort_followed (function f) (declared_function number) h = ap function h
 
-  renumbered_stay : (a b : scopes.Sort) → SortIsThere structs a → SortIsThere structs b
+  pub renumbered_stay : (a b : scopes.Sort) → SortIsThere structs a → SortIsThere structs b
       → SortsAgree (tags_of structs) a b ↔ SortsAgree (tags_seen on tables) (renumbered_sort a) (renumbered_sort b)
   renumbered_stay (variable a) (variable b) p q = stay_compatible on tables structs by follow a b p q
   renumbered_stay (variable a) (function g) p q = (λ h. absurd h, λ h. absurd h)

@@ -13,5 +13,5 @@ mod types;
 pub use alike::AlikeStructs;
 pub use comparing::{alike_structs, where_compatible};
 pub use laws::{agreeing_sorts_stay_so, compatible_types_stay_so};
-pub use sorts::where_sorts_agree;
+pub use sorts::{where_alike_sorts_agree, where_signatures_agree, where_sorts_agree};
 pub use types::where_types_agree;

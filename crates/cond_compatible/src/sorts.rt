@@ -1,19 +1,19 @@
 //! Where declarations of a name in several units agree (6.2.7).
-ghost use Rattle.std.specs.Prelude.{◌≡◌, ◌↔◌, ℕ, Bool, not, List, Some, None, IsTrue, IfOk};
+ghost use Rattle.std.specs.Prelude.{◌≡◌, ◌↔◌, Bool, not, List, Some, IsTrue, IfOk};
 ghost use Rattle.cond_formula.specs.Features.{has};
 ghost use Rattle.cond_formula.specs.Conditions.{condition_of, value};
 ghost use Rattle.conditional.specs.Entries.{seen, listed, first};
 ghost use Rattle.c_types.specs.Types.{PlainType};
 ghost use Rattle.operand_rules.specs.PlainOperandTypes.{reason};
+ghost use Rattle.type_tables.specs.Tables.{sort_in};
 ghost use Rattle.type_tables.specs.Forms.{declared_type_form, sort_form};
 ghost use Rattle.type_tables.specs.Seen.{seen_tables, signature_of};
 ghost use Rattle.cond_compatible.specs.Depths.{types_agree, parameters_agree, signatures_agree, sorts_agree, unless_agreed};
 ghost use Rattle.cond_compatible.specs.SeenTags.{said_alike, Tells};
-ghost use Rattle.cond_compatible.specs.SeenSorts.{sort_seen, SeenSortsAgree};
+ghost use Rattle.cond_compatible.specs.SeenSorts.{SeenSortsAgree};
 
 use crate::alike::AlikeStructs;
 use crate::types::where_types_agree;
-use c_types::CType;
 use cond_formula::{Formula, NoMemory, Oracle};
 use conditional::{CondList, when_some_hold};
 use matched_lists::{Longer, Matching, match_lists};
@@ -69,7 +69,7 @@ fn where_parameters_differ<O: Oracle>(
 }
 
 /// Where two functions agree, in what they return and in their parameters.
-fn where_signatures_agree<O: Oracle>(
+pub fn where_signatures_agree<O: Oracle>(
     alloc: Global,
     oracle: &mut O,
     alike: &AlikeStructs,
@@ -83,20 +83,6 @@ fn where_signatures_agree<O: Oracle>(
     let results = where_types_agree(alloc, alike, &f.result, &g.result)?;
     let differ = where_parameters_differ(alloc, oracle, alike, &f.parameters, &g.parameters)?;
     without(alloc, results, &differ)
-}
-
-/// The declaration of a function with this number; one that isn't there is taken for the given one.
-fn signature_at<'t>(
-    tables: &'t Tables,
-    number: u32,
-    otherwise: &'t CondSignature,
-) -> &'t CondSignature
-    ensures { (on : ℕ → Bool) → signature_of on (Some otherwise.now) ≡ signature_of on None → signature_of on (Some result.now) ≡ (seen_tables on tables.now).signatures number }
-{
-    match tables.signatures.get(number as usize) {
-        Some(signature) => signature,
-        None => otherwise,
-    }
 }
 
 /// Where the functions of two declarations agree.
@@ -113,18 +99,15 @@ fn where_functions_agree<O: Oracle>(
         → value (has c) (condition_of f)
         ≡ signatures_agree (said_alike (has c) alike.now) ((seen_tables (has c) tables.now).signatures number) ((seen_tables (has c) tables.now).signatures other)) }
 {
-    let none = CondSignature {
-        result: CType::Void,
-        parameters: CondList::empty(alloc),
-    };
-    let f = signature_at(tables, number, &none);
-    let g = signature_at(tables, other, &none);
+    let none = CondSignature::none(alloc);
+    let f = tables.signature_or(number, &none);
+    let g = tables.signature_or(other, &none);
     where_signatures_agree(alloc, oracle, alike, f, g)
 }
 
 /// Where two sorts of names agree by structs that are alike.
 #[tactic(auto, using(cond_formula::specs::ConditionLaws::formula_kinds))]
-fn where_alike_sorts_agree<O: Oracle>(
+pub fn where_alike_sorts_agree<O: Oracle>(
     alloc: Global,
     oracle: &mut O,
     tables: &Tables,
@@ -135,7 +118,7 @@ fn where_alike_sorts_agree<O: Oracle>(
     ensures kept { O.admits oracle.new ≡ O.admits oracle.old }
     ensures exact { IfOk result (λ f. (c : List Bool) → IsTrue (value (has c) (O.admits oracle.old))
         → value (has c) (condition_of f)
-        ≡ sorts_agree (said_alike (has c) alike.now) (sort_seen (seen_tables (has c) tables.now) (sort_form a.now)) (sort_seen (seen_tables (has c) tables.now) (sort_form b.now))) }
+        ≡ sorts_agree (said_alike (has c) alike.now) (sort_in (seen_tables (has c) tables.now).signatures (sort_form a.now)) (sort_in (seen_tables (has c) tables.now).signatures (sort_form b.now))) }
 {
     match (a, b) {
         (Sort::Object(ty), Sort::Object(other)) => where_types_agree(alloc, alike, ty, other),

@@ -20,7 +20,7 @@ use Rattle.type_tables.specs.Tables.{Tables, is_complete_type}
 use Rattle.typed_scopes.specs.Follows.{IsThere, Follows}
 use Rattle.cond_declarators.specs.Elements.{array_type}
 
-pointers_renumbered : (by : ℕ → ℕ) (n : ℕ) (ty : PlainType) → renumbered by (pointers n ty) ≡ pointers n (renumbered by ty)
+pub pointers_renumbered : (by : ℕ → ℕ) (n : ℕ) (ty : PlainType) → renumbered by (pointers n ty) ≡ pointers n (renumbered by ty)
 pointers_renumbered by zero ty = refl
 pointers_renumbered by (suc n) ty = ap pointer_to (pointers_renumbered by n ty)
 
@@ -39,7 +39,7 @@ characters_renumbered by (pointer_to ty) = refl
 characters_renumbered by (array_of ty count) = refl
 characters_renumbered by (structure n) = refl
 
-pointers_there : (structs : List Struct) (n : ℕ) (ty : PlainType) → IsThere structs ty → IsThere structs (pointers n ty)
+pub pointers_there : (structs : List Struct) (n : ℕ) (ty : PlainType) → IsThere structs ty → IsThere structs (pointers n ty)
 pointers_there structs zero ty there = there
 pointers_there structs (suc n) ty there = pointers_there structs n ty there
 

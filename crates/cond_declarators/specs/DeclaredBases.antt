@@ -1,11 +1,11 @@
 -- What comes of words that may declare a struct (6.7.2.3).
-use Rattle.std.specs.Prelude.{◌≡◌, ℕ, Bool, true, false, List, Some, slice_get}
+use Rattle.std.specs.Prelude.{◌≡◌, ℕ, Bool, true, false}
 use Rattle.c_types.specs.Types.{PlainType}
 use Rattle.c_tree.specs.Trees.{PlainTree}
 use Rattle.conditional.specs.Judgements.{Checked, fine, refused, Shows}
 use Rattle.conditional.specs.declared.outcomes.Outcomes.{Outcomes}
 use Rattle.core_meaning.specs.Checking as judging
-use Rattle.core_meaning.specs.Entities.{Struct, Scope}
+use Rattle.core_meaning.specs.Entities.{Scope}
 use Rattle.core_meaning.specs.Declarations.{Based}
 use Rattle.operand_rules.specs.declared.operands.Refused.{Refused}
 use Rattle.operand_rules.specs.PlainOperandTypes.{reason}
@@ -13,11 +13,8 @@ use Rattle.type_tables.specs.Forms.{declared_type_form}
 use Rattle.type_tables.specs.Tables.{Tables}
 use Rattle.type_tables.specs.declared.entries.DeclaredType.{DeclaredType}
 use Rattle.typed_scopes.specs.Follows.{IsThere, Follows}
+use Rattle.typed_scopes.specs.Numbers.{NumbersKept}
 use Rattle.cond_declarators.specs.Types.{ShowsType, based_in, base_type}
-
--- the structs that are there have the same numbers
-abbrev pub NumbersKept : List Struct → (ℕ → ℕ) → (ℕ → ℕ) → Type 0
-NumbersKept structs by other = (n : ℕ) (s : Struct) → slice_get structs n ≡ Some s → by n ≡ other n
 
 -- the tables follow what is visible behind the words; this type comes of them, and the struct that it is made of is there
 pub record IsBased (comes : Checked PlainType (Unit {0}) → Type 0) (scope : Scope) (by : ℕ → ℕ) (new : Tables) (b : Based) : Type 0 where

@@ -1,4 +1,3 @@
-pub mod Given
 pub mod Staying
 pub mod OneFunction
 pub mod OneDeclarator

@@ -1,40 +1,30 @@
 -- The declaration of a function behind one type, by what the tables say before and behind it.
 use Rattle.std.proofs.Common.{arith, ◌≡◌, ℕ, zero, suc, Bool, true, false, not, ◌||◌, ◌&&◌, List, [], ◌∷◌, refl, sym, ap, ap₂, ◌∙◌, subst}
-use Rattle.std.specs.Prelude.{◌<◌, Option, Some, None, is_some, if◌then◌else◌}
+use Rattle.std.specs.Prelude.{◌<◌, Some, if◌then◌else◌}
 use Rattle.std.proofs.lemmas.Bool.{false≢true, eq-eqb}
 use Rattle.c_text.specs.Token.{PlainToken}
 use Rattle.c_types.specs.Types.{PlainType, pointer_to}
 use Rattle.c_tree.specs.Trees.{PlainTree}
-use Rattle.core_meaning.specs.declared.refusals.TypeKind.TheVariants.{Redeclared}
+use Rattle.core_meaning.specs.declared.refusals.TypeKind.TheVariants.{Redeclared, BadOperand}
 use Rattle.core_meaning.specs.Checking.{Binding, file_entity, Checked, fine, refused, broken, with_bindings, ◌>>=◌, give, unless_so}
 use Rattle.core_meaning.specs.Entities.{Struct, Signature, Scope, function}
 use Rattle.core_meaning.specs.Declarations.{pointers, Parameter, parameters_of}
-use Rattle.core_meaning.specs.UnitNames.{Storage, UnitState, with_name, with_scope, may_be_function, signature_of, refused_initialiser}
+use Rattle.core_meaning.specs.UnitNames.{Storage, UnitState, with_name, with_scope, may_be_function, signature_of}
 use Rattle.operand_types.specs.OperandTypes.{renumbered}
 use Rattle.type_tables.specs.Tables.{Tables}
 use Rattle.type_tables.specs.Steps.{with_signature}
 use Rattle.typed_scopes.specs.Follows.{IsThere, renumbered_signature, SortIsThere, Follows}
+use Rattle.typed_scopes.specs.Numbers.{FollowsBy}
 use Rattle.typed_scopes.proofs.Names.{function_declared, function_by}
-use Rattle.name_declarations.specs.Names.{IsFollowed, Named}
+use Rattle.cond_declarators.proofs.DeclaratorTypes.{pointers_renumbered, pointers_there}
+use Rattle.name_declarations.specs.Names.{Named}
 use Rattle.cond_parameters.specs.Parameters.{IsList}
 use Rattle.cond_objects.specs.Seen.{SeenUnit}
 use Rattle.cond_objects.specs.Units.{IsUnit, GoesOn, DeclaresTyped}
 use Rattle.cond_objects.proofs.Judging.{Keeps, name_keeps}
-use Rattle.cond_functions.specs.Functions.{function_of_list, GivesTypes}
+use Rattle.cond_objects.proofs.OneDeclarator.{goes_still}
+use Rattle.cond_functions.specs.Functions.{function_of_head, GivesTypes}
 use Rattle.cond_functions.specs.Where.{Stays, Where}
-
-pub goes_still : (by : ℕ → ℕ) (structs : List Struct) (before : List Binding) (next : Checked UnitState) (declined : Bool) (seen : SeenUnit) → GoesOn by structs next declined seen → GoesOn by structs (with_bindings before next) declined seen
-goes_still by structs before (fine unit bindings) declined seen h = h
-goes_still by structs before (refused kind token) declined seen h = h
-goes_still by structs before broken declined seen h = h
-
-pointers_renumbered : (by : ℕ → ℕ) (n : ℕ) (ty : PlainType) → renumbered by (pointers n ty) ≡ pointers n (renumbered by ty)
-pointers_renumbered by zero ty = refl
-pointers_renumbered by (suc n) ty = ap pointer_to (pointers_renumbered by n ty)
-
-pointers_there : (structs : List Struct) (n : ℕ) (ty : PlainType) → IsThere structs ty → IsThere structs (pointers n ty)
-pointers_there structs zero ty there = there
-pointers_there structs (suc n) ty there = pointers_there structs n ty there
 
 -- ---- one of four refusals is there, or none is
 
@@ -62,9 +52,9 @@ none_of a b c d ha hb hc hd = ap₂ (λ (x y : Bool). x || y) (ap₂ (λ (x y : 
 abbrev pub as_signature : PlainType → List PlainType → Signature
 as_signature result types = record { result = result; parameters = types }
 
-module _ (storage : Storage) (stars : ℕ) (name : PlainToken) (list : PlainTree) (initialiser : Option PlainTree) (ty : PlainType) (old new : SeenUnit) (conflicting invalid differs given declined : Bool) (types : List PlainType)
+module _ (storage : Storage) (stars : ℕ) (name : PlainToken) (list : PlainTree) (initialised : Bool) (ty : PlainType) (old new : SeenUnit) (conflicting invalid differs given declined : Bool) (types : List PlainType)
     (declined_is : declined ≡ ((conflicting || invalid) || (differs || given))) (defined_is : new.defined ≡ old.defined) where
-  module _ (given_is : given ≡ is_some initialiser)
+  module _ (given_is : given ≡ initialised)
       (conflicts : (scope : Scope) (follows : Follows old.tables scope) (t : PlainType) → pointers stars ty ≡ renumbered follows.by t → conflicting ≡ not (may_be_function storage t (scope.file_names name.text)))
       (lists : (scope : Scope) (follows : Follows old.tables scope) → IsList list → GivesTypes follows.by scope (parameters_of false scope (Some list) name) types invalid)
       (names : (scope : Scope) (follows : Follows old.tables scope) (s : Signature) → as_signature (pointers stars ty) types ≡ renumbered_signature follows.by s → SortIsThere scope.structs (function s)
@@ -78,15 +68,15 @@ module _ (storage : Storage) (stars : ℕ) (name : PlainToken) (list : PlainTree
           ap (pointers stars) (same ∙ ap (λ (b : ℕ → ℕ). renumbered b whole) (sym is.tables.numbers))
           ∙ sym (pointers_renumbered is.tables.follows.by stars whole)
 
-      abbrev behind_name : Scope → Option PlainTree → Checked UnitState
-      behind_name scope i = refused_initialiser i name >>= (λ u. give (with_scope unit scope))
+      abbrev behind_name : Scope → Bool → Checked UnitState
+      behind_name scope i = unless_so (not i) BadOperand name >>= (λ u. give (with_scope unit scope))
 
       abbrev behind_list : List Parameter → Checked UnitState
-      behind_list ps = with_name unit.scope name (function (signature_of result ps)) storage >>= (λ scope. behind_name scope initialiser)
+      behind_list ps = with_name unit.scope name (function (signature_of result ps)) storage >>= (λ scope. behind_name scope initialised)
 
-      name_goes_on : (scope : Scope) → Keeps unit.scope scope → conflicting ≡ false → invalid ≡ false → differs ≡ false → IsFollowed is.tables.follows.by new.tables scope → (i : Option PlainTree) → given ≡ is_some i
+      name_goes_on : (scope : Scope) → Keeps unit.scope scope → conflicting ≡ false → invalid ≡ false → differs ≡ false → FollowsBy is.tables.follows.by new.tables scope → (i : Bool) → given ≡ i
           → GoesOn by unit.scope.structs (behind_name scope i) declined new
-      name_goes_on scope keeps no_conflict valid no_difference followed None none = (
+      name_goes_on scope keeps no_conflict valid no_difference followed false none = (
         declined_is ∙ none_of conflicting invalid differs given no_conflict valid no_difference none,
         record {
           tables = record { follows = followed.follows; numbers = followed.numbers ∙ is.tables.numbers };
@@ -95,12 +85,12 @@ module _ (storage : Storage) (stars : ℕ) (name : PlainToken) (list : PlainTree
         },
         keeps.structs,
       )
-      name_goes_on scope keeps no_conflict valid no_difference followed (Some tree) some = declined_is ∙ last_of conflicting invalid differs given some
+      name_goes_on scope keeps no_conflict valid no_difference followed true some = declined_is ∙ last_of conflicting invalid differs given some
 
       list_goes_on : conflicting ≡ false → invalid ≡ false → (w : Checked Scope) → ((scope : Scope) (bindings : List Binding) → w ≡ fine scope bindings → Keeps unit.scope scope) → Named is.tables.follows.by w differs new.tables
-          → GoesOn by unit.scope.structs (w >>= (λ scope. behind_name scope initialiser)) declined new
+          → GoesOn by unit.scope.structs (w >>= (λ scope. behind_name scope initialised)) declined new
       list_goes_on no_conflict valid (fine scope bindings) keeps h =
-          goes_still by unit.scope.structs bindings _ declined new (name_goes_on scope (keeps scope bindings refl) no_conflict valid h.0 h.1 initialiser given_is)
+          goes_still by unit.scope.structs bindings _ declined new (name_goes_on scope (keeps scope bindings refl) no_conflict valid h.0 h.1 initialised given_is)
       list_goes_on no_conflict valid (refused kind token) keeps h = declined_is ∙ third_of conflicting invalid differs given h
       list_goes_on no_conflict valid broken keeps h = declined_is ∙ third_of conflicting invalid differs given h
 
@@ -119,19 +109,19 @@ module _ (storage : Storage) (stars : ℕ) (name : PlainToken) (list : PlainTree
       goes_on_by true none = parameters_go_on none (parameters_of false unit.scope (Some list) name) (lists unit.scope is.tables.follows is_list)
       goes_on_by false some = declined_is ∙ first_of conflicting invalid differs given some
 
-      pub function_goes_on : GoesOn by unit.scope.structs (function_of_list storage stars name (Some list) initialiser unit whole) declined new
+      pub function_goes_on : GoesOn by unit.scope.structs (function_of_head storage initialised stars name (Some list) unit whole) declined new
       function_goes_on =
           goes_still by unit.scope.structs (record { entity = file_entity name.text; in_expression = false } ∷ []) _ declined new
           (goes_on_by (may_be_function storage result (unit.scope.file_names name.text)) (conflicts unit.scope is.tables.follows result result_is))
 
-    pub function_typed : DeclaresTyped ty (function_of_list storage stars name (Some list) initialiser) (IsList list) old new declined
-    function_typed = record { goes_on = λ by unit whole is same there ready. function_goes_on by unit whole is same there ready }
+    pub function_typed : DeclaresTyped ty (function_of_head storage initialised stars name (Some list)) (IsList list × (Unit {0})) old new declined
+    function_typed = record { goes_on = λ by unit whole is same there ready. function_goes_on by unit whole is same there ready.0 }
 
   -- one more declaration of a function that no name stands for
   pub declared_elsewhere : (signature : Signature) → new.tables ≡ with_signature signature old.tables → Stays old new
   declared_elsewhere signature more = record {
     stays = λ by unit is. record {
-      tables = subst (λ (t : Tables). IsFollowed by t unit.scope) (sym more) (record {
+      tables = subst (λ (t : Tables). FollowsBy by t unit.scope) (sym more) (record {
         follows = function_declared old.tables unit.scope is.tables.follows signature;
         numbers = function_by old.tables unit.scope is.tables.follows signature ∙ is.tables.numbers;
       });
@@ -142,24 +132,24 @@ module _ (storage : Storage) (stars : ℕ) (name : PlainToken) (list : PlainTree
 
 -- where a condition is true
 pub function_here :
-    (storage : Storage) (stars : ℕ) (name : PlainToken) (list : PlainTree) (initialiser : Option PlainTree) (ty : PlainType) (old new : SeenUnit) (when other conflicting invalid differs given declined : Bool) (types : List PlainType)
-    → declined ≡ ((conflicting || invalid) || (differs || given)) → new.defined ≡ old.defined → conflicting ≡ (when && other) → given ≡ (when && is_some initialiser)
+    (storage : Storage) (stars : ℕ) (name : PlainToken) (list : PlainTree) (initialised : Bool) (ty : PlainType) (old new : SeenUnit) (when other conflicting invalid differs given declined : Bool) (types : List PlainType)
+    → declined ≡ ((conflicting || invalid) || (differs || given)) → new.defined ≡ old.defined → conflicting ≡ (when && other) → given ≡ (when && initialised)
     → ((scope : Scope) (follows : Follows old.tables scope) (t : PlainType) → pointers stars ty ≡ renumbered follows.by t → other ≡ (when && not (may_be_function storage t (scope.file_names name.text))))
     → (when ≡ false → invalid ≡ false)
     → (when ≡ true → (scope : Scope) (follows : Follows old.tables scope) → IsList list → GivesTypes follows.by scope (parameters_of false scope (Some list) name) types invalid)
     → (when ≡ false → (new.tables ≡ with_signature (record { result = pointers stars ty; parameters = types }) old.tables) × (differs ≡ false))
     → (when ≡ true → (scope : Scope) (follows : Follows old.tables scope) (s : Signature) → as_signature (pointers stars ty) types ≡ renumbered_signature follows.by s → SortIsThere scope.structs (function s)
     → Named follows.by (with_name scope name (function s) storage) differs new.tables)
-    → Where when (DeclaresTyped ty (function_of_list storage stars name (Some list) initialiser) (IsList list)) old new declined
-function_here storage stars name list initialiser ty old new true other conflicting invalid differs given declined types declined_is defined_is conflicting_is given_is conflicts valid lists apart names = record {
+    → Where when (DeclaresTyped ty (function_of_head storage initialised stars name (Some list)) (IsList list × (Unit {0}))) old new declined
+function_here storage stars name list initialised ty old new true other conflicting invalid differs given declined types declined_is defined_is conflicting_is given_is conflicts valid lists apart names = record {
   elsewhere = λ h. absurd (false≢true (sym h));
   does = λ h.
-      function_typed storage stars name list initialiser ty old new conflicting invalid differs given declined types declined_is defined_is given_is
+      function_typed storage stars name list initialised ty old new conflicting invalid differs given declined types declined_is defined_is given_is
       (λ scope follows t e. conflicting_is ∙ conflicts scope follows t e) (lists refl) (names refl);
 }
-function_here storage stars name list initialiser ty old new false other conflicting invalid differs given declined types declined_is defined_is conflicting_is given_is conflicts valid lists apart names = record {
+function_here storage stars name list initialised ty old new false other conflicting invalid differs given declined types declined_is defined_is conflicting_is given_is conflicts valid lists apart names = record {
   elsewhere = λ h. (
-    declared_elsewhere storage stars name list initialiser ty old new conflicting invalid differs given declined types declined_is defined_is (as_signature (pointers stars ty) types) (apart refl).0,
+    declared_elsewhere storage stars name list initialised ty old new conflicting invalid differs given declined types declined_is defined_is (as_signature (pointers stars ty) types) (apart refl).0,
     declined_is ∙ none_of conflicting invalid differs given conflicting_is (valid refl) (apart refl).1 given_is,
   );
   does = λ h. absurd (false≢true h);

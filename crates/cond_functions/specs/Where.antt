@@ -1,6 +1,7 @@
 -- What is done of a unit where a condition is true.
-use Rattle.std.specs.Prelude.{◌≡◌, ℕ, Bool, true, false}
+use Rattle.std.specs.Prelude.{ℕ, Bool}
 use Rattle.core_meaning.specs.UnitNames.{UnitState}
+use Rattle.conditional_steps.specs.Here.{DoneHere}
 use Rattle.cond_objects.specs.Seen.{SeenUnit}
 use Rattle.cond_objects.specs.Units.{IsUnit}
 
@@ -10,6 +11,5 @@ pub record Stays (old new : SeenUnit) : Type 0 where
   pub stays : (by : ℕ → ℕ) (unit : UnitState) → IsUnit by old unit → IsUnit by new unit
 
 -- what is seen goes on, or is refused, where a condition is true; elsewhere it stays true and nothing is refused
-pub record Where (here : Bool) (Does : SeenUnit → SeenUnit → Bool → Type 0) (old new : SeenUnit) (refused : Bool) : Type 0 where
-  pub elsewhere : here ≡ false → Stays old new × (refused ≡ false)
-  pub does : here ≡ true → Does old new refused
+abbrev pub Where : Bool → (SeenUnit → SeenUnit → Bool → Type 0) → SeenUnit → SeenUnit → Bool → Type 0
+Where here Does old new refused = DoneHere Stays here Does old new refused

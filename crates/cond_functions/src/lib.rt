@@ -4,8 +4,12 @@
 
 mod declarators;
 mod functions;
+mod heads;
 mod lists;
 mod parts;
 mod types;
 
-pub use declarators::declare_function;
+pub use declarators::read_function;
+pub use functions::{declare_function, declare_signed};
+pub use heads::{FunctionHead, HeadReader};
+pub use parts::behind_stars;

@@ -95,7 +95,7 @@ pub(crate) fn count_of_stars(parts: &[Part]) -> usize
 
 /// The type behind so many stars.
 #[tactic(auto, using(c_types::specs::TypeLaws::type_kinds, plain_declarators::specs::Bound::one_more_pointer))]
-pub(crate) fn behind_stars(alloc: Global, stars: usize, base: &CType) -> Result<CType, NoMemory>
+pub fn behind_stars(alloc: Global, stars: usize, base: &CType) -> Result<CType, NoMemory>
     ensures { IfOk result (λ ty. plain_type ty ≡ spec.pointers stars (plain_type base.now)) }
 {
     let mut ty = copied(alloc, base)?;

@@ -1,21 +1,20 @@
 //! Functions behind words that name types under conditions.
-ghost use Rattle.std.specs.Prelude.{◌≡◌, ℕ, Bool, true, false, List, Option, Some, is_some, IsTrue, IfOk};
+ghost use Rattle.std.specs.Prelude.{◌≡◌, ℕ, Bool, true, false, List, Some, IsTrue, IfOk};
 ghost use Rattle.cond_formula.specs.Features.{has};
 ghost use Rattle.cond_formula.specs.Conditions.{condition_of, value};
 ghost use Rattle.conditional.specs.Entries.{entries_of, Stands};
 ghost use Rattle.c_text.specs.Token.{plain_token};
-ghost use Rattle.c_types.specs.Types.{PlainType};
-ghost use Rattle.c_tree.specs.Trees.{PlainTree};
+ghost use Rattle.c_types.specs.Types.{PlainType, plain_type};
 ghost use Rattle.choice_trees.specs.ChoiceTrees.{plain_item, item_at};
-ghost use Rattle.plain_objects.specs.PlainStates.{plain_storage};
 ghost use Rattle.type_tables.specs.Forms.{declared_type_form};
 ghost use Rattle.cond_parameters.specs.Parameters.{IsList};
 ghost use Rattle.cond_objects.specs.Seen.{seen_unit};
 ghost use Rattle.cond_objects.specs.Units.{DeclaresTyped};
-ghost use Rattle.cond_functions.specs.Functions.{function_of_list};
-ghost use Rattle.cond_functions.specs.Where.{Stays};
+ghost use Rattle.cond_functions.specs.Where.{Stays, Where};
 
-use crate::functions::{Function, declare_typed};
+use crate::heads::{FunctionHead, HeadReader};
+use c_types::CType;
+use choice_variants::may_hold;
 use cond_formula::{Formula, NoMemory, Oracle};
 use cond_objects::UnitTables;
 use conditional::Guarded;
@@ -24,23 +23,48 @@ use reduced_conditions::{either, without};
 use std::alloc::Global;
 use type_tables::DeclaredType;
 
-/// A function where the condition is true, once in each configuration, though alternatives for the type before it may hold together. The answer is
-/// where it is refused.
-pub(crate) fn declare_by_types<O: Oracle>(
+/// A function behind the type where the condition is true. The answer is where it is refused.
+fn read_typed<R: HeadReader, O: Oracle>(
     alloc: Global,
     oracle: &mut O,
     unit: &mut UnitTables,
     when: &Formula,
-    declared: &Function<'_>,
+    reader: &R,
+    head: &FunctionHead<'_>,
+    ty: &CType,
+) -> Result<Formula, NoMemory>
+    ensures kept { O.admits oracle.new ≡ O.admits oracle.old }
+    ensures declares { IfOk result (λ f. (c : List Bool) → IsTrue (value (has c) (O.admits oracle.old))
+        → Where (value (has c) (condition_of when.now))
+        (DeclaresTyped (plain_type ty.now) (R.judged reader.now c head.now.stars (plain_token head.now.name.now) (Some (item_at (has c) (plain_item head.now.list.now))))
+        (IsList (item_at (has c) (plain_item head.now.list.now)) × R.ready reader.now c))
+        (seen_unit (has c) unit.old) (seen_unit (has c) unit.new) (value (has c) (condition_of f))) }
+{
+    if !may_hold(when, oracle) {
+        return never();
+    }
+    let refused = reader.read_head(alloc, oracle, unit, when, head, ty)?;
+    Ok(refused)
+}
+
+/// A function where the condition is true, once in each configuration, though alternatives for the type before it may hold together. The answer is
+/// where it is refused.
+pub(crate) fn read_by_types<R: HeadReader, O: Oracle>(
+    alloc: Global,
+    oracle: &mut O,
+    unit: &mut UnitTables,
+    when: &Formula,
+    reader: &R,
+    head: &FunctionHead<'_>,
     types: &[Guarded<DeclaredType>],
 ) -> Result<Formula, NoMemory>
     ensures kept { O.admits oracle.new ≡ O.admits oracle.old }
     ensures elsewhere { IfOk result (λ f. (c : List Bool) → IsTrue (value (has c) (O.admits oracle.old)) → value (has c) (condition_of when.now) ≡ false
         → Stays (seen_unit (has c) unit.old) (seen_unit (has c) unit.new) × (value (has c) (condition_of f) ≡ false)) }
-    ensures declares { IfOk result (λ f. (c : List Bool) (initialiser : Option PlainTree) → IsTrue (value (has c) (O.admits oracle.old)) → is_some initialiser ≡ declared.now.initialised
+    ensures declares { IfOk result (λ f. (c : List Bool) → IsTrue (value (has c) (O.admits oracle.old))
         → value (has c) (condition_of when.now) ≡ true → (ty : PlainType) → Stands (has c) ty (entries_of declared_type_form types.now)
-        → DeclaresTyped ty (function_of_list (plain_storage declared.now.storage) declared.now.stars (plain_token declared.now.name.now) (Some (item_at (has c) (plain_item declared.now.list.now))) initialiser)
-        (IsList (item_at (has c) (plain_item declared.now.list.now)))
+        → DeclaresTyped ty (R.judged reader.now c head.now.stars (plain_token head.now.name.now) (Some (item_at (has c) (plain_item head.now.list.now))))
+        (IsList (item_at (has c) (plain_item head.now.list.now)) × R.ready reader.now c)
         (seen_unit (has c) unit.old) (seen_unit (has c) unit.new) (value (has c) (condition_of f))) }
 {
     let mut refused = never()?;
@@ -48,7 +72,7 @@ pub(crate) fn declare_by_types<O: Oracle>(
     for alternative in types {
         let here = both_of(alloc, &left, &alternative.when)?;
         let ty = &alternative.what.ty;
-        let found = declare_typed(alloc, oracle, unit, &here, declared, ty)?;
+        let found = read_typed(alloc, oracle, unit, &here, reader, head, ty)?;
         refused = either(alloc, refused, found)?;
         left = without(alloc, left, &alternative.when)?;
     }

@@ -29,7 +29,7 @@ use Rattle.cond_locals.proofs.Parts.{IsDeclaration, declaration_parts}
 
 -- ---- the words of a local's type declare no struct
 
-abbrev IsSame : Scope → Checked Based → Type 0
+abbrev pub IsSame : Scope → Checked Based → Type 0
 IsSame scope (fine b bindings) = b.scope ≡ scope
 IsSame scope other = ⊤
 
@@ -46,7 +46,7 @@ named_same : (scope : Scope) (o : Option PlainToken) → IsSame scope (or_broken
 named_same scope None = tt
 named_same scope (Some tag) = same_bound scope [] (based_on_tag false scope tag (scope.tags tag.text)) (tag_same scope tag (scope.tags tag.text))
 
-words_same : (scope : Scope) (words : PlainTree) → IsSame scope (based_in false scope words)
+pub words_same : (scope : Scope) (words : PlainTree) → IsSame scope (based_in false scope words)
 words_same scope (leaf token) = tt
 words_same scope (node kind words) = by (has_terminal t.Struct words)
   where

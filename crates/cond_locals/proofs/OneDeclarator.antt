@@ -21,17 +21,9 @@ use Rattle.cond_declarators.specs.Types.{ShowsType, object_type_in}
 use Rattle.cond_declarators.proofs.There.{objects_are_there}
 use Rattle.conditional_steps.specs.Here as results
 use Rattle.conditional_steps.specs.Here.{Here}
+use Rattle.conditional_steps.proofs.Found.{not_both, are_both, neither}
 use Rattle.cond_locals.specs.Declaring.{IsInitialiser, IsDeclared, GoesOn, Declares, name_of, local_in}
 use Rattle.cond_locals.proofs.Locals.{new_comes, untyped_comes, known_comes, named_comes}
-
-not_both : (a b c found f : Bool) → f ≡ (a || found) → a ≡ (b && c) → b ≡ true → c ≡ false → f ≡ found
-not_both a b c found f is_f is_a is_b is_c = is_f ∙ ap (λ (x : Bool). x || found) (is_a ∙ ap₂ (λ (x y : Bool). x && y) is_b is_c)
-
-are_both : (a b c found f : Bool) → f ≡ (a || found) → a ≡ (b && c) → b ≡ true → c ≡ true → f ≡ true
-are_both a b c found f is_f is_a is_b is_c = is_f ∙ ap (λ (x : Bool). x || found) (is_a ∙ ap₂ (λ (x y : Bool). x && y) is_b is_c)
-
-neither : (a b c found f : Bool) → f ≡ (a || found) → a ≡ (b && c) → b ≡ false → found ≡ false → f ≡ false
-neither a b c found f is_f is_a is_b is_found = is_f ∙ ap₂ (λ (x y : Bool). x || y) (is_a ∙ ap (λ (x : Bool). x && c) is_b) is_found
 
 module _ (on : ℕ → Bool) (base : Outcomes DeclaredType Refused) (tree : PlainTree) (name : PlainToken) (initialiser : Option PlainTree) (old new : Tables) (when : Bool) where
   pub new_here :

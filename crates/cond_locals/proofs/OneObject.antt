@@ -1,6 +1,7 @@
 -- An object of one type.
-use Rattle.std.proofs.Common.{◌≡◌, ℕ, Bool, true, false, not, ◌&&◌, ◌||◌, refl, sym, ap, ap₂, ◌∙◌}
+use Rattle.std.proofs.Common.{◌≡◌, ℕ, Bool, true, false, not, ◌&&◌, ◌||◌, List, refl, sym, ap, ap₂, ◌∙◌}
 use Rattle.std.specs.Prelude.{Option}
+use Rattle.cond_formula.specs.Conditions.{Condition, value}
 use Rattle.c_text.specs.Token.{PlainToken}
 use Rattle.c_types.specs.Types.{PlainType}
 use Rattle.c_tree.specs.Trees.{PlainTree}
@@ -21,6 +22,13 @@ use Rattle.cond_declarators.proofs.DeclaratorTypes.{complete_followed}
 use Rattle.conditional_steps.specs.Here.{Here}
 use Rattle.cond_locals.specs.Declaring.{IsInitialiser, IsDeclared}
 use Rattle.cond_locals.proofs.Locals.{follows_with}
+
+-- a local that is declared by copies of a condition and of a type
+pub declared_so : (on : ℕ → Bool) (text name : List ℕ) (here when : Condition) (copy ty : PlainType) (t : Tables) → text ≡ name → here ≡ when → copy ≡ ty
+    → where_true (value on here) (with_local text copy) t ≡ where_true (value on when) (with_local name ty) t
+declared_so on text name here when copy ty t text_is here_is copy_is =
+    ap (λ (k : Condition). where_true (value on k) (with_local text copy) t) here_is
+    ∙ ap₂ (λ (name : List ℕ) (ty : PlainType). where_true (value on when) (with_local name ty) t) text_is copy_is
 
 both_judged : (name : PlainToken) (a b : Bool) → is_refused (unless_so a Incomplete name >>= (λ fits. unless_so b BadConstant name)) ≡ not (a && b)
 both_judged name true true = refl

@@ -26,8 +26,8 @@ use Rattle.declaration_readings.proofs.Lists.{one_alone, one_before, value_alone
 use Rattle.type_tables.specs.Tables.{Tables}
 use Rattle.type_tables.specs.declared.entries.DeclaredType.{DeclaredType}
 use Rattle.typed_scopes.specs.Follows.{IsThere}
+use Rattle.typed_scopes.specs.Numbers.{FollowsInBlockBy}
 use Rattle.cond_declarators.specs.Types.{ShowsType}
-use Rattle.cond_statements.specs.Following.{FollowsInBlockBy}
 use Rattle.conditional_steps.specs.Here.{Here}
 use Rattle.cond_locals.specs.Declaring.{IsInitialiser, GoesOn, Declares}
 use Rattle.conditional_steps.proofs.Alternatives.{or_nothing}

@@ -11,7 +11,6 @@ ghost use Rattle.operand_types.specs.OperandTypes.{renumbered};
 ghost use Rattle.statement_readings.specs.Walks.{is_refused};
 ghost use Rattle.type_tables.specs.Tables.{is_complete_type, is_small};
 ghost use Rattle.type_tables.specs.Seen.{seen_tables};
-ghost use Rattle.type_tables.specs.Steps.{with_local, where_true};
 ghost use Rattle.typed_scopes.specs.Follows.{IsThere, Follows};
 ghost use Rattle.cond_statements.specs.Following.{OnlyLocals};
 ghost use Rattle.conditional_steps.specs.Here.{Here};
@@ -26,29 +25,8 @@ use conditional_steps::{never, possible_both};
 use plain_scope::copied;
 use reduced_conditions::{both, either};
 use std::alloc::Global;
-use type_tables::{LocalName, Tables};
+use type_tables::Tables;
 use typed_initialisers::where_initialiser_refused;
-
-/// One more local in the innermost block, where the condition is true.
-fn add_local(
-    alloc: Global,
-    tables: &mut Tables,
-    when: &Formula,
-    name: &Token,
-    ty: &CType,
-) -> Result<(), NoMemory>
-    ensures seen { OnOk result ((on : ℕ → Bool) → seen_tables on tables.new ≡ where_true (value on (condition_of when.now)) (with_local name.now.text.items (plain_type ty.now)) (seen_tables on tables.old)) }
-    ensures outside { OnOk result (OnlyLocals tables.old tables.new) }
-{
-    let local = LocalName {
-        name: Vec::from_slice(alloc, &name.text)?,
-        when: when.try_clone(alloc)?,
-        ty: copied(alloc, ty)?,
-        depth: tables.depth,
-    };
-    tables.locals.push(local)?;
-    Ok(())
-}
 
 /// Where no object is of the type: it isn't complete, or too big.
 fn where_unfit(alloc: Global, tables: &Tables, ty: &CType) -> Result<Formula, NoMemory>
@@ -97,7 +75,9 @@ fn declare_there<O: Oracle>(
         (seen_tables (has c) tables.old) (seen_tables (has c) tables.new) (value (has c) (condition_of f))) }
 {
     let unfit = where_unfit(alloc, tables, ty)?;
-    add_local(alloc, tables, when, name, ty)?;
+    let here = when.try_clone(alloc)?;
+    let copy = copied(alloc, ty)?;
+    tables.declare_local(alloc, &name.text, here, copy)?;
     let invalid = where_value_refused(alloc, oracle, tables, ty, initialiser)?;
     let refused = either(alloc, unfit, invalid)?;
     possible_both(alloc, oracle, when, &refused)

@@ -5,6 +5,7 @@ use Rattle.conditional.specs.Entries.{alternatives, Stands}
 use Rattle.conditional.specs.Judgements as judgements
 use Rattle.conditional.specs.declared.outcomes.Outcomes.{Outcomes}
 use Rattle.conditional_steps.specs.Here.{Here, is_refused}
+use Rattle.conditional_steps.proofs.Found.{not_both, are_both, neither}
 use Rattle.c_text.specs.Token.{PlainToken}
 use Rattle.c_types.specs.Types.{PlainType}
 use Rattle.c_tree.specs.Trees.{PlainTree, PlainTrees, leaf, node}
@@ -21,16 +22,7 @@ use Rattle.cond_declarators.proofs.There.{objects_are_there}
 use Rattle.cond_objects.specs.Seen.{SeenUnit}
 use Rattle.cond_objects.specs.Units.{IsUnit, GoesOn, IsInitialiser, object_of_type, object_of_name, object_in, name_of, DeclaresTyped, Declares}
 
-not_both : (a b c found f : Bool) → f ≡ (a || found) → a ≡ (b && c) → b ≡ true → c ≡ false → f ≡ found
-not_both a b c found f is_f is_a is_b is_c = is_f ∙ ap (λ (x : Bool). x || found) (is_a ∙ ap₂ (λ (x y : Bool). x && y) is_b is_c)
-
-are_both : (a b c found f : Bool) → f ≡ (a || found) → a ≡ (b && c) → b ≡ true → c ≡ true → f ≡ true
-are_both a b c found f is_f is_a is_b is_c = is_f ∙ ap (λ (x : Bool). x || found) (is_a ∙ ap₂ (λ (x y : Bool). x && y) is_b is_c)
-
-neither : (a b c found f : Bool) → f ≡ (a || found) → a ≡ (b && c) → b ≡ false → found ≡ false → f ≡ false
-neither a b c found f is_f is_a is_b is_found = is_f ∙ ap₂ (λ (x y : Bool). x || y) (is_a ∙ ap (λ (x : Bool). x && c) is_b) is_found
-
-goes_still : (by : ℕ → ℕ) (structs : List Struct) (before : List Binding) (next : Checked UnitState) (declined : Bool) (seen : SeenUnit) → GoesOn by structs next declined seen → GoesOn by structs (with_bindings before next) declined seen
+pub goes_still : (by : ℕ → ℕ) (structs : List Struct) (before : List Binding) (next : Checked UnitState) (declined : Bool) (seen : SeenUnit) → GoesOn by structs next declined seen → GoesOn by structs (with_bindings before next) declined seen
 goes_still by structs before (fine unit bindings) declined seen h = h
 goes_still by structs before (refused kind token) declined seen h = h
 goes_still by structs before broken declined seen h = h

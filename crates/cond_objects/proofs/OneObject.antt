@@ -14,7 +14,8 @@ use Rattle.core_meaning.specs.UnitNames.{Storage, UnitState, with_name, with_sco
 use Rattle.operand_types.specs.OperandTypes.{renumbered}
 use Rattle.type_tables.specs.Tables.{Tables}
 use Rattle.typed_scopes.specs.Follows.{IsThere}
-use Rattle.name_declarations.specs.Names.{IsFollowed, Named}
+use Rattle.typed_scopes.specs.Numbers.{FollowsBy}
+use Rattle.name_declarations.specs.Names.{Named}
 use Rattle.cond_objects.specs.Seen.{PlainDefinition, SeenUnit, plain_definitions}
 use Rattle.cond_objects.specs.Definitions.{definitions_of, is_unfit}
 use Rattle.cond_objects.specs.Values.{is_value_refused}
@@ -23,12 +24,12 @@ use Rattle.cond_objects.proofs.Judging.{LeadsTo, leads_still, is_unfit_in, judge
 use Rattle.cond_objects.proofs.Fitting.{unfit_same, is_declared}
 
 -- what a declaration leads to goes on to be seen
-goes_on : (by : ℕ → ℕ) (structs : List Struct) (next : Checked UnitState) (declined : Bool) (scope : Scope) (seen : SeenUnit) → LeadsTo next declined scope seen.defined → IsFollowed by seen.tables scope → scope.blocks ≡ [] → scope.structs ≡ structs
+goes_on : (by : ℕ → ℕ) (structs : List Struct) (next : Checked UnitState) (declined : Bool) (scope : Scope) (seen : SeenUnit) → LeadsTo next declined scope seen.defined → FollowsBy by seen.tables scope → scope.blocks ≡ [] → scope.structs ≡ structs
     → GoesOn by structs next declined seen
 goes_on by structs (fine unit bindings) declined scope seen h follows outside same = (
   h.0,
   record {
-    tables = subst (IsFollowed by seen.tables) (sym h.1) follows;
+    tables = subst (FollowsBy by seen.tables) (sym h.1) follows;
     defined = sym h.2;
     outside = ap (λ (s : Scope). s.blocks) h.1 ∙ outside;
   },
@@ -54,7 +55,7 @@ module _ (globals : ℕ) (storage : Storage) (name : PlainToken) (initialiser : 
 
   module _ (by : ℕ → ℕ) (unit : UnitState) (whole : PlainType) (is : IsUnit by old unit) (same : ty ≡ renumbered by whole) (there : IsThere unit.scope.structs whole) (derived : IsInitialiser initialiser) where
     -- behind a name that is declared
-    behind : (scope : Scope) (bindings : List Binding) → Keeps unit.scope scope → differs ≡ false → IsFollowed by new.tables scope
+    behind : (scope : Scope) (bindings : List Binding) → Keeps unit.scope scope → differs ≡ false → FollowsBy by new.tables scope
         → GoesOn by unit.scope.structs (fine scope bindings >>= (λ s. judged_global storage (is_some initialiser) s whole name rest >>= (λ u. defined_object globals (with_scope unit s) storage whole name initialiser))) declined new
     behind scope bindings keeps no_difference followed =
         let f = followed.follows in

@@ -16,15 +16,16 @@ use Rattle.operand_rules.specs.declared.operands.Refused.{Refused}
 use Rattle.type_tables.specs.declared.entries.DeclaredType.{DeclaredType}
 use Rattle.type_tables.specs.Tables.{Tables, object}
 use Rattle.typed_scopes.specs.Follows.{IsThere, Follows, SortFollows, SortIsThere}
+use Rattle.typed_scopes.specs.Numbers.{FollowsBy}
 use Rattle.cond_declarators.specs.Types.{ShowsType}
-use Rattle.name_declarations.specs.Names.{IsFollowed, Named}
+use Rattle.name_declarations.specs.Names.{Named}
 use Rattle.cond_objects.specs.Definitions.{is_unfit}
 use Rattle.cond_objects.specs.Values.{is_value_refused}
 use Rattle.cond_objects.specs.Seen.{SeenUnit, plain_definitions}
 
 -- What is seen says what is visible at a place of file scope and what has been defined, where structs have these numbers.
 pub record IsUnit (by : ℕ → ℕ) (seen : SeenUnit) (unit : UnitState) : Type 0 where
-  pub tables : IsFollowed by seen.tables unit.scope
+  pub tables : FollowsBy by seen.tables unit.scope
   pub defined : seen.defined ≡ plain_definitions unit.defined
   pub outside : unit.scope.blocks ≡ []
 

@@ -12,7 +12,7 @@ use plain_objects::Storage;
 use std::alloc::Global;
 
 /// One more definition of a name, where the condition is true.
-fn define(
+pub fn define(
     alloc: Global,
     unit: &mut UnitTables,
     when: &Formula,

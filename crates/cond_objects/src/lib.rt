@@ -12,4 +12,5 @@ mod units;
 
 pub use behind::Behind;
 pub use declarators::declare_object;
+pub use definitions::define;
 pub use units::{Definition, ObjectDeclaration, UnitTables};

@@ -11,7 +11,7 @@ use Rattle.core_meaning.specs.UnitNames.{parameter_types, with_parameters}
 use Rattle.operand_types.specs.OperandTypes.{renumbered}
 use Rattle.type_tables.specs.Tables.{Tables}
 use Rattle.typed_scopes.specs.Follows.{AreThere}
-use Rattle.cond_statements.specs.Following.{FollowsInBlockBy}
+use Rattle.typed_scopes.specs.Numbers.{FollowsInBlockBy}
 
 -- a list is a tree of the grammar, or it is left out
 pub data IsList : PlainTree → Type 0 where

@@ -11,8 +11,9 @@ ghost use Rattle.core_meaning.specs.Entities.{Scope};
 ghost use Rattle.core_meaning.specs.Declarations.{with_block};
 ghost use Rattle.type_tables.specs.Forms.{declared_type_form};
 ghost use Rattle.type_tables.specs.Seen.{seen_tables};
-ghost use Rattle.type_tables.specs.Steps.{with_local, where_true};
-ghost use Rattle.cond_statements.specs.Following.{FollowsInBlockBy, OnlyLocals};
+ghost use Rattle.type_tables.specs.Steps.{where_true};
+ghost use Rattle.typed_scopes.specs.Numbers.{FollowsInBlockBy};
+ghost use Rattle.cond_statements.specs.Following.{OnlyLocals};
 ghost use Rattle.cond_parameters.specs.Parameters.{Declares};
 ghost use Rattle.cond_parameters.specs.Types.{found_at};
 ghost use Rattle.cond_parameters.specs.Readings.{Reading, nothing_read, goes_on, read_all};
@@ -30,7 +31,7 @@ use plain_scope::copied;
 use reduced_conditions::{both, either, without};
 use std::alloc::Global;
 use std::mem;
-use type_tables::{DeclaredType, LocalName, Tables};
+use type_tables::{DeclaredType, Tables};
 
 /// The parameters that a list declares.
 #[derive(Drop)]
@@ -80,27 +81,6 @@ fn refuse<O: Oracle>(
     Ok(())
 }
 
-/// One more local in the innermost block, where the condition is true.
-fn add_local(
-    alloc: Global,
-    tables: &mut Tables,
-    when: Formula,
-    name: &Token,
-    ty: CType,
-) -> Result<(), NoMemory>
-    ensures outside { OnOk result (OnlyLocals tables.old tables.new) }
-    ensures seen { OnOk result ((on : ℕ → Bool) → seen_tables on tables.new ≡ where_true (value on (condition_of when)) (with_local name.now.text.items (plain_type ty)) (seen_tables on tables.old)) }
-{
-    let local = LocalName {
-        name: Vec::from_slice(alloc, &name.text)?,
-        when,
-        ty,
-        depth: tables.depth,
-    };
-    tables.locals.push(local)?;
-    Ok(())
-}
-
 /// A parameter in the innermost block, where the condition is true, if it has a name.
 fn enter(
     alloc: Global,
@@ -114,7 +94,7 @@ fn enter(
         ≡ where_true (value on (condition_of when)) (with_named (option_map (λ t. plain_token t.now) name.entry) (plain_type ty)) (seen_tables on tables.old)) }
 {
     if let Some(name) = name {
-        add_local(alloc, tables, when, name, ty)?;
+        tables.declare_local(alloc, &name.text, when, ty)?;
     }
     Ok(())
 }

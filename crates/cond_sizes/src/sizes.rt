@@ -1,5 +1,5 @@
 //! Sizes in the brackets of declarators (6.7.6.2).
-ghost use Rattle.std.specs.Prelude.{◌≡◌, ℕ, Bool, true, false, List, IsTrue, IfOk};
+ghost use Rattle.std.specs.Prelude.{◌≡◌, ℕ, Bool, true, false, List, [], None, IsTrue, IfOk};
 ghost use Rattle.cond_formula.specs.Features.{has};
 ghost use Rattle.cond_formula.specs.Conditions.{value};
 ghost use Rattle.conditional.specs.Entries.{Stands};
@@ -13,6 +13,7 @@ ghost use Rattle.core_meaning.specs.Entities as entities;
 ghost use Rattle.core_meaning.specs.Constancy.{judged_count};
 ghost use Rattle.operand_types.specs.OperandTypes.{outcome_as};
 ghost use Rattle.operand_rules.specs.PlainOperandTypes.{reason};
+ghost use Rattle.plain_scope.specs.PlainScope.{plain_scope};
 ghost use Rattle.plain_scope.specs.Judgements.{Judges, RefusedAs};
 ghost use Rattle.plain_scope.specs.declared.entities.Used as used;
 ghost use Rattle.cond_sizes.specs.Sizes.{plain_count, ShowsCount};
@@ -73,7 +74,12 @@ pub fn nothing_visible<'a>(
     alloc: Global,
     numbers: &'a Numbers,
     literals: &'a HashMap<Vec<u8>, u32>,
-) -> Scope<'a> {
+) -> Scope<'a>
+    ensures structs { (plain_scope result).structs ≡ [] }
+    ensures tags { (name : List ℕ) → (plain_scope result).tags name ≡ None }
+    ensures names { (name : List ℕ) → (plain_scope result).file_names name ≡ None }
+    ensures blocks { (plain_scope result).blocks ≡ [] }
+{
     Scope {
         structs: Vec::new(alloc),
         tags: HashMap::new(alloc),

@@ -17,6 +17,7 @@ use Rattle.core_meaning.specs.Expressions.{passed, condition_value, first_token,
 use Rattle.core_meaning.specs.Expressions as expressions
 use Rattle.conditional.specs.Judgements.{Checked, bind}
 use Rattle.choice_trees.specs.ChoiceTrees.{semicolon}
+use Rattle.conditional_steps.specs.Here.{is_refused}
 use Rattle.operand_types.specs.OperandTypes.{OperandType, renumbered, outcome_as}
 use Rattle.operand_types.specs.Operators.{loaded_type, tested_type, fitted_type}
 use Rattle.operand_types.specs.Laws.{KeepsApart, operand_seen, operand_type, OperatorsKeepTypes}
@@ -26,7 +27,7 @@ use Rattle.expression_types.specs.Laws.{ExpressionsHaveTypes}
 use Rattle.statement_readings.specs.Walks.{Use, condition, discarded, returned, expression_refused}
 use Rattle.statement_readings.specs.Walks as walks
 use Rattle.cond_statements.specs.Ready.{IsExpression}
-use Rattle.cond_statements.specs.Results.{is_refused, absence_refused, operand_refused}
+use Rattle.cond_statements.specs.Results.{absence_refused, operand_refused}
 
 outcome_refused : {A P : Type 0} (f : A → P) (m : judged.Checked A) → is_refused (outcome_as f m) ≡ walks.is_refused m
 outcome_refused f (judged.fine x bindings) = refl

@@ -7,9 +7,9 @@ use Rattle.core_meaning.specs.Declarations.{with_block}
 use Rattle.type_tables.specs.Tables.{Tables}
 use Rattle.type_tables.specs.Steps.{entered}
 use Rattle.typed_scopes.specs.Follows.{Follows}
+use Rattle.typed_scopes.specs.Numbers.{FollowsBy, FollowsInBlockBy}
 use Rattle.typed_scopes.proofs.Blocks.{block_entered, entered_by}
 use Rattle.statement_readings.specs.Walks.{State}
-use Rattle.cond_statements.specs.Following.{FollowsBy, FollowsInBlockBy}
 use Rattle.cond_statements.specs.Readings.{Stand, Arrives}
 
 pub followed : (by : ℕ → ℕ) (t : Tables) (scope : Scope) → FollowsInBlockBy by t scope → FollowsBy by t scope

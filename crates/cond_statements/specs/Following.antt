@@ -1,22 +1,11 @@
--- How the tables of all configurations stand beside a scope, and what comes of the declarations of locals (ISO/IEC 9899:2011, 6.2.1, 6.7, 6.8).
+-- What comes of the declarations of locals (ISO/IEC 9899:2011, 6.2.1, 6.7, 6.8).
 use Rattle.std.specs.Prelude.{◌≡◌, ℕ, Bool, true, false}
 use Rattle.core_meaning.specs.Checking.{Checked, fine}
-use Rattle.core_meaning.specs.Entities.{Scope}
 use Rattle.core_meaning.specs.Declarations.{Locals}
 use Rattle.type_tables.specs.Tables as plain
 use Rattle.type_tables.specs.declared.tables.Tables.{Tables}
 use Rattle.type_tables.specs.Blocks.{KeepsOutside}
-use Rattle.typed_scopes.specs.Follows.{Follows, FollowsInBlock}
-
--- the tables follow the scope, where structs have these numbers
-pub record FollowsBy (by : ℕ → ℕ) (t : plain.Tables) (scope : Scope) : Type 0 where
-  pub follows : Follows t scope
-  pub numbers : follows.by ≡ by
-
--- and say which names the innermost block declares
-pub record FollowsInBlockBy (by : ℕ → ℕ) (t : plain.Tables) (scope : Scope) : Type 0 where
-  pub follows : FollowsInBlock t scope
-  pub numbers : follows.follows.by ≡ by
+use Rattle.typed_scopes.specs.Numbers.{FollowsInBlockBy}
 
 -- what the judgement of a declaration gives is in the tables, or it is refused
 abbrev pub Declared : (ℕ → ℕ) → Checked Locals → Bool → plain.Tables → Type 0

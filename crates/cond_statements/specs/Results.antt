@@ -1,20 +1,17 @@
 -- Where an operand is refused that a statement uses (ISO/IEC 9899:2011, 6.8.3 to 6.8.6).
-use Rattle.std.specs.Prelude.{ℕ, Bool, true, false, not, ◌&&◌, ◌||◌, List, [], ◌∷◌}
+use Rattle.std.specs.Prelude.{ℕ, Bool, false, not, ◌&&◌, ◌||◌, List, [], ◌∷◌}
 use Rattle.cond_formula.specs.Conditions.{value}
 use Rattle.c_types.specs.Types.{PlainType}
 use Rattle.c_tree.specs.declared.kinds.Kind.{Kind}
 use Rattle.c_tree.specs.declared.kinds.Kind.TheVariants as k
 use Rattle.core_meaning.specs.Expressions.{is_void}
 use Rattle.conditional.specs.Entries.{Entry}
-use Rattle.conditional.specs.Judgements.{Checked, fine, refused, bind}
+use Rattle.conditional.specs.Judgements.{bind}
 use Rattle.choice_trees.specs.ChoiceTrees.{semicolon}
+use Rattle.conditional_steps.specs.Here.{is_refused}
 use Rattle.operand_types.specs.Operators.{loaded_type, tested_type, fitted_type}
 use Rattle.expression_types.specs.Reading.{Outcome}
 use Rattle.statement_readings.specs.Walks.{Use, condition, discarded, returned}
-
-abbrev pub is_refused : {A Q : Type 0} → Checked A Q → Bool
-is_refused (fine x) = false
-is_refused (refused why) = true
 
 -- a value that is returned, where the result is of this type
 abbrev pub return_refused : Outcome → PlainType → Bool

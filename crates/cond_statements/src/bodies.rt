@@ -19,11 +19,11 @@ ghost use Rattle.typed_scopes.specs.Follows.{FollowsInBlock};
 use crate::blocks::close_block;
 use crate::declarations::Declarations;
 use crate::statements::{Around, read_parts};
-use crate::walks::never;
 use c_tree::Kind;
 use choice_trees::{Choice, Item};
 use cond_formula::{Formula, NoMemory, Oracle};
 use conditional::CondValue;
+use conditional_steps::never;
 use std::alloc::Global;
 use type_tables::{DeclaredType, Tables};
 

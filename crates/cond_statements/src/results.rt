@@ -3,36 +3,28 @@ ghost use Rattle.std.specs.Prelude.{◌≡◌, ℕ, Bool, true, not, ◌&&◌, I
 ghost use Rattle.cond_formula.specs.Conditions.{condition_of, value};
 ghost use Rattle.c_types.specs.Types.{PlainType, plain_type};
 ghost use Rattle.conditional.specs.Entries.{alternatives, Stands};
-ghost use Rattle.conditional.specs.Judgements.{Checked, bind, Shows};
+ghost use Rattle.conditional.specs.Judgements.{bind};
 ghost use Rattle.choice_trees.specs.ChoiceTrees.{semicolon};
+ghost use Rattle.conditional_steps.specs.Here.{is_refused};
 ghost use Rattle.operand_types.specs.Operators.{fitted_type};
-ghost use Rattle.operand_rules.specs.PlainOperandTypes.{reason};
 ghost use Rattle.cond_operands.specs.Operands.{Judged, ShowsOperand};
 ghost use Rattle.type_tables.specs.Forms.{declared_type_form};
 ghost use Rattle.statement_readings.specs.Walks.{condition, discarded};
 ghost use Rattle.cond_statements.specs.Uses.{use_of};
 ghost use Rattle.cond_statements.specs.Results as spec;
-ghost use Rattle.cond_statements.specs.Results.{is_refused, return_refused, bare_return_refused};
+ghost use Rattle.cond_statements.specs.Results.{return_refused, bare_return_refused};
 
 use crate::uses::Use;
-use crate::walks::never;
 use c_tree::Kind;
 use c_types::CType;
 use cond_formula::{Formula, NoMemory};
 use cond_operands::{Operands, fitted, loaded, tested};
-use conditional::{CondValue, Outcomes, Plain, when_some_hold};
-use operand_rules::Refused;
+use conditional::{CondValue, Outcomes};
+use conditional_steps::{never, where_refused};
 use plain_scope::is_void;
 use reduced_conditions::{both, either};
 use std::alloc::Global;
 use type_tables::DeclaredType;
-
-/// Where a judgement is refused.
-fn where_refused<T: Plain>(alloc: Global, all: &Outcomes<T, Refused>) -> Result<Formula, NoMemory>
-    ensures { IfOk result (λ f. (on : ℕ → Bool) (x : Checked T.Form (Unit {0})) → Shows T.form reason on true x all.now → value on (condition_of f) ≡ is_refused x) }
-{
-    when_some_hold(alloc, &all.refused.entries)
-}
 
 /// The same operand.
 fn copied(alloc: Global, a: &Operands) -> Result<Operands, NoMemory>

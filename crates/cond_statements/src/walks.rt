@@ -3,7 +3,7 @@ ghost use Rattle.std.specs.Prelude.{◌≡◌, ℕ, Bool, false, ◌&&◌, ◌||
 ghost use Rattle.cond_formula.specs.Conditions.{condition_of, value};
 
 use cond_formula::{Formula, NoMemory};
-use reduced_conditions::{both, either};
+use reduced_conditions::either;
 use std::alloc::Global;
 use std::mem;
 
@@ -14,21 +14,6 @@ pub struct Walk {
     pub refused: Formula,
     /// Where a `;` among the parts turned what an expression is.
     pub turned: Formula,
-}
-
-/// A condition that is never true.
-#[tactic(auto, using(cond_formula::specs::ConditionLaws::formula_kinds))]
-pub(crate) fn never() -> Result<Formula, NoMemory>
-    ensures { IfOk result (λ f. (on : ℕ → Bool) → value on (condition_of f) ≡ false) }
-{
-    Ok(Formula::False)
-}
-
-/// Where both conditions are true, which stay as they are.
-pub(crate) fn both_of(alloc: Global, a: &Formula, b: &Formula) -> Result<Formula, NoMemory>
-    ensures { IfOk result (λ f. (on : ℕ → Bool) → value on (condition_of f) ≡ (value on (condition_of a.now) && value on (condition_of b.now))) }
-{
-    both(alloc, a.try_clone(alloc)?, b.try_clone(alloc)?)
 }
 
 impl Walk {

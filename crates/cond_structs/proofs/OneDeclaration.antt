@@ -23,9 +23,10 @@ use Rattle.operand_rules.specs.PlainOperandTypes.{reason}
 use Rattle.type_tables.specs.Tables.{Tables}
 use Rattle.type_tables.specs.declared.entries.DeclaredType.{DeclaredType}
 use Rattle.typed_scopes.specs.Follows.{types_of, Follows}
+use Rattle.typed_scopes.specs.Numbers.{NumbersKept}
 use Rattle.typed_scopes.proofs.Renumbering.{members_same, all_still_there}
 use Rattle.cond_declarators.specs.Types.{ShowsType, based_in}
-use Rattle.cond_declarators.specs.DeclaredBases.{NumbersKept, DeclaresBase}
+use Rattle.cond_declarators.specs.DeclaredBases.{DeclaresBase}
 use Rattle.cond_structs.specs.Gathered.{Gathered, refuse}
 use Rattle.cond_structs.specs.Standing.{Gathers, GathersSoFar, Keep, StandsAt, StandsSoFar}
 use Rattle.cond_structs.specs.Walks.{members_in, declared_next}

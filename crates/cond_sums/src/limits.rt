@@ -36,7 +36,8 @@ fn where_either(
     Ok(f)
 }
 
-/// Where the sum is within the limit. What is within the limit with all parts that may be there is so everywhere; else the first part is there, or it isn't.
+/// Where the sum is within the limit. What is within the limit with all parts that may be there is so everywhere; else the first part is there, or
+/// it isn't.
 #[tactic(auto, using(cond_formula::specs::ConditionLaws::formula_kinds))]
 pub(crate) fn where_within(
     alloc: Global,

@@ -4,6 +4,7 @@ use Rattle.std.specs.Prelude.{Option, Some, None, ⊤}
 use Rattle.conditional.specs.Judgements as judgements
 use Rattle.conditional.specs.declared.outcomes.Outcomes.{Outcomes}
 use Rattle.conditional_steps.specs.Here.{is_refused}
+use Rattle.conditional_steps.proofs.Found.{not_both, are_both, neither}
 use Rattle.c_text.specs.Token.{PlainToken}
 use Rattle.c_types.specs.Types.{PlainType}
 use Rattle.c_tree.specs.declared.terminals.Terminal.TheVariants as t
@@ -19,9 +20,9 @@ use Rattle.operand_rules.specs.declared.operands.Refused.{Refused}
 use Rattle.type_tables.specs.declared.entries.DeclaredType.{DeclaredType}
 use Rattle.type_tables.specs.Tables.{Tables}
 use Rattle.typed_scopes.specs.Follows.{Follows}
+use Rattle.typed_scopes.specs.Numbers.{NumbersKept, FollowsBy}
 use Rattle.cond_declarators.specs.Types.{ShowsType, based_in}
-use Rattle.cond_declarators.specs.DeclaredBases.{NumbersKept, DeclaresBase}
-use Rattle.name_declarations.specs.Names.{IsFollowed}
+use Rattle.cond_declarators.specs.DeclaredBases.{DeclaresBase}
 use Rattle.cond_objects.specs.Seen.{SeenUnit}
 use Rattle.cond_objects.specs.Units.{IsUnit, GoesOn, Declares}
 use Rattle.cond_functions.specs.Where.{Stays, Where}
@@ -50,24 +51,13 @@ module _ (scope : Scope) (b : Based) (bindings : List Binding) where
   by_words words true e = by_name (name_in words) e
   by_words words false e = kept _ _ e refl
 
-  blocks_kept : (words : PlainTree) → based_in true scope words ≡ fine b bindings → b.scope.blocks ≡ scope.blocks
+  pub blocks_kept : (words : PlainTree) → based_in true scope words ≡ fine b bindings → b.scope.blocks ≡ scope.blocks
   blocks_kept (leaf token) e = absurd cc
   blocks_kept (node kind words) e = by_words words (has_terminal t.Struct words) e
 
--- ---- two ways to be refused
-
-not_both : (a b c found f : Bool) → f ≡ (a || found) → a ≡ (b && c) → b ≡ true → c ≡ false → f ≡ found
-not_both a b c found f is_f is_a is_b is_c = is_f ∙ ap (λ (x : Bool). x || found) (is_a ∙ ap₂ (λ (x y : Bool). x && y) is_b is_c)
-
-are_both : (a b c found f : Bool) → f ≡ (a || found) → a ≡ (b && c) → b ≡ true → c ≡ true → f ≡ true
-are_both a b c found f is_f is_a is_b is_c = is_f ∙ ap (λ (x : Bool). x || found) (is_a ∙ ap₂ (λ (x y : Bool). x && y) is_b is_c)
-
-neither : (a b c found f : Bool) → f ≡ (a || found) → a ≡ (b && c) → b ≡ false → found ≡ false → f ≡ false
-neither a b c found f is_f is_a is_b is_found = is_f ∙ ap₂ (λ (x y : Bool). x || y) (is_a ∙ ap (λ (x : Bool). x && c) is_b) is_found
-
 -- ---- what goes on
 
-item_still : (by : ℕ → ℕ) (structs : List Struct) (before : List Binding) (next : Checked UnitState) (f : Bool) (seen : SeenUnit) → ItemGoesOn by structs next f seen → ItemGoesOn by structs (with_bindings before next) f seen
+pub item_still : (by : ℕ → ℕ) (structs : List Struct) (before : List Binding) (next : Checked UnitState) (f : Bool) (seen : SeenUnit) → ItemGoesOn by structs next f seen → ItemGoesOn by structs (with_bindings before next) f seen
 item_still by structs before (fine unit bindings) f seen h = h
 item_still by structs before (refused kind token) f seen h = h
 item_still by structs before broken f seen h = h
@@ -83,7 +73,7 @@ module _ (on : ℕ → Bool) (base : Outcomes DeclaredType Refused) (words : Pla
     (bases : when ≡ true → (scope : Scope) (f : Follows old.tables scope) → DeclaresBase (λ outcome. ShowsType on outcome base) scope f.by old.tables mid.tables (based_in true scope words)) where
   nothing_seen : when ≡ false → Stays old mid
   nothing_seen h = record {
-    stays = λ by unit u. record { tables = subst (λ (t : Tables). IsFollowed by t unit.scope) (sym (off h)) u.tables; defined = defined_is ∙ u.defined; outside = u.outside };
+    stays = λ by unit u. record { tables = subst (λ (t : Tables). FollowsBy by t unit.scope) (sym (off h)) u.tables; defined = defined_is ∙ u.defined; outside = u.outside };
   }
 
   -- what is seen behind words that name a type

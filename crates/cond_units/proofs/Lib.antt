@@ -2,6 +2,6 @@ pub mod Searching
 pub mod Completing
 pub mod Declarators
 pub mod Walking
-pub mod Alternatives
 pub mod Declaring
+pub mod Growing
 pub mod EachItem

@@ -1,5 +1,5 @@
 -- A list of declarators is gone through as it is judged.
-use Rattle.std.proofs.Common.{◌≡◌, ℕ, Bool, true, false, ◌||◌, List, [], ◌∷◌, refl, sym, ap, ap₂, ◌∙◌, subst, if◌then◌else◌}
+use Rattle.std.proofs.Common.{◌≡◌, ℕ, Bool, true, false, ◌||◌, List, [], ◌∷◌, refl, sym, ap, ◌∙◌, subst, if◌then◌else◌}
 use Rattle.std.specs.Prelude.{⊤}
 use Rattle.std.proofs.lemmas.Bool.{false≢true}
 use Rattle.conditional.specs.Judgements as judgements
@@ -15,6 +15,7 @@ use Rattle.core_meaning.specs.UnitNames.{Storage, UnitState, declared_from}
 use Rattle.operand_types.specs.OperandTypes.{renumbered}
 use Rattle.operand_rules.specs.declared.operands.Refused.{Refused}
 use Rattle.choice_expansions.specs.Steps.{after_each}
+use Rattle.conditional_steps.proofs.Alternatives.{or_nothing}
 use Rattle.declarator_lists.specs.Lists.{Declared, declared_in, trees_of}
 use Rattle.declaration_readings.specs.Readings.{Going, after, goes_on, goes_through, IsSame, next_name}
 use Rattle.declaration_readings.specs.Laws.{NamesAreRead}
@@ -24,7 +25,7 @@ use Rattle.typed_scopes.specs.Follows.{IsThere}
 use Rattle.cond_declarators.specs.Types.{ShowsType}
 use Rattle.cond_objects.specs.Seen.{SeenUnit}
 use Rattle.cond_objects.specs.Units.{IsUnit, GoesOn, Declares}
-use Rattle.cond_functions.specs.Where.{Stays, Where}
+use Rattle.cond_functions.specs.Where.{Where}
 use Rattle.cond_units.specs.Names.{one_name, IsReady}
 
 -- ---- what is derived of a list
@@ -39,22 +40,6 @@ are_ready {role} (last_initialised {sign = sign} m d w v) = subst (AreReady role
 are_ready {role} (next_plain {comma = comma} {rest = rest} d w others) = subst (AreReady role) (sym (one_before d comma rest w)) (record { declares = d; initialised = tt }, are_ready others)
 are_ready {role} (next_initialised {sign = sign} {comma = comma} {rest = rest} m d w v x others) =
     subst (AreReady role) (sym (value_before d sign w v comma rest)) (record { declares = d; initialised = v }, are_ready others)
-
--- ---- where nothing is declared
-
-pub stays_so : (s : SeenUnit) → Stays s s
-stays_so s = record { stays = λ by unit u. u }
-
-pub or_nothing : (a b : Bool) → b ≡ false → (a || b) ≡ a
-or_nothing true b h = refl
-or_nothing false b h = h
-
-pub nothing_done :
-    (Does : SeenUnit → SeenUnit → Bool → Type 0) (here : Bool) (start old new : SeenUnit) (earlier found later : Bool) → here ≡ false → later ≡ (earlier || found)
-    → Where here Does old new found → Stays start old × (earlier ≡ false) → Stays start new × (later ≡ false)
-nothing_done Does here start old new earlier found later off either does before =
-    let same = does.elsewhere off in
-    (record { stays = λ by unit u. same.0.stays by unit (before.0.stays by unit u) }, either ∙ ap₂ (λ (a b : Bool). a || b) before.1 same.1)
 
 -- ---- one declarator more
 

@@ -4,8 +4,8 @@ use Rattle.c_tree.specs.Trees.{PlainTree, PlainTrees}
 use Rattle.core_meaning.specs.Checking.{Checked, fine, ◌>>=◌, give}
 use Rattle.core_meaning.specs.Entities.{Struct}
 use Rattle.core_meaning.specs.UnitNames.{UnitState, with_scope, declared_from}
+use Rattle.typed_scopes.specs.Numbers.{NumbersKept}
 use Rattle.cond_declarators.specs.Types.{based_in}
-use Rattle.cond_declarators.specs.DeclaredBases.{NumbersKept}
 use Rattle.cond_objects.specs.Seen.{SeenUnit}
 use Rattle.cond_objects.specs.Units.{IsUnit}
 use Rattle.cond_units.specs.Names.{storage_in}

@@ -10,8 +10,7 @@ ghost use Rattle.cond_objects.specs.Seen.{seen_unit};
 ghost use Rattle.cond_functions.specs.Where.{Where};
 ghost use Rattle.cond_units.specs.Items.{DeclaresItem, declaration_of, words_alone};
 
-use crate::functions::FunctionDeclarations;
-use crate::storages::{Surroundings, name_with_each, storages};
+use crate::storages::{Surroundings, name_with_each, said_storages};
 use choice_expansions::expansions;
 use choice_trees::{Choice, Item};
 use cond_declarators::declared_base;
@@ -22,12 +21,12 @@ use reduced_conditions::either;
 use std::alloc::Global;
 
 /// The declaration with these words and this list of declarators, where the condition is true. The answer is where it is refused.
-pub fn declare<F: FunctionDeclarations, B: Behind, O: Oracle>(
+pub fn declare<B: Behind, O: Oracle>(
     alloc: Global,
     oracle: &mut O,
     unit: &mut UnitTables,
     when: &Formula,
-    surroundings: &Surroundings<'_, F, B>,
+    surroundings: &Surroundings<'_, B>,
     words: &Item,
     parts: &[Choice<Item>],
 ) -> Result<Formula, NoMemory>
@@ -41,7 +40,7 @@ pub fn declare<F: FunctionDeclarations, B: Behind, O: Oracle>(
     let untyped = where_refused(alloc, &base)?;
     let no_type = possible_both(alloc, oracle, when, &untyped)?;
     let trees = expansions(alloc, oracle, words)?;
-    let said = storages(alloc, &trees)?;
+    let said = said_storages(alloc, &trees)?;
     let refused = name_with_each(alloc, oracle, unit, when, surroundings, &base, &said, parts)?;
     either(alloc, no_type, refused)
 }

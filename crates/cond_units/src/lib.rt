@@ -5,7 +5,6 @@
 mod behind;
 mod completions;
 mod declarations;
-mod functions;
 mod items;
 mod names;
 mod storages;
@@ -13,7 +12,6 @@ mod tags;
 
 pub use behind::ItemsBehind;
 pub use declarations::{declare, declare_alone};
-pub use functions::{FunctionDeclarations, TableFunctions};
 pub use items::{FileItems, declare_items};
 pub use names::{FileDeclaration, declare_names};
-pub use storages::Surroundings;
+pub use storages::{SaidStorage, Surroundings, said_storages};

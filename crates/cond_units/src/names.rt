@@ -17,10 +17,10 @@ ghost use Rattle.cond_units.specs.Names as spec;
 ghost use Rattle.cond_functions.specs.Where.{Where};
 ghost use Rattle.cond_units.specs.Names.{IsReady, one_name, all_names};
 
-use crate::functions::FunctionDeclarations;
 use c_tree::Kind;
 use choice_trees::{Choice, Item};
 use cond_formula::{Formula, NoMemory, Oracle};
+use cond_functions::declare_function;
 use cond_objects::{Behind, ObjectDeclaration, UnitTables, declare_object};
 use conditional::Outcomes;
 use conditional_steps::{both_of, never};
@@ -33,11 +33,10 @@ use type_tables::DeclaredType;
 
 /// What a declaration at file scope says before its declarators, and what stands behind it.
 #[derive(Drop)]
-pub struct FileDeclaration<'d, F, B> {
+pub struct FileDeclaration<'d, B> {
     pub storage: Storage,
     /// The type before the declarators.
     pub base: &'d Outcomes<DeclaredType, Refused>,
-    pub functions: &'d F,
     /// The items of the unit behind the declaration.
     pub behind: &'d B,
 }
@@ -60,12 +59,12 @@ fn is_function_kind(kind: Kind) -> bool
 }
 
 /// The name of a declarator that is no function's, where the condition is true.
-fn name_object<F: FunctionDeclarations, B: Behind, O: Oracle>(
+fn name_object<B: Behind, O: Oracle>(
     alloc: Global,
     oracle: &mut O,
     unit: &mut UnitTables,
     when: &Formula,
-    declaration: &FileDeclaration<'_, F, B>,
+    declaration: &FileDeclaration<'_, B>,
     declarator: &Item,
     initialiser: Option<&Item>,
 ) -> Result<Formula, NoMemory>
@@ -87,12 +86,12 @@ fn name_object<F: FunctionDeclarations, B: Behind, O: Oracle>(
 }
 
 /// The name of a declarator of a function, where the condition is true.
-fn name_function<F: FunctionDeclarations, B: Behind, O: Oracle>(
+fn name_function<B: Behind, O: Oracle>(
     alloc: Global,
     oracle: &mut O,
     unit: &mut UnitTables,
     when: &Formula,
-    declaration: &FileDeclaration<'_, F, B>,
+    declaration: &FileDeclaration<'_, B>,
     declarator: &Item,
     initialiser: Option<&Item>,
 ) -> Result<Formula, NoMemory>
@@ -106,8 +105,7 @@ fn name_function<F: FunctionDeclarations, B: Behind, O: Oracle>(
     let base = declaration.base;
     let storage = declaration.storage;
     let initialised = initialiser.is_some();
-    let functions = declaration.functions;
-    let refused = functions.declare_function(
+    let refused = declare_function(
         alloc,
         oracle,
         unit,
@@ -121,12 +119,12 @@ fn name_function<F: FunctionDeclarations, B: Behind, O: Oracle>(
 }
 
 /// The name of a declarator, where the condition is true. The answer is where it is refused.
-fn name_one<F: FunctionDeclarations, B: Behind, O: Oracle>(
+fn name_one<B: Behind, O: Oracle>(
     alloc: Global,
     oracle: &mut O,
     unit: &mut UnitTables,
     when: &Formula,
-    declaration: &FileDeclaration<'_, F, B>,
+    declaration: &FileDeclaration<'_, B>,
     declarator: &Item,
     initialiser: Option<&Item>,
 ) -> Result<Formula, NoMemory>
@@ -161,12 +159,12 @@ fn name_one<F: FunctionDeclarations, B: Behind, O: Oracle>(
 }
 
 /// The name of a declarator of a list, where the condition is true and it is there.
-fn name_listed<F: FunctionDeclarations, B: Behind, O: Oracle>(
+fn name_listed<B: Behind, O: Oracle>(
     alloc: Global,
     oracle: &mut O,
     unit: &mut UnitTables,
     when: &Formula,
-    declaration: &FileDeclaration<'_, F, B>,
+    declaration: &FileDeclaration<'_, B>,
     listed: &ListedDeclarator<'_>,
 ) -> Result<Formula, NoMemory>
     ensures kept { O.admits oracle.new ≡ O.admits oracle.old }
@@ -191,12 +189,12 @@ fn name_listed<F: FunctionDeclarations, B: Behind, O: Oracle>(
 }
 
 /// The names of the declarators of a list, one after the other.
-fn name_each<F: FunctionDeclarations, B: Behind, O: Oracle>(
+fn name_each<B: Behind, O: Oracle>(
     alloc: Global,
     oracle: &mut O,
     unit: &mut UnitTables,
     when: &Formula,
-    declaration: &FileDeclaration<'_, F, B>,
+    declaration: &FileDeclaration<'_, B>,
     all: &[ListedDeclarator<'_>],
 ) -> Result<Formula, NoMemory>
     ensures kept { O.admits oracle.new ≡ O.admits oracle.old }
@@ -216,12 +214,12 @@ fn name_each<F: FunctionDeclarations, B: Behind, O: Oracle>(
 
 /// The names of the parts of a list of declarators, where the condition is true: each is declared, as a function or as an object, behind the words
 /// of the declaration. The answer is where one is refused.
-pub fn declare_names<F: FunctionDeclarations, B: Behind, O: Oracle>(
+pub fn declare_names<B: Behind, O: Oracle>(
     alloc: Global,
     oracle: &mut O,
     unit: &mut UnitTables,
     when: &Formula,
-    declaration: &FileDeclaration<'_, F, B>,
+    declaration: &FileDeclaration<'_, B>,
     parts: &[Choice<Item>],
 ) -> Result<Formula, NoMemory>
     ensures kept { O.admits oracle.new ≡ O.admits oracle.old }

@@ -16,7 +16,6 @@ ghost use Rattle.cond_objects.specs.Units.{Declares};
 ghost use Rattle.cond_functions.specs.Where.{Where};
 ghost use Rattle.cond_units.specs.Names.{all_names, storage_in, said};
 
-use crate::functions::FunctionDeclarations;
 use crate::names::{FileDeclaration, declare_names};
 use c_tree::Tree;
 use choice_expansions::Expansion;
@@ -33,15 +32,14 @@ use type_tables::DeclaredType;
 
 /// The storage that words say where a condition is true.
 #[derive(Drop)]
-pub(crate) struct SaidStorage {
-    pub(crate) when: Formula,
-    pub(crate) storage: Storage,
+pub struct SaidStorage {
+    pub when: Formula,
+    pub storage: Storage,
 }
 
-/// How a declaration's functions are declared, and what stands behind it.
+/// What stands around a declaration.
 #[derive(Drop)]
-pub struct Surroundings<'d, F, B> {
-    pub functions: &'d F,
+pub struct Surroundings<'d, B> {
     /// The items of the unit behind the declaration.
     pub behind: &'d B,
 }
@@ -58,10 +56,7 @@ fn storage_in_tree(tree: &Tree) -> Storage
 }
 
 /// The storage that each of the trees says that words stand for.
-pub(crate) fn storages(
-    alloc: Global,
-    expansions: &[Expansion],
-) -> Result<Vec<SaidStorage>, NoMemory>
+pub fn said_storages(alloc: Global, expansions: &[Expansion]) -> Result<Vec<SaidStorage>, NoMemory>
     ensures { IfOk result (λ all. (on : ℕ → Bool) → seen on (said all.items) ≡ map storage_in (seen on (expanded expansions.now))) }
 {
     let mut all = Vec::with_capacity(alloc, expansions.len())?;
@@ -74,12 +69,12 @@ pub(crate) fn storages(
 }
 
 /// The names of a declaration with a storage, where the condition is true and the words say so.
-fn name_with_storage<F: FunctionDeclarations, B: Behind, O: Oracle>(
+fn name_with_storage<B: Behind, O: Oracle>(
     alloc: Global,
     oracle: &mut O,
     unit: &mut UnitTables,
     when: &Formula,
-    surroundings: &Surroundings<'_, F, B>,
+    surroundings: &Surroundings<'_, B>,
     base: &Outcomes<DeclaredType, Refused>,
     one: &SaidStorage,
     parts: &[Choice<Item>],
@@ -95,7 +90,6 @@ fn name_with_storage<F: FunctionDeclarations, B: Behind, O: Oracle>(
     let declaration = FileDeclaration {
         storage: one.storage,
         base,
-        functions: surroundings.functions,
         behind: surroundings.behind,
     };
     let refused = declare_names(alloc, oracle, unit, &here, &declaration, parts)?;
@@ -103,12 +97,12 @@ fn name_with_storage<F: FunctionDeclarations, B: Behind, O: Oracle>(
 }
 
 /// The names of a declaration with each of the storages, of which its words say one in each configuration.
-pub(crate) fn name_with_each<F: FunctionDeclarations, B: Behind, O: Oracle>(
+pub(crate) fn name_with_each<B: Behind, O: Oracle>(
     alloc: Global,
     oracle: &mut O,
     unit: &mut UnitTables,
     when: &Formula,
-    surroundings: &Surroundings<'_, F, B>,
+    surroundings: &Surroundings<'_, B>,
     base: &Outcomes<DeclaredType, Refused>,
     storages: &[SaidStorage],
     parts: &[Choice<Item>],

@@ -1,3 +1,4 @@
 pub mod Refusals
+pub mod Found
 pub mod Alternatives
 pub mod FirstAlternative

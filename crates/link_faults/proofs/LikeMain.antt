@@ -4,18 +4,14 @@ use Rattle.std.specs.Prelude.{Option, Some, None, option_map, nat_le, if◌then�
 use Rattle.cond_formula.specs.Conditions.{condition_of, value}
 use Rattle.conditional.specs.Entries.{seen, entries_of, some_holds}
 use Rattle.conditional.specs.declared.entries.Guarded.{Guarded}
-use Rattle.c_types.specs.Types.{PlainType}
 use Rattle.core_meaning.specs.Entities.{Signature}
 use Rattle.core_meaning.specs.UnitNames.{same_types}
 use Rattle.core_meaning.specs.Linking.{is_main}
-use Rattle.type_tables.specs.Tables.{FileName}
+use Rattle.type_tables.specs.Tables.{FileName, sort_in}
 use Rattle.type_tables.specs.Forms.{declared_type_form}
 use Rattle.type_tables.specs.declared.entries.DeclaredType.{DeclaredType}
-use Rattle.link_faults.specs.SeenUnits.{name_in, sort_in}
+use Rattle.link_faults.specs.SeenUnits.{name_in}
 use Rattle.link_faults.specs.Measures.{is_so}
-
-abbrev pub signature_of_parts : PlainType → List PlainType → Signature
-signature_of_parts result parameters = record { result = result; parameters = parameters }
 
 pub none_there : (on : ℕ → Bool) (xs : List (Guarded DeclaredType))
     → not (some_holds on (entries_of declared_type_form xs)) ≡ same_types (seen on (entries_of declared_type_form xs)) []

@@ -10,13 +10,13 @@ use Rattle.core_meaning.specs.Entities as scopes
 use Rattle.core_meaning.specs.Typing.{same_type}
 use Rattle.core_meaning.specs.UnitNames.{Defined, same_types}
 use Rattle.core_meaning.specs.Linking.{Unit, is_internal, is_main, is_tentative, defines, defines_main, count_whole, count_defined, count_external, count_in_unit, is_available, is_duplicate, built_in_named}
-use Rattle.type_tables.specs.Tables.{Sort, object, declared_function, FileName}
+use Rattle.type_tables.specs.Tables.{Sort, object, declared_function, FileName, sort_in}
 use Rattle.type_tables.specs.Seen.{seen_tables}
 use Rattle.type_tables.specs.declared.tables.Tables.{Tables}
 use Rattle.typed_scopes.specs.Follows.{NameFollows, SortFollows}
 use Rattle.cond_objects.specs.Seen.{plain_definitions}
 use Rattle.link_faults.specs.declared.left.LeftUnit.{LeftUnit}
-use Rattle.link_faults.specs.SeenUnits.{LeavesAlike, unit_seen, name_seen, name_in, sort_in, body_of, definition_of, is_undefined}
+use Rattle.link_faults.specs.SeenUnits.{LeavesAlike, unit_seen, name_seen, name_in, body_of, definition_of, is_undefined}
 
 -- ---- definitions
 

@@ -4,11 +4,11 @@ use Rattle.std.specs.List.{list_any, AllZip}
 use Rattle.std.specs.Str.{bytes_eq}
 use Rattle.cond_formula.specs.Conditions.{condition_of, value}
 use Rattle.conditional.specs.Entries.{seen, listed, first}
-use Rattle.core_meaning.specs.Entities.{Table, Struct, Signature, variable, function}
+use Rattle.core_meaning.specs.Entities.{Table, Struct, Signature}
 use Rattle.core_meaning.specs.Entities as scopes
 use Rattle.core_meaning.specs.UnitNames.{Body, object_body, tentative_body, Defined}
 use Rattle.core_meaning.specs.Linking.{Unit, Units, is_available}
-use Rattle.type_tables.specs.Tables.{Sort, object, declared_function, FileName}
+use Rattle.type_tables.specs.Tables.{FileName, sort_in}
 use Rattle.type_tables.specs.Forms.{file_name_form}
 use Rattle.type_tables.specs.Seen.{seen_tables}
 use Rattle.type_tables.specs.declared.entries.CondName.{CondName}
@@ -32,10 +32,6 @@ module _ (on : ℕ → Bool) where
   is_present left = value on (condition_of left.when)
 
 -- ---- as units
-
-abbrev pub sort_in : (ℕ → Signature) → Sort → scopes.Sort
-sort_in signatures (object ty) = variable ty
-sort_in signatures (declared_function number) = function (signatures number)
 
 abbrev pub name_in : (ℕ → Signature) → FileName → scopes.FileName
 name_in signatures n = record { sort = sort_in signatures n.sort; internal = n.internal }

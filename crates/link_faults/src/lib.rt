@@ -17,3 +17,4 @@ pub use duplicates::where_duplicate;
 pub use laws::{faults_are_those_of_what_is_seen, other_names_have_no_fault};
 pub use left::{CondUse, LeftUnit};
 pub use mains::where_no_main;
+pub use names::declared;

@@ -1,5 +1,5 @@
 //! Whether a unit defines `main` (5.1.2.2.1).
-ghost use Rattle.std.specs.Prelude.{◌≡◌, ℕ, Bool, false, not, ◌&&◌, [], Some, None, IfOk};
+ghost use Rattle.std.specs.Prelude.{◌≡◌, ℕ, Bool, false, not, ◌&&◌, [], Some, IfOk};
 ghost use Rattle.std.specs.List.{list_any};
 ghost use Rattle.cond_formula.specs.Conditions.{condition_of, value};
 ghost use Rattle.conditional.specs.Entries.{seen, listed};
@@ -8,9 +8,10 @@ ghost use Rattle.core_meaning.specs.Entities.{function};
 ghost use Rattle.core_meaning.specs.Linking as spec;
 ghost use Rattle.core_meaning.specs.Typing.{same_type};
 ghost use Rattle.core_meaning.specs.UnitNames.{same_types};
+ghost use Rattle.type_tables.specs.Tables.{sort_in};
 ghost use Rattle.type_tables.specs.Forms.{declared_type_form, sort_form};
 ghost use Rattle.type_tables.specs.Seen.{seen_tables, signature_of};
-ghost use Rattle.link_faults.specs.SeenUnits.{unit_seen, units_seen, sort_in};
+ghost use Rattle.link_faults.specs.SeenUnits.{unit_seen, units_seen};
 ghost use Rattle.link_faults.specs.Measures.{defines_as_main};
 
 use crate::definitions::where_defined;
@@ -45,29 +46,12 @@ fn where_like_main(alloc: Global, f: &CondSignature) -> Result<Formula, NoMemory
     where_empty(alloc, &f.parameters)
 }
 
-/// The declaration of a function with this number; one that isn't there is taken for the given one.
-fn signature_at<'t>(
-    tables: &'t Tables,
-    number: u32,
-    otherwise: &'t CondSignature,
-) -> &'t CondSignature
-    ensures { (on : ℕ → Bool) → signature_of on (Some otherwise.now) ≡ signature_of on None → signature_of on (Some result.now) ≡ (seen_tables on tables.now).signatures number }
-{
-    match tables.signatures.get(number as usize) {
-        Some(signature) => signature,
-        None => otherwise,
-    }
-}
-
 /// Where the function of a declaration is like `main`.
 fn where_main_numbered(alloc: Global, tables: &Tables, number: u32) -> Result<Formula, NoMemory>
     ensures { IfOk result (λ r. (on : ℕ → Bool) → value on (condition_of r) ≡ spec.is_main (function ((seen_tables on tables.now).signatures number))) }
 {
-    let none = CondSignature {
-        result: CType::Void,
-        parameters: CondList::empty(alloc),
-    };
-    let f = signature_at(tables, number, &none);
+    let none = CondSignature::none(alloc);
+    let f = tables.signature_or(number, &none);
     let r = where_like_main(alloc, f)?;
     Ok(r)
 }

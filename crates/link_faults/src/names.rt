@@ -29,7 +29,7 @@ fn named<'a>(names: &'a [CondName], name: &[u8]) -> Option<&'a CondName>
 }
 
 /// What a unit declares a name as.
-pub(crate) fn declared(
+pub fn declared(
     alloc: Global,
     left: &LeftUnit,
     name: &[u8],

@@ -1,3 +1,4 @@
 pub mod Places
 pub mod PairLaws
 pub mod RowLaws
+pub mod Seen

@@ -20,9 +20,10 @@ use Rattle.operand_types.proofs.Renumbered.{same_by}
 use Rattle.type_tables.specs.Tables.{Tables, Sort, object, declared_function, FileName}
 use Rattle.type_tables.specs.Steps.{with_name, where_true}
 use Rattle.typed_scopes.specs.Follows.{IsNumbered, SortFollows, NameFollows, SortIsThere, Follows, renumbered_signature}
+use Rattle.typed_scopes.specs.Numbers.{FollowsBy}
 use Rattle.typed_scopes.proofs.Names.{name_declared, name_by}
 use Rattle.name_declarations.specs.Conflicts.{is_same_sort, is_function, keeps_linkage, returns_so, differs, is_no_such_function, conflicting}
-use Rattle.name_declarations.specs.Names.{IsFollowed, Named}
+use Rattle.name_declarations.specs.Names.{Named}
 
 -- ---- linkage
 
@@ -126,13 +127,13 @@ module _ (t : Tables) (scope : Scope) (f : Follows t scope) where
         at other false h = refl
 
     again : (b : Bool) (m : FileName) → t.names token.text ≡ Some m → Named f.by (unless_so b Redeclared token >>= (λ u. give scope)) (not b) (with_name token.text what t)
-    again true m e = (refl, subst (λ t. IsFollowed f.by t scope) (name_kept m e) (record { follows = f; numbers = refl }))
+    again true m e = (refl, subst (λ t. FollowsBy f.by t scope) (name_kept m e) (record { follows = f; numbers = refl }))
     again false m e = refl
 
     abbrev new : scopes.FileName
     new = record { sort = s; internal = linkage storage (spec.is_function s) None }
 
-    first : t.names token.text ≡ None → IsFollowed f.by (with_name token.text what t) (spec.with_file_name scope token.text new)
+    first : t.names token.text ≡ None → FollowsBy f.by (with_name token.text what t) (spec.with_file_name scope token.text new)
     first e = record {
       follows = name_declared t scope f token.text new what (follows, new_linkage storage (spec.is_function s)) there is_numbered (λ other h. ap t.names ((bytes_decides other token.text).0 h) ∙ e);
       numbers = name_by t scope f token.text new what (follows, new_linkage storage (spec.is_function s)) there is_numbered (λ other h. ap t.names ((bytes_decides other token.text).0 h) ∙ e);
@@ -158,3 +159,8 @@ module _ (t : Tables) (scope : Scope) (f : Follows t scope) where
         subst (λ b. Named f.by (spec.with_name scope token s storage) b now) (sym (r ∙ ap (λ b. b && conflicting (differs t.signatures storage x) (t.names name)) h ∙ ap (λ n. conflicting (differs t.signatures storage x) (t.names n)) (sym text)))
         (subst (Named f.by (spec.with_name scope token s storage) (conflicting (differs t.signatures storage x) (t.names token.text)))
         (sym (e ∙ ap (λ b. where_true b (with_name name (record { sort = x; internal = internal })) t) (d ∙ h) ∙ ap₂ (λ n i. with_name n (record { sort = x; internal = i }) t) (sym text) is)) named)
+
+-- no more blocks are open behind a name
+pub depth_kept : (here : Bool) (name : List ℕ) (what : FileName) (t : Tables) → (where_true here (with_name name what) t).depth ≡ t.depth
+depth_kept true name what t = refl
+depth_kept false name what t = refl

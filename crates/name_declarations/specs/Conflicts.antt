@@ -5,16 +5,12 @@ use Rattle.core_meaning.specs.Entities as scopes
 use Rattle.core_meaning.specs.Entities.{Signature}
 use Rattle.core_meaning.specs.Typing.{same_type}
 use Rattle.core_meaning.specs.UnitNames.{Storage, same_sort, same_bool, linkage}
-use Rattle.type_tables.specs.Tables.{Sort, object, declared_function, FileName}
+use Rattle.type_tables.specs.Tables.{Sort, object, declared_function, FileName, sort_in}
 
 -- functions by the numbers of their declarations
 module _ (signatures : ℕ → Signature) where
-  abbrev pub sort_of : Sort → scopes.Sort
-  sort_of (object ty) = scopes.variable ty
-  sort_of (declared_function number) = scopes.function (signatures number)
-
   abbrev pub is_same_sort : Sort → Sort → Bool
-  is_same_sort a b = same_sort (sort_of a) (sort_of b)
+  is_same_sort a b = same_sort (sort_in signatures a) (sort_in signatures b)
 
   -- the name stands for a function that returns this type
   abbrev pub returns_so : PlainType → Sort → Bool

@@ -3,14 +3,9 @@ use Rattle.std.specs.Prelude.{◌≡◌, ℕ, Bool, true, false}
 use Rattle.core_meaning.specs.Checking.{Checked, fine}
 use Rattle.core_meaning.specs.Entities.{Scope}
 use Rattle.type_tables.specs.Tables.{Tables}
-use Rattle.typed_scopes.specs.Follows.{Follows}
-
--- the tables follow the scope, where structs have these numbers
-pub record IsFollowed (by : ℕ → ℕ) (t : Tables) (scope : Scope) : Type 0 where
-  pub follows : Follows t scope
-  pub numbers : follows.by ≡ by
+use Rattle.typed_scopes.specs.Numbers.{FollowsBy}
 
 -- the tables follow what is visible behind the declaration, or it is refused
 abbrev pub Named : (ℕ → ℕ) → Checked Scope → Bool → Tables → Type 0
-Named by (fine scope bindings) refused t = (refused ≡ false) × IsFollowed by t scope
+Named by (fine scope bindings) refused t = (refused ≡ false) × FollowsBy by t scope
 Named by other refused t = refused ≡ true

@@ -1,5 +1,5 @@
 //! Declarations of names of file scope (6.2.2, 6.7).
-ghost use Rattle.std.specs.Prelude.{◌≡◌, ℕ, Bool, true, false, not, ◌&&◌, List, IsTrue, IfOk};
+ghost use Rattle.std.specs.Prelude.{◌≡◌, ℕ, Bool, true, false, not, ◌&&◌, List, IsTrue, IfOk, OnOk};
 ghost use Rattle.cond_formula.specs.Features.{has};
 ghost use Rattle.cond_formula.specs.Conditions.{condition_of, value};
 ghost use Rattle.c_text.specs.Token.{PlainToken};
@@ -125,6 +125,8 @@ pub fn declare_as<O: Oracle>(
         → (scope : scopes.Scope) (follows : Follows (seen_tables (has c) tables.old) scope) (token : PlainToken) (s : scopes.Sort) → token.text ≡ name.now
         → SortFollows follows.by (seen_tables (has c) tables.old).signatures s (sort_form sort) → SortIsThere scope.structs s → IsNumbered (seen_tables (has c) tables.old).functions (sort_form sort)
         → Named follows.by (spec.with_name scope token s (plain_storage storage)) (value (has c) (condition_of f)) (seen_tables (has c) tables.new)) }
+    ensures locals { OnOk result (tables.new.locals ≡ tables.old.locals) }
+    ensures depth { OnOk result (tables.new.depth ≡ tables.old.depth) }
 {
     let declaration = Declaration {
         tables,

@@ -1,5 +1,5 @@
 //! Whether two declarations make the same of a name (6.2.7, 6.7).
-ghost use Rattle.std.specs.Prelude.{◌≡◌, ℕ, Bool, not, List, Some, None, IsTrue, IfOk};
+ghost use Rattle.std.specs.Prelude.{◌≡◌, ℕ, Bool, not, List, Some, IsTrue, IfOk};
 ghost use Rattle.cond_formula.specs.Features.{has};
 ghost use Rattle.cond_formula.specs.Conditions.{condition_of, value};
 ghost use Rattle.conditional.specs.Entries.{seen, listed, first};
@@ -89,20 +89,6 @@ fn where_signatures_differ<O: Oracle>(
     where_parameters_differ(alloc, oracle, &f.parameters, &g.parameters)
 }
 
-/// The declaration of a function with this number; one that isn't there is taken for the given one.
-fn signature_at<'t>(
-    tables: &'t Tables,
-    number: u32,
-    otherwise: &'t CondSignature,
-) -> &'t CondSignature
-    ensures { (on : ℕ → Bool) → signature_of on (Some otherwise.now) ≡ signature_of on None → signature_of on (Some result.now) ≡ (seen_tables on tables.now).signatures number }
-{
-    match tables.signatures.get(number as usize) {
-        Some(signature) => signature,
-        None => otherwise,
-    }
-}
-
 /// Where the functions of two declarations differ.
 fn where_functions_differ<O: Oracle>(
     alloc: Global,
@@ -115,12 +101,9 @@ fn where_functions_differ<O: Oracle>(
     ensures exact { IfOk result (λ f. (c : List Bool) → IsTrue (value (has c) (O.admits oracle.old))
         → value (has c) (condition_of f) ≡ not (same_sort (function ((seen_tables (has c) tables.now).signatures number)) (function ((seen_tables (has c) tables.now).signatures other)))) }
 {
-    let none = CondSignature {
-        result: CType::Void,
-        parameters: CondList::empty(alloc),
-    };
-    let f = signature_at(tables, number, &none);
-    let g = signature_at(tables, other, &none);
+    let none = CondSignature::none(alloc);
+    let f = tables.signature_or(number, &none);
+    let g = tables.signature_or(other, &none);
     where_signatures_differ(alloc, oracle, f, g)
 }
 

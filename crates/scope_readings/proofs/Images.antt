@@ -1,6 +1,6 @@
 -- What is visible in a reading, as tables of names with the numbers of the stream: each step of a reading is a step of a walk there.
 use Rattle.std.proofs.Common.{◌≡◌, ℕ, ◌+◌, Bool, true, false, List, [], ◌∷◌, ◌++◌, drop, get_or, refl, sym, ap, ◌∙◌, drop-drop, get_or-drop, append-nil, add-zero}
-use Rattle.std.specs.Prelude.{Option, Some, None, if◌then◌else◌}
+use Rattle.std.specs.Prelude.{not, ◌&&◌, ◌||◌, Option, Some, None, is_some, if◌then◌else◌}
 use Rattle.std.specs.Str.{bytes_eq}
 use Rattle.std.specs.Cmp.Lexicographic.{bytes_decides}
 use Rattle.std.proofs.lemmas.Bool.{false≢true}
@@ -8,9 +8,9 @@ use Rattle.std.proofs.lemmas.List.Concat.{flat_map-append}
 use Rattle.c_text.specs.Token.{PlainToken}
 use Rattle.core_meaning.specs.Entities.{with_entry, or_else}
 use Rattle.bindings.specs.Visible as reading
-use Rattle.bindings.specs.Visible.{ordinary, tags as tag_space, members_of, Entry, look_up, Binding, bound_to, undeclared, member_use, Occurrence, Reading, occurs, with_file_entry, binding_found, visible_name, member_used, tag_found, tag_named}
+use Rattle.bindings.specs.Visible.{ordinary, tags as tag_space, members_of, Entry, look_up, Binding, bound_to, undeclared, member_use, Occurrence, uses_among, Reading, occurs, with_file_entry, binding_found, visible_name, member_used, tag_found, tag_named}
 use Rattle.bindings.specs.Bindings.{Where, at_file, in_block, among_members, first_or, declaring, declared}
-use Rattle.scope_readings.specs.Scopes.{Pairing, Scopes, this, or_own, passed, paired, used, tagged, Scope, file_scope, block_scope, members, named, shown}
+use Rattle.scope_readings.specs.Scopes.{Pairing, Scopes, this, or_own, passed, paired, file_used, used, tagged, Scope, file_scope, block_scope, members, named, shown}
 use Rattle.scope_readings.specs.Laws.{pairing, pairings}
 
 -- ---- the image of a reading
@@ -26,6 +26,7 @@ image numbers r = record {
   tags = λ name. seen numbers (look_up tag_space name r.file);
   blocks = λ name. seen numbers (look_up ordinary name r.blocks);
   found = pairings numbers r.found;
+  uses = uses_among r.found;
 }
 
 abbrev pub scope_at : Where → Scope
@@ -37,8 +38,8 @@ scope_at (among_members tag) = members
 
 same_scopes :
     (s t : Scopes) → s.coming ≡ t.coming → ((name : List ℕ) → s.file name ≡ t.file name) → ((name : List ℕ) → s.tags name ≡ t.tags name)
-    → ((name : List ℕ) → s.blocks name ≡ t.blocks name) → s.found ≡ t.found → s ≡ t
-same_scopes s t e f g h found_ = λ i. record { coming = e i; file = λ name. f name i; tags = λ name. g name i; blocks = λ name. h name i; found = found_ i }
+    → ((name : List ℕ) → s.blocks name ≡ t.blocks name) → s.found ≡ t.found → ((name : List ℕ) → s.uses name ≡ t.uses name) → s ≡ t
+same_scopes s t e f g h found_ uses_ = λ i. record { coming = e i; file = λ name. f name i; tags = λ name. g name i; blocks = λ name. h name i; found = found_ i; uses = λ name. uses_ name i }
 
 bytes_turned : (a b : List ℕ) → bytes_eq a b ≡ bytes_eq b a
 bytes_turned a b = by (bytes_eq a b) refl (bytes_eq b a) refl
@@ -98,40 +99,72 @@ found_pair numbers n None = refl
 found_pair numbers n (Some by) = refl
 
 found_more :
-    (numbers : List ℕ) (os : List Occurrence) (token : PlainToken) (n : ℕ) (binding : Binding) (by : Option ℕ)
+    (numbers : List ℕ) (os : List Occurrence) (token : PlainToken) (n : ℕ) (binding : Binding) (uses_file_name : Bool) (by : Option ℕ)
     → pairing numbers n binding ≡ pair (get_or numbers n 0) by
-    → pairings numbers os ++ pair (get_or (drop n numbers) 0 0) by ≡ pairings numbers (os ++ record { number = n; token = token; binding = binding } ∷ [])
-found_more numbers os token n binding by e =
-    let o : Occurrence = record { number = n; token = token; binding = binding } in
+    → pairings numbers os ++ pair (get_or (drop n numbers) 0 0) by ≡ pairings numbers (os ++ record { number = n; token = token; binding = binding; uses_file_name = uses_file_name } ∷ [])
+found_more numbers os token n binding uses_file_name by e =
+    let o : Occurrence = record { number = n; token = token; binding = binding; uses_file_name = uses_file_name } in
     ap (λ (k : ℕ). pairings numbers os ++ pair k by) (this_number numbers n)
     ∙ ap (λ (l : List Pairing). pairings numbers os ++ l) (sym (ap (λ (l : List Pairing). l ++ []) e))
     ∙ sym (flat_map-append (λ (o : Occurrence). pairing numbers o.number o.binding) os (o ∷ []))
+
+-- ---- names of file scope that are used
+
+or_assoc : (a b c : Bool) → ((a || b) || c) ≡ (a || (b || c))
+or_assoc true b c = refl
+or_assoc false b c = refl
+
+or_false : (a : Bool) → (a || false) ≡ a
+or_false true = refl
+or_false false = refl
+
+uses_more : (os : List Occurrence) (o : Occurrence) (name : List ℕ) → uses_among (os ++ o ∷ []) name ≡ (uses_among os name || (o.uses_file_name && bytes_eq o.token.text name))
+uses_more [] o name = or_false (o.uses_file_name && bytes_eq o.token.text name)
+uses_more (p ∷ os) o name =
+    let here : Bool = p.uses_file_name && bytes_eq p.token.text name in
+    ap (λ (b : Bool). here || b) (uses_more os o name) ∙ sym (or_assoc here (uses_among os name) (o.uses_file_name && bytes_eq o.token.text name))
+
+-- an identifier that is no such use
+no_use : (os : List Occurrence) (token : PlainToken) (n : ℕ) (binding : Binding) (name : List ℕ) → uses_among os name ≡ uses_among (os ++ record { number = n; token = token; binding = binding; uses_file_name = false } ∷ []) name
+no_use os token n binding name = sym (uses_more os (record { number = n; token = token; binding = binding; uses_file_name = false }) name ∙ or_false (uses_among os name))
 
 -- ---- the steps
 
 module _ (numbers : List ℕ) where
   pub passed_image : (r : Reading) → passed (image numbers r) ≡ image numbers (reading.passed r)
   passed_image r =
-      same_scopes (passed (image numbers r)) (image numbers (reading.passed r)) (next_coming numbers r.next) (λ name. refl) (λ name. refl) (λ name. refl) refl
+      same_scopes (passed (image numbers r)) (image numbers (reading.passed r)) (next_coming numbers r.next) (λ name. refl) (λ name. refl) (λ name. refl) refl (λ name. refl)
 
   pub member_image : (token : PlainToken) (r : Reading) → passed (image numbers r) ≡ image numbers (member_used token r)
   member_image token r =
-      let o : Occurrence = record { number = r.next; token = token; binding = member_use (λ tag. look_up (members_of tag) token.text r.file) } in
+      let o : Occurrence = record { number = r.next; token = token; binding = member_use (λ tag. look_up (members_of tag) token.text r.file); uses_file_name = false } in
       same_scopes (passed (image numbers r)) (image numbers (member_used token r)) (next_coming numbers r.next) (λ name. refl) (λ name. refl) (λ name. refl)
       (sym (flat_map-append (λ (o : Occurrence). pairing numbers o.number o.binding) r.found (o ∷ []) ∙ append-nil (pairings numbers r.found)))
+      (no_use r.found token r.next (member_use (λ tag. look_up (members_of tag) token.text r.file)))
 
   occurs_image :
       (token : PlainToken) (binding : Binding) (by : Option ℕ) (r : Reading) → pairing numbers r.next binding ≡ pair (get_or numbers r.next 0) by
       → paired by (image numbers r) ≡ image numbers (occurs token binding r)
   occurs_image token binding by r e =
       same_scopes (paired by (image numbers r)) (image numbers (occurs token binding r)) (next_coming numbers r.next) (λ name. refl) (λ name. refl) (λ name. refl)
-      (found_more numbers r.found token r.next binding by e)
+      (found_more numbers r.found token r.next binding false by e) (no_use r.found token r.next binding)
 
   pub used_image : (token : PlainToken) (r : Reading) → used token.text (image numbers r) ≡ image numbers (reading.used token r)
   used_image token r =
-      ap (λ (by : Option ℕ). paired by (image numbers r)) (or_seen numbers (look_up ordinary token.text r.blocks) (look_up ordinary token.text r.file))
-      ∙ occurs_image token (binding_found (visible_name token.text r)) (seen numbers (visible_name token.text r)) r
-      (found_pair numbers r.next (visible_name token.text r))
+      let of_file : Bool = reading.is_of_file token.text r in
+      let by : Option ℕ = seen numbers (visible_name token.text r) in
+      ap (λ (by : Option ℕ). paired by (file_used token.text (image numbers r))) (or_seen numbers (look_up ordinary token.text r.blocks) (look_up ordinary token.text r.file))
+      ∙ same_scopes (paired by (file_used token.text (image numbers r))) (image numbers (reading.used token r)) (next_coming numbers r.next) (λ name. refl) (λ name. refl) (λ name. refl)
+      (found_more numbers r.found token r.next (binding_found (visible_name token.text r)) of_file by (found_pair numbers r.next (visible_name token.text r)))
+      (λ name. ap (λ (b : Bool). uses_among r.found name || (b && bytes_eq token.text name)) (file_seen (look_up ordinary token.text r.blocks) (look_up ordinary token.text r.file))
+      ∙ sym (uses_more r.found (record { number = r.next; token = token; binding = binding_found (visible_name token.text r); uses_file_name = of_file }) name))
+    where
+      is_seen : (o : Option ℕ) → is_some (seen numbers o) ≡ is_some o
+      is_seen None = refl
+      is_seen (Some by) = refl
+
+      file_seen : (inner outer : Option ℕ) → (not (is_some (seen numbers inner)) && is_some (seen numbers outer)) ≡ (not (is_some inner) && is_some outer)
+      file_seen inner outer = ap (λ (b : Bool). not b && is_some (seen numbers outer)) (is_seen inner) ∙ ap (λ (b : Bool). not (is_some inner) && b) (is_seen outer)
 
   -- ---- tags
 
@@ -144,7 +177,7 @@ module _ (numbers : List ℕ) where
   tag_entered token r (Some by) e =
       same_scopes (entered token.text (get_or numbers by 0) (image numbers r)) (image numbers (occurs token (bound_to by) r)) (next_coming numbers r.next)
       (λ name. refl) (λ name. entry_known numbers token.text name by r.file e) (λ name. refl)
-      (found_more numbers r.found token r.next (bound_to by) (Some (get_or numbers by 0)) refl)
+      (found_more numbers r.found token r.next (bound_to by) false (Some (get_or numbers by 0)) refl) (no_use r.found token r.next (bound_to by))
   tag_entered token r None e =
       same_scopes (entered token.text (this (image numbers r)) (image numbers r))
       (image numbers (occurs token (bound_to r.next) (with_file_entry tag_space token.text r.next r))) (next_coming numbers r.next) (λ name. refl)
@@ -152,7 +185,8 @@ module _ (numbers : List ℕ) where
       ∙ sym (entry_seen numbers token.text name r.next (look_up tag_space name r.file)))
       (λ name. refl)
       (ap (λ (k : ℕ). pairings numbers r.found ++ pair (get_or (drop r.next numbers) 0 0) (Some k)) (this_number numbers r.next)
-      ∙ found_more numbers r.found token r.next (bound_to r.next) (Some (get_or numbers r.next 0)) refl)
+      ∙ found_more numbers r.found token r.next (bound_to r.next) false (Some (get_or numbers r.next 0)) refl)
+      (no_use r.found token r.next (bound_to r.next))
 
   tag_used : (token : PlainToken) (r : Reading) (o : Option ℕ) → paired (seen numbers o) (image numbers r) ≡ image numbers (tag_found false token o r)
   tag_used token r (Some by) = occurs_image token (bound_to by) (Some (get_or numbers by 0)) r refl
@@ -188,12 +222,12 @@ module _ (numbers : List ℕ) where
       (ap (λ (file : List Entry). or_own (seen numbers (look_up ordinary token.text file)) (this (image numbers r))) same
       ∙ own_seen numbers (look_up ordinary token.text r.file) r.next)
       ∙ sym (entry_seen numbers token.text name by (look_up ordinary name s.file)))
-      (λ name. refl) (λ name. refl) refl
+      (λ name. refl) (λ name. refl) refl (λ name. refl)
   shown_image in_block token r s same =
       same_scopes (shown block_scope token.text (this (image numbers r)) (image numbers s)) (image numbers (declared in_block token r.next s)) refl
       (λ name. refl) (λ name. refl)
       (λ name. ap (λ (k : ℕ). if bytes_eq name token.text then Some k else seen numbers (look_up ordinary name s.blocks)) (this_number numbers r.next)
       ∙ sym (entry_seen numbers token.text name r.next (look_up ordinary name s.blocks)))
-      refl
+      refl (λ name. refl)
   shown_image (among_members tag) token r s same =
-      same_scopes (image numbers s) (image numbers (with_file_entry (members_of tag) token.text r.next s)) refl (λ name. refl) (λ name. refl) (λ name. refl) refl
+      same_scopes (image numbers s) (image numbers (with_file_entry (members_of tag) token.text r.next s)) refl (λ name. refl) (λ name. refl) (λ name. refl) refl (λ name. refl)

@@ -12,7 +12,7 @@ use Rattle.bindings.specs.Visible as reading
 use Rattle.bindings.specs.Visible.{Reading, start}
 use Rattle.bindings.specs.Bindings.{at_file, among_members, read_words, read_declarators, read_suffix, read_declaration, read_members, tag_text, read_item, read_items}
 use Rattle.scope_readings.specs.Scopes.{Scopes, leave}
-use Rattle.scope_readings.specs.Laws.{ScopesAreRead}
+use Rattle.scope_readings.specs.Laws.{ScopesAreRead, FileNamesAreRead}
 use Rattle.scope_readings.proofs.Images.{image}
 use Rattle.scope_readings.proofs.Parts.{none_such, other_word, plain_uses, PartWalks, PartsWalk, NodeWalks, node_part, mark_part}
 use Rattle.scope_readings.proofs.Words.{Specifying, by_words, specifiers_are, file_specifiers_are, tag_is, words_walk}
@@ -110,6 +110,11 @@ module _ (numbers : List ℕ) where
   items_walk : {parts : PlainTrees} → Each file_item parts → PartsWalk numbers k.Unit k.Unit false parts (read_items parts)
   items_walk no_more = λ r. refl
   items_walk (one_more {tree = tree} {rest = rest} h others) = λ r. item_part h rest r ∙ items_walk others (read_item tree r)
+
+pub file_names_are_read_lem : UnitsAreDerived → FileNamesAreRead
+file_names_are_read_lem derived (leaf token) h numbers name = none_such h
+file_names_are_read_lem derived (node k.Unit parts) h numbers name = ap (λ (s : Scopes). s.uses name) (items_walk numbers (derived (node k.Unit parts) h) start)
+file_names_are_read_lem derived (node _ parts) h numbers name = none_such h
 
 pub scopes_are_read_lem : UnitsAreDerived → ScopesAreRead
 scopes_are_read_lem derived (leaf token) h numbers = none_such h

@@ -3,7 +3,7 @@ use Rattle.std.specs.Prelude.{◌≡◌, ℕ, List, [], ◌∷◌, get_or, Some,
 use Rattle.std.specs.List.{flat_map}
 use Rattle.c_tree.specs.Trees.{PlainTree}
 use Rattle.c_tree.specs.Grammar.{is_unit}
-use Rattle.bindings.specs.Visible.{Binding, bound_to, undeclared, member_use, Occurrence}
+use Rattle.bindings.specs.Visible.{Binding, bound_to, undeclared, member_use, Occurrence, uses_among}
 use Rattle.bindings.specs.Bindings.{bindings_of}
 use Rattle.scope_readings.specs.Scopes.{Pairing}
 use Rattle.scope_readings.specs.Walks.{walk_unit}
@@ -21,3 +21,8 @@ pairings numbers occurrences = flat_map (λ o. pairing numbers o.number o.bindin
 abbrev pub ScopesAreRead : Type 0
 ScopesAreRead =
     (tree : PlainTree) → IsTrue (is_unit tree) → (numbers : List ℕ) → (walk_unit numbers tree).found ≡ pairings numbers (bindings_of tree)
+
+-- And the names of file scope that its expressions use are those that the bindings say.
+abbrev pub FileNamesAreRead : Type 0
+FileNamesAreRead =
+    (tree : PlainTree) → IsTrue (is_unit tree) → (numbers name : List ℕ) → (walk_unit numbers tree).uses name ≡ uses_among (bindings_of tree) name

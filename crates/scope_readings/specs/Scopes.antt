@@ -1,6 +1,7 @@
 -- What is visible at a place of a unit (ISO/IEC 9899:2011, 6.2.1 to 6.2.3), as tables of names, and what the identifiers before it are bound
 -- to. Tokens have the numbers that they have in the unit's stream.
-use Rattle.std.specs.Prelude.{ℕ, Bool, true, false, List, [], ◌∷◌, ◌++◌, drop, get_or, Option, Some, None}
+use Rattle.std.specs.Prelude.{ℕ, Bool, true, false, not, ◌&&◌, ◌||◌, List, [], ◌∷◌, ◌++◌, drop, get_or, Option, Some, None, is_some}
+use Rattle.std.specs.Str.{bytes_eq}
 use Rattle.core_meaning.specs.Entities.{Table, no_entry, with_entry, or_else}
 
 -- an identifier, and the token that first declares what it stands for, if it is declared
@@ -17,9 +18,11 @@ pub record Scopes : Type 0 where
   pub tags : Table ℕ
   pub blocks : Table ℕ
   pub found : List Pairing
+  -- which names of file scope expressions have used
+  pub uses : List ℕ → Bool
 
 abbrev pub starting : List ℕ → Scopes
-starting numbers = record { coming = numbers; file = no_entry; tags = no_entry; blocks = no_entry; found = [] }
+starting numbers = record { coming = numbers; file = no_entry; tags = no_entry; blocks = no_entry; found = []; uses = λ name. false }
 
 -- the number of the next token
 abbrev pub this : Scopes → ℕ
@@ -37,9 +40,16 @@ passed s = record s { coming = drop 1 s.coming }
 abbrev pub paired : Option ℕ → Scopes → Scopes
 paired by s = record s { coming = drop 1 s.coming; found = s.found ++ record { number = this s; declared_by = by } ∷ [] }
 
+-- a name of file scope, where no open block has it
+abbrev pub is_of_file : List ℕ → Scopes → Bool
+is_of_file name s = not (is_some (s.blocks name)) && is_some (s.file name)
+
+abbrev pub file_used : List ℕ → Scopes → Scopes
+file_used name s = record s { uses = λ other. s.uses other || (is_of_file name s && bytes_eq name other) }
+
 -- an ordinary name that is used
 abbrev pub used : List ℕ → Scopes → Scopes
-used name s = paired (or_else (s.blocks name) (s.file name)) s
+used name s = paired (or_else (s.blocks name) (s.file name)) (file_used name s)
 
 -- a tag: where it may declare a struct, it is visible from here on
 abbrev pub tagged : Bool → List ℕ → Scopes → Scopes

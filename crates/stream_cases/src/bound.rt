@@ -1,9 +1,9 @@
-//! What the identifiers of a project's units are bound to.
+//! What the identifiers of a project's units are bound to, and which names of file scope expressions use.
 
 use anyhow::Result;
 use choice_parser::parse_all;
 use choice_trees::Forest;
-use cond_bindings::{Identifier, Meaning, UnitBindings};
+use cond_bindings::{CondBindings, Identifier, Meaning, UnitBindings};
 use cond_formula::{Config, PlainOracle};
 use cond_scopes::scopes;
 use cond_tokens::CondStream;
@@ -102,6 +102,36 @@ fn show_unit<R: Print + AllocGlobal>(
     Ok(())
 }
 
+/// Prints the names of file scope that a unit's expressions use in a configuration, in the order of the text.
+fn show_unit_uses<R: Print + AllocGlobal>(rt: &R, unit: &UnitBindings, c: Config) -> Result<()> {
+    let alloc: Global = rt.alloc();
+    for used in &unit.uses {
+        if used.when.value(c) {
+            let name = String::from_utf8_lossy(alloc, &used.name)?;
+            print!(rt; " {name}")?;
+        }
+    }
+    Ok(())
+}
+
+/// Prints the names of file scope that expressions use in each configuration of so many features.
+fn show_uses<R: Print + AllocGlobal>(
+    rt: &R,
+    project: &Project,
+    bound: &CondBindings,
+    features: usize,
+) -> Result<()> {
+    println!(rt; "names of file scope that {} uses:", project.name)?;
+    for bits in 0..1u128 << features.min(7) {
+        print!(rt; "  {bits}:")?;
+        for unit in &bound.units {
+            show_unit_uses(rt, unit, Config { bits })?;
+        }
+        println!(rt; "")?;
+    }
+    Ok(())
+}
+
 /// Prints what each configuration of so many features sees.
 pub(crate) fn show_bindings<R: Print + AllocGlobal>(
     rt: &R,
@@ -127,5 +157,6 @@ pub(crate) fn show_bindings<R: Print + AllocGlobal>(
         }
         println!(rt; "")?;
     }
+    show_uses(rt, project, &bound, features)?;
     Ok(())
 }

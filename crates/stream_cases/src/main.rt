@@ -1,6 +1,7 @@
 //! Prints the streams of the projects that it is called with: of a project with few features what is seen in each configuration,
 //! and which tokens of its files are active there and while which names, of others how many tokens they have and how large the
-//! conditions are. Of projects with few features it prints too what their identifiers are bound to.
+//! conditions are. Of projects with few features it prints too what their identifiers are bound to, and which names of file scope
+//! their expressions use.
 #![tactic(auto)]
 
 mod bound;

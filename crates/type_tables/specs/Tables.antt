@@ -5,6 +5,7 @@ use Rattle.std.specs.Str.{bytes_eq}
 use Rattle.c_types.specs.Types.{PlainType, void, array_of, structure}
 use Rattle.c_types.specs.Tags.{PlainMember}
 use Rattle.core_meaning.specs.Entities.{Table, Signature}
+use Rattle.core_meaning.specs.Entities as scopes
 use Rattle.core_meaning.specs.Constancy.{capped, most_scalars}
 use Rattle.operand_types.specs.OperandTypes.{OperandType, rvalue, lvalue, struct_in}
 use Rattle.expression_types.specs.Known.{Callable, Denoted, an_object, a_function, Known}
@@ -49,6 +50,11 @@ pub record Tables : Type 0 where
 -- a declaration that is none of a list's
 abbrev pub no_signature : Signature
 no_signature = record { result = void; parameters = [] }
+
+-- the sort that a scope has, by the signatures of the declarations
+abbrev pub sort_in : (ℕ → Signature) → Sort → scopes.Sort
+sort_in signatures (object ty) = scopes.variable ty
+sort_in signatures (declared_function number) = scopes.function (signatures number)
 
 -- the innermost declaration of a name in the blocks that are open
 abbrev pub local_named : List Local → List ℕ → Option Local

@@ -30,6 +30,7 @@ impl Tables {
         ty: CType,
     ) -> Result<(), NoMemory>
         ensures seen { OnOk result ((on : ℕ → Bool) → seen_tables on self.new ≡ where_true (value on (condition_of when)) (with_local name.now (plain_type ty)) (seen_tables on self.old)) }
+        ensures same { OnOk result (self.new ≡ record self.old { locals = self.new.locals }) }
         ensures outside { OnOk result ((before : TheTables) → KeepsOutside before self.old → KeepsOutside before self.new) }
     {
         let name = Vec::from_slice(alloc, name)?;

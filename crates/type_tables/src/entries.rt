@@ -78,6 +78,23 @@ pub struct CondSignature {
     pub parameters: CondList<DeclaredType>,
 }
 
+impl CondSignature {
+    ghost use Rattle.std.specs.Prelude.{ℕ, Bool, Some};
+    ghost use Rattle.type_tables.specs.Tables.{no_signature};
+    ghost use Rattle.type_tables.specs.Seen.{signature_of};
+
+    /// A declaration that is none.
+    #[tactic(auto, using(c_types::specs::TypeLaws::type_kinds))]
+    pub fn none(alloc: Global) -> CondSignature
+        ensures { (on : ℕ → Bool) → signature_of on (Some result) ≡ no_signature }
+    {
+        CondSignature {
+            result: CType::Void,
+            parameters: CondList::empty(alloc),
+        }
+    }
+}
+
 /// What a name of file scope stands for.
 #[derive(Drop)]
 pub enum Sort {

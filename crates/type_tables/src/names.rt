@@ -48,6 +48,7 @@ impl Tables {
     ghost use Rattle.cond_formula.specs.Conditions.{condition_of, value};
     ghost use Rattle.name_places.specs.Places.{place_of};
     ghost use Rattle.type_tables.specs.Forms.{file_name_form};
+    ghost use Rattle.type_tables.specs.Tables.{no_signature};
     ghost use Rattle.type_tables.specs.Seen.{seen_tables, signature_of};
     ghost use Rattle.type_tables.specs.Steps.{with_name, with_signature, where_true};
     ghost use Rattle.type_tables.specs.Changes.{has_name_in, is_unnamed, AddsName};
@@ -91,6 +92,7 @@ impl Tables {
         ensures same { IfOk result (λ place. (on : ℕ → Bool) → seen_tables on self.new ≡ seen_tables on self.old) }
         ensures place { IfOk result (λ place. place_of self.new.names name.now ≡ Some place) }
         ensures name { IfOk result (λ place. has_name_in self.new.declared.items place name.now ≡ true) }
+        ensures locals { OnOk result (self.new.locals ≡ self.old.locals) }
     {
         if let Some(place) = self.name_found(name) {
             return Ok(place);
@@ -107,7 +109,8 @@ impl Tables {
         when: Formula,
         what: FileName,
     ) -> Result<(), NoMemory>
-        ensures { OnOk result ((on : ℕ → Bool) → seen_tables on self.new ≡ where_true (value on (condition_of when)) (with_name name.now (file_name_form what)) (seen_tables on self.old)) }
+        ensures seen { OnOk result ((on : ℕ → Bool) → seen_tables on self.new ≡ where_true (value on (condition_of when)) (with_name name.now (file_name_form what)) (seen_tables on self.old)) }
+        ensures locals { OnOk result (self.new.locals ≡ self.old.locals) }
     {
         let place = self.placed(alloc, name)?;
         mean_at(alloc, &mut self.declared, place, when, what)?;
@@ -118,6 +121,7 @@ impl Tables {
     pub fn declare_function(&mut self, signature: CondSignature) -> Result<u32, NoMemory>
         ensures number { IfOk result (λ number. (on : ℕ → Bool) → number ≡ (seen_tables on self.old).functions) }
         ensures seen { IfOk result (λ number. (on : ℕ → Bool) → seen_tables on self.new ≡ with_signature (signature_of on (Some signature)) (seen_tables on self.old)) }
+        ensures locals { OnOk result (self.new.locals ≡ self.old.locals) }
     {
         let number = self.signatures.len();
         if number > LAST_NUMBER {
@@ -125,5 +129,19 @@ impl Tables {
         }
         self.signatures.push(signature)?;
         Ok(number as u32)
+    }
+
+    /// The declaration of this number, or this one, which is none, where there is no such declaration.
+    pub fn signature_or<'t>(
+        &'t self,
+        number: u32,
+        otherwise: &'t CondSignature,
+    ) -> &'t CondSignature
+        ensures { (on : ℕ → Bool) → signature_of on (Some otherwise.now) ≡ no_signature → signature_of on (Some result.now) ≡ (seen_tables on self.now).signatures number }
+    {
+        match self.signatures.get(number as usize) {
+            Some(signature) => signature,
+            None => otherwise,
+        }
     }
 }

@@ -10,6 +10,7 @@ use Rattle.operand_types.specs.OperandTypes.{renumbered}
 use Rattle.operand_types.specs.Laws.{KeepsApart}
 use Rattle.type_tables.specs.Tables.{Local, Sort, object, declared_function, FileName}
 use Rattle.typed_scopes.specs.Follows.{IsThere, AreThere, types_of, renumbered_member, renumbered_signature, SortFollows, NameFollows, LocalFollows, SortIsThere}
+use Rattle.typed_scopes.specs.Numbers.{NumbersKept}
 
 abbrev a_member : List ℕ → PlainType → PlainMember
 a_member name ty = record { name = name; ty = ty }
@@ -17,11 +18,7 @@ a_member name ty = record { name = name; ty = ty }
 abbrev a_signature : PlainType → List PlainType → Signature
 a_signature result parameters = record { result = result; parameters = parameters }
 
--- two numberings agree on the structs that are there
-abbrev pub Agree : List Struct → (ℕ → ℕ) → (ℕ → ℕ) → Type 0
-Agree structs by other = (n : ℕ) (s : Struct) → slice_get structs n ≡ Some s → by n ≡ other n
-
-module _ (structs : List Struct) (by other : ℕ → ℕ) (agree : Agree structs by other) where
+module _ (structs : List Struct) (by other : ℕ → ℕ) (kept : NumbersKept structs by other) where
   pub type_same : (ty : PlainType) → IsThere structs ty → renumbered by ty ≡ renumbered other ty
   type_same void there = refl
   type_same char there = refl
@@ -32,7 +29,7 @@ module _ (structs : List Struct) (by other : ℕ → ℕ) (agree : Agree structs
   type_same unsigned_long there = refl
   type_same (pointer_to ty) there = ap pointer_to (type_same ty there)
   type_same (array_of ty count) there = ap (λ t. array_of t count) (type_same ty there)
-  type_same (structure n) there = let found = there n refl in ap structure (agree n found.0 found.1)
+  type_same (structure n) there = let found = there n refl in ap structure (kept n found.0 found.1)
 
   pub types_same : (types : List PlainType) → AreThere structs types → map (renumbered by) types ≡ map (renumbered other) types
   types_same [] there = refl

@@ -11,8 +11,9 @@ use Rattle.bindings.proofs.Tags.{kept_left, last_there}
 use Rattle.type_tables.specs.Tables.{Tables, local_named}
 use Rattle.type_tables.specs.Steps.{with_declared, with_completed}
 use Rattle.typed_scopes.specs.Follows.{AreThere, types_of, place_of, renumbered_member, StructFollows, Follows}
+use Rattle.typed_scopes.specs.Numbers.{NumbersKept}
 use Rattle.typed_scopes.proofs.Options.{some_same}
-use Rattle.typed_scopes.proofs.Renumbering.{Agree, members_same, name_follows, local_follows, Has, still_there, all_still_there, sort_still_there, swapped, swapped_second, swapped_other, swapped_apart}
+use Rattle.typed_scopes.proofs.Renumbering.{members_same, name_follows, local_follows, Has, still_there, all_still_there, sort_still_there, swapped, swapped_second, swapped_other, swapped_apart}
 
 -- ---- a struct that is declared
 
@@ -36,7 +37,7 @@ module _ (t : Tables) (scope : Scope) (f : Follows t scope) (name : List ℕ) (n
   abbrev more : List Struct
   more = scope.structs ++ new_struct name ∷ []
 
-  agree : Agree scope.structs f.by by_swapped
+  agree : NumbersKept scope.structs f.by by_swapped
   agree n s e =
       sym (swapped_other number (f.by last) (f.by n)
       (λ h. false≢true (sym undeclared ∙ ap t.declared (sym h) ∙ (f.structs n s e).declared))
@@ -129,7 +130,7 @@ module _ (t : Tables) (scope : Scope) (f : Follows t scope) (name : List ℕ) (n
   }
 
   -- the structs that were there keep their numbers
-  pub numbers_kept : Agree scope.structs f.by struct_declared.by
+  pub numbers_kept : NumbersKept scope.structs f.by struct_declared.by
   unfolding struct_declared
   numbers_kept = agree
 

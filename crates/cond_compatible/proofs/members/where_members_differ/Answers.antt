@@ -5,9 +5,10 @@ use Rattle.cond_formula.specs.Features.{has}
 use Rattle.conditional.specs.Entries.{seen, listed, entries_of, some_holds}
 use Rattle.operand_rules.specs.PlainOperandTypes.{reason}
 use Rattle.matched_lists.specs.Matched.{AreThere}
+use Rattle.matched_lists.proofs.Seen.{some_seen, seen_there}
 use Rattle.type_tables.specs.Forms.{member_form}
 use Rattle.cond_compatible.specs.SeenTags.{said_alike}
-use Rattle.cond_compatible.proofs.Matching.{member_rule, matched_members, some_seen, seen_there}
+use Rattle.cond_compatible.proofs.Matching.{member_rule, matched_members}
 use Rattle.cond_compatible.proofs.members.where_members_differ.Goals as goal
 
 pub returns-clause-exact : goal.returns-clause-exact

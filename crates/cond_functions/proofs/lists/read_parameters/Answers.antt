@@ -7,8 +7,8 @@ use Rattle.choice_trees.specs.ChoiceTrees.{plain_item, item_at}
 use Rattle.core_meaning.specs.Declarations.{with_block, parameters_of}
 use Rattle.type_tables.specs.Forms.{declared_type_form}
 use Rattle.type_tables.specs.Seen.{seen_tables}
+use Rattle.typed_scopes.specs.Numbers.{FollowsInBlockBy}
 use Rattle.typed_scopes.proofs.Blocks.{block_entered, entered_by}
-use Rattle.cond_statements.specs.Following.{FollowsInBlockBy}
 use Rattle.cond_functions.proofs.ParameterLists.{gives_types, left_as_before}
 use Rattle.cond_functions.proofs.lists.read_parameters.Goals as goal
 

@@ -7,6 +7,7 @@ use Rattle.choice_variants.specs.Variants.{variant_before, shown}
 use Rattle.type_tables.specs.Seen.{seen_tables}
 use Rattle.cond_statements.specs.Following.{OnlyLocals}
 use Rattle.cond_locals.specs.Declaring.{DeclaresLocals}
+use Rattle.conditional_steps.specs.Here.{Unchanged}
 use Rattle.conditional_steps.proofs.Alternatives.{Alternates}
 use Rattle.cond_locals.proofs.declarations.declare_each.Given as goal
 
@@ -15,6 +16,6 @@ invariant-loop-variant g l = record {
   kept : g.O.Oracle.admits l.oracle ≡ g.O.Oracle.admits l.fn.oracle;
   outside : OnlyLocals l.fn.tables l.tables;
   so_far : (n : List Bool) (parts : PlainTrees) → IsTrue (value (has n) (g.O.Oracle.admits l.fn.oracle)) → seen (has n) (shown (has n) l.variants) ≡ parts ∷ []
-      → Alternates DeclaresLocals parts (seen_tables (has n) l.fn.tables) (value (has n) (condition_of l.when))
+      → Alternates Unchanged DeclaresLocals parts (seen_tables (has n) l.fn.tables) (value (has n) (condition_of l.when))
       (seen (has n) (map (variant_before (has n) none) (drop l.variant-index l.variants))) (seen_tables (has n) l.tables) (value (has n) (condition_of l.refused));
 }

@@ -10,7 +10,8 @@ use Rattle.core_meaning.specs.Declarations.{one_local}
 use Rattle.type_tables.specs.Seen.{seen_tables}
 use Rattle.cond_statements.proofs.Locals.{nothing_changed, locals_again}
 use Rattle.cond_locals.specs.Declaring.{IsInitialiser, Declares}
-use Rattle.conditional_steps.proofs.Alternatives.{Alternates, alternates_begin, alternates_next, alternates_end}
+use Rattle.conditional_steps.specs.Here.{Unchanged}
+use Rattle.conditional_steps.proofs.Alternatives.{unchanged, unchanged_beside, Alternates, alternates_begin, alternates_next, alternates_end}
 use Rattle.conditional_steps.proofs.FirstAlternative.{next_seen, none_seen}
 use Rattle.cond_locals.proofs.declarators.declare_each.Goals as goal
 
@@ -19,8 +20,8 @@ loop-expansion-init g c = record {
   kept = refl;
   outside = nothing_changed c.args.tables.now;
   so_far = λ n tree admitted alone.
-      alternates_begin (λ tree. Declares (has n) c.args.base.now (λ scope slots ty. one_local scope slots ty tree (option_map (λ item. item_at (has n) (plain_item item.now)) c.args.initialiser))
-      (λ scope. IsInitialiser (option_map (λ item. item_at (has n) (plain_item item.now)) c.args.initialiser))) tree (seen_tables (has n) c.args.tables.now) (value (has n) (condition_of c.args.when.now))
+      alternates_begin unchanged (unchanged_beside (λ tree. Declares (has n) c.args.base.now (λ scope slots ty. one_local scope slots ty tree (option_map (λ item. item_at (has n) (plain_item item.now)) c.args.initialiser))
+      (λ scope. IsInitialiser (option_map (λ item. item_at (has n) (plain_item item.now)) c.args.initialiser)))) tree (seen_tables (has n) c.args.tables.now) (value (has n) (condition_of c.args.when.now))
       (seen (has n) (expanded c.args.expansions.now)) (value (has n) (condition_of c.in_ok-refused.refused)) (c.in_ok-refused.ensures (has n)) alone;
 }
 
@@ -29,8 +30,8 @@ loop-expansion-preserved g c = record {
   kept = c.in_ok-found.ensures.kept ∙ c.loop-expansion.invariant.kept;
   outside = locals_again c.args.tables.now c.loop-expansion.tables c.declare_expansion.new.tables c.loop-expansion.invariant.outside c.in_ok-found.ensures.outside;
   so_far = λ n tree admitted alone.
-      alternates_next (λ tree. Declares (has n) c.args.base.now (λ scope slots ty. one_local scope slots ty tree (option_map (λ item. item_at (has n) (plain_item item.now)) c.args.initialiser))
-      (λ scope. IsInitialiser (option_map (λ item. item_at (has n) (plain_item item.now)) c.args.initialiser))) tree (seen_tables (has n) c.args.tables.now)
+      alternates_next unchanged (unchanged_beside (λ tree. Declares (has n) c.args.base.now (λ scope slots ty. one_local scope slots ty tree (option_map (λ item. item_at (has n) (plain_item item.now)) c.args.initialiser))
+      (λ scope. IsInitialiser (option_map (λ item. item_at (has n) (plain_item item.now)) c.args.initialiser)))) tree (seen_tables (has n) c.args.tables.now)
       (plain_tree c.expansion-item.result.tree) (value (has n) (condition_of c.args.when.now)) (value (has n) (condition_of c.expansion-item.result.when)) _ _
       (seen_tables (has n) c.loop-expansion.tables) (seen_tables (has n) c.declare_expansion.new.tables)
       (value (has n) (condition_of c.loop-expansion.refused)) (value (has n) (condition_of c.in_ok-found.found)) (value (has n) (condition_of c.in_ok-refused-2.refused))
@@ -40,10 +41,10 @@ loop-expansion-preserved g c = record {
 
 pub returns-clause-declares : goal.returns-clause-declares
 returns-clause-declares g c = λ n tree admitted alone.
-    alternates_end (λ tree. Declares (has n) c.args.base.now (λ scope slots ty. one_local scope slots ty tree (option_map (λ item. item_at (has n) (plain_item item.now)) c.args.initialiser))
-    (λ scope. IsInitialiser (option_map (λ item. item_at (has n) (plain_item item.now)) c.args.initialiser))) tree (seen_tables (has n) c.args.tables.now) (value (has n) (condition_of c.args.when.now))
+    alternates_end unchanged (unchanged_beside (λ tree. Declares (has n) c.args.base.now (λ scope slots ty. one_local scope slots ty tree (option_map (λ item. item_at (has n) (plain_item item.now)) c.args.initialiser))
+    (λ scope. IsInitialiser (option_map (λ item. item_at (has n) (plain_item item.now)) c.args.initialiser)))) tree (seen_tables (has n) c.args.tables.now) (value (has n) (condition_of c.args.when.now))
     (seen_tables (has n) c.loop-expansion.tables) (value (has n) (condition_of c.loop-expansion.refused))
-    (subst (λ list. Alternates (λ tree. Declares (has n) c.args.base.now (λ scope slots ty. one_local scope slots ty tree (option_map (λ item. item_at (has n) (plain_item item.now)) c.args.initialiser))
+    (subst (λ list. Alternates Unchanged (λ tree. Declares (has n) c.args.base.now (λ scope slots ty. one_local scope slots ty tree (option_map (λ item. item_at (has n) (plain_item item.now)) c.args.initialiser))
     (λ scope. IsInitialiser (option_map (λ item. item_at (has n) (plain_item item.now)) c.args.initialiser))) tree (seen_tables (has n) c.args.tables.now) (value (has n) (condition_of c.args.when.now)) list
     (seen_tables (has n) c.loop-expansion.tables) (value (has n) (condition_of c.loop-expansion.refused)))
     (none_seen (has n) plain_expansion c.args.expansions.now c.loop-expansion.expansion-index c.loop-expansion-test.false)

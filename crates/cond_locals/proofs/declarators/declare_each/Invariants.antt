@@ -10,6 +10,7 @@ use Rattle.core_meaning.specs.Declarations.{one_local}
 use Rattle.type_tables.specs.Seen.{seen_tables}
 use Rattle.cond_statements.specs.Following.{OnlyLocals}
 use Rattle.cond_locals.specs.Declaring.{IsInitialiser, Declares}
+use Rattle.conditional_steps.specs.Here.{Unchanged}
 use Rattle.conditional_steps.proofs.Alternatives.{Alternates}
 use Rattle.cond_locals.proofs.declarators.declare_each.Given as goal
 
@@ -18,7 +19,7 @@ invariant-loop-expansion g l = record {
   kept : g.O.Oracle.admits l.oracle ≡ g.O.Oracle.admits l.fn.oracle;
   outside : OnlyLocals l.fn.tables l.tables;
   so_far : (n : List Bool) (tree : PlainTree) → IsTrue (value (has n) (g.O.Oracle.admits l.fn.oracle)) → seen (has n) (expanded l.expansions) ≡ tree ∷ []
-      → Alternates (λ tree. Declares (has n) l.base (λ scope slots ty. one_local scope slots ty tree (option_map (λ item. item_at (has n) (plain_item item.now)) l.initialiser))
+      → Alternates Unchanged (λ tree. Declares (has n) l.base (λ scope slots ty. one_local scope slots ty tree (option_map (λ item. item_at (has n) (plain_item item.now)) l.initialiser))
       (λ scope. IsInitialiser (option_map (λ item. item_at (has n) (plain_item item.now)) l.initialiser))) tree (seen_tables (has n) l.fn.tables) (value (has n) (condition_of l.when))
       (seen (has n) (map plain_expansion (drop l.expansion-index l.expansions))) (seen_tables (has n) l.tables) (value (has n) (condition_of l.refused));
 }

@@ -13,7 +13,7 @@ use Rattle.type_tables.specs.Seen.{seen_tables}
 use Rattle.cond_statements.proofs.Locals.{nothing_changed, locals_again}
 use Rattle.conditional_steps.specs.Here.{Here}
 use Rattle.cond_locals.specs.Declaring.{IsInitialiser, Declares}
-use Rattle.conditional_steps.proofs.Alternatives.{nothing_done}
+use Rattle.conditional_steps.proofs.Alternatives.{unchanged, nothing_done}
 use Rattle.cond_locals.proofs.Walking.{WalksTo, AreInitialisers, are_initialisers, walk_begins, walk_goes_on, walk_ends}
 use Rattle.conditional_steps.proofs.FirstAlternative.{next_seen, none_seen}
 use Rattle.cond_locals.proofs.lists.declare_each.Goals as goal
@@ -37,7 +37,7 @@ loop-listed-preserved g c = record {
   kept = c.in_ok-found.ensures.kept ∙ c.loop-listed.invariant.kept;
   outside = locals_again c.args.tables.now c.loop-listed.tables c.declare_listed.new.tables c.loop-listed.invariant.outside c.in_ok-found.ensures.outside;
   elsewhere = λ n admitted off.
-      nothing_done (Declares (has n) c.args.base.now
+      nothing_done unchanged (Declares (has n) c.args.base.now
       (λ scope slots ty. one_local scope slots ty (item_at (has n) (plain_item c.listed-item.result.declarator.now)) (option_map (λ item. item_at (has n) (plain_item item.now)) c.listed-item.result.initialiser))
       (λ scope. IsInitialiser (option_map (λ item. item_at (has n) (plain_item item.now)) c.listed-item.result.initialiser)))
       (value (has n) (condition_of c.args.when.now) && value (has n) (condition_of c.listed-item.result.when)) (seen_tables (has n) c.args.tables.now) (seen_tables (has n) c.loop-listed.tables)

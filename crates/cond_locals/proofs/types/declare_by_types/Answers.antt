@@ -10,7 +10,8 @@ use Rattle.type_tables.specs.Forms.{declared_type_form}
 use Rattle.type_tables.specs.Seen.{seen_tables}
 use Rattle.cond_statements.proofs.Locals.{nothing_changed, locals_again}
 use Rattle.cond_locals.specs.Declaring.{IsDeclared}
-use Rattle.conditional_steps.proofs.Alternatives.{SoFar, ahead, nothing_done, next_done, all_done}
+use Rattle.conditional_steps.specs.Here.{Unchanged}
+use Rattle.conditional_steps.proofs.Alternatives.{unchanged, unchanged_beside, SoFar, ahead, nothing_done, next_done, all_done}
 use Rattle.conditional_steps.proofs.FirstAlternative.{only_first, only_one, one_turn, none_left}
 use Rattle.conditional_steps.proofs.FirstAlternative.{next_seen, none_seen}
 use Rattle.cond_locals.proofs.types.declare_by_types.Goals as goal
@@ -32,14 +33,14 @@ loop-alternative-preserved g c = record {
   outside = locals_again c.args.tables.now c.loop-alternative.tables c.declare_object.new.tables c.loop-alternative.invariant.outside c.in_ok-found.ensures.outside;
   elsewhere = λ n admitted off.
       let before = c.loop-alternative.invariant.elsewhere n admitted off in
-      let after = nothing_done (IsDeclared (plain_type c.alternative-item.result.what.ty) (plain_token c.args.name.now) (option_map (λ item. item_at (has n) (plain_item item.now)) c.args.initialiser))
+      let after = nothing_done unchanged (IsDeclared (plain_type c.alternative-item.result.what.ty) (plain_token c.args.name.now) (option_map (λ item. item_at (has n) (plain_item item.now)) c.args.initialiser))
       (value (has n) (condition_of c.in_ok-here.here)) (seen_tables (has n) c.args.tables.now) (seen_tables (has n) c.loop-alternative.tables) (seen_tables (has n) c.declare_object.new.tables)
       (value (has n) (condition_of c.loop-alternative.refused)) (value (has n) (condition_of c.in_ok-found.found)) (value (has n) (condition_of c.in_ok-refused-2.refused))
       (c.in_ok-here.ensures (has n) ∙ ap (λ (b : Bool). b && value (has n) (condition_of c.alternative-item.result.when)) before.0) (c.in_ok-refused-2.ensures (has n))
       (c.in_ok-found.ensures.declares n (ap (value (has n)) c.loop-alternative.invariant.kept ∙ admitted)) (before.1, before.2) in
       (c.in_ok-left-2.ensures (has n) ∙ ap (λ (b : Bool). b && not (value (has n) (condition_of c.alternative-item.result.when))) before.0, after.0, after.1);
   so_far = λ n ty admitted on stands.
-      next_done (λ ty. IsDeclared ty (plain_token c.args.name.now) (option_map (λ item. item_at (has n) (plain_item item.now)) c.args.initialiser)) ty (seen_tables (has n) c.args.tables.now)
+      next_done unchanged (unchanged_beside (λ ty. IsDeclared ty (plain_token c.args.name.now) (option_map (λ item. item_at (has n) (plain_item item.now)) c.args.initialiser))) ty (seen_tables (has n) c.args.tables.now)
       (plain_type c.alternative-item.result.what.ty) (value (has n) (condition_of c.in_ok-here.here)) _ _ (seen_tables (has n) c.loop-alternative.tables) (seen_tables (has n) c.declare_object.new.tables)
       (value (has n) (condition_of c.loop-alternative.refused)) (value (has n) (condition_of c.in_ok-found.found)) (value (has n) (condition_of c.in_ok-refused-2.refused))
       (ap (λ list. under (value (has n) (condition_of c.loop-alternative.left)) (only_first list))
@@ -54,9 +55,9 @@ returns-clause-elsewhere g c = λ n admitted off. let before = c.loop-alternativ
 
 pub returns-clause-declares : goal.returns-clause-declares
 returns-clause-declares g c = λ n admitted on ty stands.
-    all_done (λ ty. IsDeclared ty (plain_token c.args.name.now) (option_map (λ item. item_at (has n) (plain_item item.now)) c.args.initialiser)) ty (seen_tables (has n) c.args.tables.now)
+    all_done unchanged (unchanged_beside (λ ty. IsDeclared ty (plain_token c.args.name.now) (option_map (λ item. item_at (has n) (plain_item item.now)) c.args.initialiser))) ty (seen_tables (has n) c.args.tables.now)
     (seen_tables (has n) c.loop-alternative.tables) (value (has n) (condition_of c.loop-alternative.refused))
-    (subst (λ list. SoFar (λ ty. IsDeclared ty (plain_token c.args.name.now) (option_map (λ item. item_at (has n) (plain_item item.now)) c.args.initialiser)) ty (seen_tables (has n) c.args.tables.now) list
+    (subst (λ list. SoFar Unchanged (λ ty. IsDeclared ty (plain_token c.args.name.now) (option_map (λ item. item_at (has n) (plain_item item.now)) c.args.initialiser)) ty (seen_tables (has n) c.args.tables.now) list
     (seen_tables (has n) c.loop-alternative.tables) (value (has n) (condition_of c.loop-alternative.refused)))
     (ap (λ list. under (value (has n) (condition_of c.loop-alternative.left)) (only_first list)) (none_seen (has n) (entry_of declared_type_form) c.args.types.now c.loop-alternative.alternative-index c.loop-alternative-test.false)
     ∙ none_left (value (has n) (condition_of c.loop-alternative.left)))

@@ -6,7 +6,8 @@ use Rattle.c_text.specs.Token.{plain_token}
 use Rattle.c_types.specs.Types.{plain_type}
 use Rattle.plain_objects.specs.PlainStates.{plain_storage}
 use Rattle.type_tables.specs.Forms.{declared_type_form}
-use Rattle.conditional_steps.proofs.Alternatives.{SoFar, ahead, nothing_done, next_done, all_done}
+use Rattle.conditional_steps.specs.Here.{Unchanged}
+use Rattle.conditional_steps.proofs.Alternatives.{unchanged, unchanged_beside, SoFar, ahead, nothing_done, next_done, all_done}
 use Rattle.conditional_steps.proofs.FirstAlternative.{only_first, only_one, one_turn, none_left, next_seen, none_seen}
 use Rattle.cond_objects.specs.Seen.{seen_unit, initialiser_at}
 use Rattle.cond_objects.specs.Units.{IsInitialiser, object_of_type, DeclaresTyped}
@@ -27,14 +28,14 @@ loop-alternative-preserved g c = record {
   kept = c.in_ok-found.ensures.kept ∙ c.loop-alternative.invariant.kept;
   elsewhere = λ n admitted off.
       let before = c.loop-alternative.invariant.elsewhere n admitted off in
-      let after = nothing_done (DeclaresTyped (plain_type c.alternative-item.result.what.ty) (object_of_type 0 (plain_storage c.args.declaration.now.storage) (plain_token c.args.name.now) (initialiser_at (has n) c.args.declaration.now) (g.B.Behind.rest c.args.declaration.now.behind.now n)) (IsInitialiser (initialiser_at (has n) c.args.declaration.now)))
+      let after = nothing_done unchanged (DeclaresTyped (plain_type c.alternative-item.result.what.ty) (object_of_type 0 (plain_storage c.args.declaration.now.storage) (plain_token c.args.name.now) (initialiser_at (has n) c.args.declaration.now) (g.B.Behind.rest c.args.declaration.now.behind.now n)) (IsInitialiser (initialiser_at (has n) c.args.declaration.now)))
       (value (has n) (condition_of c.in_ok-here.here)) (seen_unit (has n) c.args.unit.now) (seen_unit (has n) c.loop-alternative.unit) (seen_unit (has n) c.declare_typed.new.unit)
       (value (has n) (condition_of c.loop-alternative.refused)) (value (has n) (condition_of c.in_ok-found.found)) (value (has n) (condition_of c.in_ok-refused-2.refused))
       (c.in_ok-here.ensures (has n) ∙ ap (λ (b : Bool). b && value (has n) (condition_of c.alternative-item.result.when)) before.0) (c.in_ok-refused-2.ensures (has n))
       (c.in_ok-found.ensures.declares n 0 (ap (value (has n)) c.loop-alternative.invariant.kept ∙ admitted)) (before.1, before.2) in
       (c.in_ok-left-2.ensures (has n) ∙ ap (λ (b : Bool). b && not (value (has n) (condition_of c.alternative-item.result.when))) before.0, after.0, after.1);
   so_far = λ n globals ty admitted on stands.
-      next_done (λ ty. DeclaresTyped ty (object_of_type globals (plain_storage c.args.declaration.now.storage) (plain_token c.args.name.now) (initialiser_at (has n) c.args.declaration.now) (g.B.Behind.rest c.args.declaration.now.behind.now n)) (IsInitialiser (initialiser_at (has n) c.args.declaration.now))) ty (seen_unit (has n) c.args.unit.now)
+      next_done unchanged (unchanged_beside (λ ty. DeclaresTyped ty (object_of_type globals (plain_storage c.args.declaration.now.storage) (plain_token c.args.name.now) (initialiser_at (has n) c.args.declaration.now) (g.B.Behind.rest c.args.declaration.now.behind.now n)) (IsInitialiser (initialiser_at (has n) c.args.declaration.now)))) ty (seen_unit (has n) c.args.unit.now)
       (plain_type c.alternative-item.result.what.ty) (value (has n) (condition_of c.in_ok-here.here)) _ _ (seen_unit (has n) c.loop-alternative.unit) (seen_unit (has n) c.declare_typed.new.unit)
       (value (has n) (condition_of c.loop-alternative.refused)) (value (has n) (condition_of c.in_ok-found.found)) (value (has n) (condition_of c.in_ok-refused-2.refused))
       (ap (λ list. under (value (has n) (condition_of c.loop-alternative.left)) (only_first list))
@@ -49,9 +50,9 @@ returns-clause-elsewhere g c = λ n admitted off. let before = c.loop-alternativ
 
 pub returns-clause-declares : goal.returns-clause-declares
 returns-clause-declares g c = λ n globals admitted on ty stands.
-    all_done (λ ty. DeclaresTyped ty (object_of_type globals (plain_storage c.args.declaration.now.storage) (plain_token c.args.name.now) (initialiser_at (has n) c.args.declaration.now) (g.B.Behind.rest c.args.declaration.now.behind.now n)) (IsInitialiser (initialiser_at (has n) c.args.declaration.now))) ty (seen_unit (has n) c.args.unit.now)
+    all_done unchanged (unchanged_beside (λ ty. DeclaresTyped ty (object_of_type globals (plain_storage c.args.declaration.now.storage) (plain_token c.args.name.now) (initialiser_at (has n) c.args.declaration.now) (g.B.Behind.rest c.args.declaration.now.behind.now n)) (IsInitialiser (initialiser_at (has n) c.args.declaration.now)))) ty (seen_unit (has n) c.args.unit.now)
     (seen_unit (has n) c.loop-alternative.unit) (value (has n) (condition_of c.loop-alternative.refused))
-    (subst (λ list. SoFar (λ ty. DeclaresTyped ty (object_of_type globals (plain_storage c.args.declaration.now.storage) (plain_token c.args.name.now) (initialiser_at (has n) c.args.declaration.now) (g.B.Behind.rest c.args.declaration.now.behind.now n)) (IsInitialiser (initialiser_at (has n) c.args.declaration.now))) ty (seen_unit (has n) c.args.unit.now) list
+    (subst (λ list. SoFar Unchanged (λ ty. DeclaresTyped ty (object_of_type globals (plain_storage c.args.declaration.now.storage) (plain_token c.args.name.now) (initialiser_at (has n) c.args.declaration.now) (g.B.Behind.rest c.args.declaration.now.behind.now n)) (IsInitialiser (initialiser_at (has n) c.args.declaration.now))) ty (seen_unit (has n) c.args.unit.now) list
     (seen_unit (has n) c.loop-alternative.unit) (value (has n) (condition_of c.loop-alternative.refused)))
     (ap (λ list. under (value (has n) (condition_of c.loop-alternative.left)) (only_first list)) (none_seen (has n) (entry_of declared_type_form) c.args.types.now c.loop-alternative.alternative-index c.loop-alternative-test.false)
     ∙ none_left (value (has n) (condition_of c.loop-alternative.left)))

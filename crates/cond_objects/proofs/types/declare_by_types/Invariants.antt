@@ -6,6 +6,7 @@ use Rattle.c_text.specs.Token.{plain_token}
 use Rattle.c_types.specs.Types.{PlainType}
 use Rattle.plain_objects.specs.PlainStates.{plain_storage}
 use Rattle.type_tables.specs.Forms.{declared_type_form}
+use Rattle.conditional_steps.specs.Here.{Unchanged}
 use Rattle.conditional_steps.proofs.Alternatives.{SoFar}
 use Rattle.conditional_steps.proofs.FirstAlternative.{only_first}
 use Rattle.cond_objects.specs.Seen.{seen_unit, initialiser_at}
@@ -18,7 +19,7 @@ invariant-loop-alternative g l = record {
   elsewhere : (n : List Bool) → IsTrue (value (has n) (g.O.Oracle.admits l.fn.oracle)) → value (has n) (condition_of l.when) ≡ false
       → (value (has n) (condition_of l.left) ≡ false) × (seen_unit (has n) l.unit ≡ seen_unit (has n) l.fn.unit) × (value (has n) (condition_of l.refused) ≡ false);
   so_far : (n : List Bool) (globals : ℕ) (ty : PlainType) → IsTrue (value (has n) (g.O.Oracle.admits l.fn.oracle)) → value (has n) (condition_of l.when) ≡ true → Stands (has n) ty (entries_of declared_type_form l.types)
-      → SoFar (λ ty. DeclaresTyped ty (object_of_type globals (plain_storage l.declaration.storage) (plain_token l.name) (initialiser_at (has n) l.declaration) (g.B.Behind.rest l.declaration.behind.now n))
+      → SoFar Unchanged (λ ty. DeclaresTyped ty (object_of_type globals (plain_storage l.declaration.storage) (plain_token l.name) (initialiser_at (has n) l.declaration) (g.B.Behind.rest l.declaration.behind.now n))
       (IsInitialiser (initialiser_at (has n) l.declaration))) ty (seen_unit (has n) l.fn.unit)
       (under (value (has n) (condition_of l.left)) (only_first (seen (has n) (map (entry_of declared_type_form) (drop l.alternative-index l.types))))) (seen_unit (has n) l.unit) (value (has n) (condition_of l.refused));
 }

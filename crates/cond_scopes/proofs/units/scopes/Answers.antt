@@ -39,7 +39,7 @@ loop-unit-preserved g c =
           c.loop-unit.all.units.items c.in_ok-bindings.bindings c.push.new.self.items
           (value (has c') (condition_of c.loop-unit.all.refused)) (value (has c') (condition_of c.in_ok-bindings.refused)) (value (has c') (condition_of c.in_ok-all.field-0))
           (left_are (has c') c.args.units.now c.args.forests.now _ _ _ _ _ _ left.0 left.1 (c.loop-unit.invariant.so_far c' admitted))
-          (c.in_ok-bindings.ensures.scoped c' admitted_here) (c.in_ok-bindings.ensures.refused c' admitted_here) c.in_ok-push.ensures.items (c.in_ok-all.ensures (has c'));
+          (c.in_ok-bindings.ensures.scoped c' admitted_here) (c.in_ok-bindings.ensures.used c' admitted_here) (c.in_ok-bindings.ensures.refused c' admitted_here) c.in_ok-push.ensures.items (c.in_ok-all.ensures (has c'));
     }
 
 pub returns-clause-scoped : goal.returns-clause-scoped

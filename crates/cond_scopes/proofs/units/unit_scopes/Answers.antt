@@ -8,7 +8,7 @@ use Rattle.scope_readings.specs.Walks.{walk_node}
 use Rattle.cond_bindings.specs.Names.{Steps}
 use Rattle.cond_bindings.specs.PlainNames.{plain_names}
 use Rattle.cond_scopes.specs.Progress.{numbers}
-use Rattle.cond_scopes.proofs.UnitLemmas.{WasRead, is_scoped, is_refused}
+use Rattle.cond_scopes.proofs.UnitLemmas.{WasRead, is_scoped, uses_names, is_refused}
 use Rattle.cond_scopes.proofs.units.unit_scopes.Goals as goal
 
 was_read :
@@ -21,6 +21,7 @@ was_read g c c' admitted =
     ∙ ap (λ path. all_true (has c') (conditions_of path) && value (has c') (condition_of c.args.when.now)) (c.deref.ensures.value ∙ c.new-nowhere.ensures.items)) in
     record {
       law = c.scopes_are_read.ensures;
+      uses_law = c.file_names_are_read.ensures;
       nothing = c.new-names.ensures.seen (has c');
       steps =
           subst (λ parts. Steps (has c') (value (has c') (condition_of c.args.when.now)) (numbers (parts_leaves (has c') k.Unit 0 (plain_choices parts) []))
@@ -36,6 +37,11 @@ pub returns-clause-scoped : goal.returns-clause-scoped
 returns-clause-scoped g c = λ c' admitted.
     is_scoped (has c') c.args.forest.now (plain_names c.new-names.result) (plain_names c.read_node.new.names) (condition_of c.args.when.now) (was_read g c c' admitted)
     c.finished.result.0 c.finished.ensures.identifiers
+
+pub returns-clause-used : goal.returns-clause-used
+returns-clause-used g c = λ c' admitted.
+    uses_names (has c') c.args.forest.now (plain_names c.new-names.result) (plain_names c.read_node.new.names) (condition_of c.args.when.now) (was_read g c c' admitted)
+    c.finished.result.0 c.finished.ensures.uses
 
 pub returns-clause-refused : goal.returns-clause-refused
 returns-clause-refused g c = λ c' admitted.

@@ -3,8 +3,8 @@ use Rattle.std.proofs.lemmas.Result.{IfOk-weaker}
 use Rattle.c_types.specs.Types.{plain_type}
 use Rattle.conditional.specs.Judgements.{bind}
 use Rattle.choice_trees.specs.ChoiceTrees.{semicolon}
+use Rattle.conditional_steps.specs.Here.{is_refused}
 use Rattle.operand_types.specs.Operators.{fitted_type}
-use Rattle.cond_statements.specs.Results.{is_refused}
 use Rattle.cond_statements.proofs.results.type_refused.Goals as goal
 
 pub returns-then-is_void : goal.returns-then-is_void

@@ -8,18 +8,20 @@ use Rattle.declarator_lists.specs.Entries.{declarator_at, listed_at}
 use Rattle.declaration_readings.specs.Readings.{goes_on, goes_through, next_name}
 use Rattle.declaration_readings.proofs.Judged.{names_read}
 use Rattle.plain_objects.specs.PlainStates.{plain_storage}
+use Rattle.conditional_steps.proofs.Alternatives.{nothing_done}
 use Rattle.conditional_steps.proofs.FirstAlternative.{next_seen, none_seen}
 use Rattle.cond_objects.specs.Seen.{seen_unit}
 use Rattle.cond_objects.specs.Units.{Declares}
 use Rattle.cond_functions.specs.Where.{Where}
+use Rattle.cond_functions.proofs.Staying.{staying}
 use Rattle.cond_units.specs.Names.{IsReady, one_name}
-use Rattle.cond_units.proofs.Walking.{WalksTo, AreReady, are_ready, stays_so, nothing_done, walk_begins, walk_goes_on, walk_ends}
+use Rattle.cond_units.proofs.Walking.{WalksTo, AreReady, are_ready, walk_begins, walk_goes_on, walk_ends}
 use Rattle.cond_units.proofs.names.name_each.Goals as goal
 
 pub loop-listed-init : goal.loop-listed-init
 loop-listed-init g c = record {
   kept = refl;
-  elsewhere = λ n admitted off. (stays_so (seen_unit (has n) c.args.unit.now), c.in_ok-refused.ensures (has n));
+  elsewhere = λ n admitted off. (staying.same (seen_unit (has n) c.args.unit.now), c.in_ok-refused.ensures (has n));
   so_far = λ n globals role list admitted is on by unit ty u there shown derived.
       subst (λ all. WalksTo by unit.scope.structs (has n) c.args.declaration.now.base.now globals (plain_storage c.args.declaration.now.storage) (g.B.Behind.rest c.args.declaration.now.behind.now n) role ty there shown
       (after_each (goes_on (next_name globals (plain_storage c.args.declaration.now.storage) ty (g.B.Behind.rest c.args.declaration.now.behind.now n))) (record { state = unit; refused = false }) all)
@@ -33,7 +35,7 @@ pub loop-listed-preserved : goal.loop-listed-preserved
 loop-listed-preserved g c = record {
   kept = c.in_ok-found.ensures.kept ∙ c.loop-listed.invariant.kept;
   elsewhere = λ n admitted off.
-      nothing_done (Declares (has n) c.args.declaration.now.base.now
+      nothing_done staying (Declares (has n) c.args.declaration.now.base.now
       (one_name 0 (plain_storage c.args.declaration.now.storage) (g.B.Behind.rest c.args.declaration.now.behind.now n) (declarator_at (has n) c.listed-item.result).what)
       (IsReady file_first (declarator_at (has n) c.listed-item.result).what))
       (value (has n) (condition_of c.args.when.now) && value (has n) (condition_of c.listed-item.result.when)) (seen_unit (has n) c.args.unit.now) (seen_unit (has n) c.loop-listed.unit)

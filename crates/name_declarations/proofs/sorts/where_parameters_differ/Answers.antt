@@ -5,8 +5,9 @@ use Rattle.cond_formula.specs.Features.{has}
 use Rattle.conditional.specs.Entries.{seen, listed, entries_of, some_holds}
 use Rattle.operand_rules.specs.PlainOperandTypes.{reason}
 use Rattle.matched_lists.specs.Matched.{AreThere}
+use Rattle.matched_lists.proofs.Seen.{some_seen, seen_there}
 use Rattle.type_tables.specs.Forms.{declared_type_form}
-use Rattle.name_declarations.proofs.Matching.{same_rule, matched_same, some_seen, seen_there}
+use Rattle.name_declarations.proofs.Matching.{same_rule, matched_same}
 use Rattle.name_declarations.proofs.sorts.where_parameters_differ.Goals as goal
 
 pub returns-clause-exact : goal.returns-clause-exact

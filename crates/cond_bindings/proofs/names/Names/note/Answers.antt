@@ -26,5 +26,5 @@ returns c =
     let s = c.args.self.now in
     let ds = s.bindings.declarations.items in
     let i : Identifier = record { number = c.args.number; when = c.args.when; meaning = c.args.meaning } in
-    ap (λ (is : List Identifier). names_of ds (place_of s.file) (place_of s.tags) (latest_first s.blocks.items) is (condition_of s.refused)) c.in_ok-push.ensures.items
+    ap (λ (is : List Identifier). names_of ds (place_of s.file) (place_of s.tags) (latest_first s.blocks.items) is s.bindings.uses.items (condition_of s.refused)) c.in_ok-push.ensures.items
     ∙ ap (λ (is : List PlainIdentifier). record (plain_names s) { identifiers = is }) (map_push (plain_identifier ds) s.bindings.identifiers.items i)

@@ -23,6 +23,6 @@ pub returns : goal.returns
 returns c =
     let s = c.args.self.now in
     let d : Declaration = record { number = c.args.number; when = c.args.when; hides = place_of s.tags c.args.name.now } in
-    tag_shown s.bindings.declarations.items c.show.new.declarations.items d (place_of s.file) (place_of s.tags) (latest_first s.blocks.items) s.bindings.identifiers.items (condition_of s.refused) c.args.name.now
+    tag_shown s.bindings.declarations.items c.show.new.declarations.items d (place_of s.file) (place_of s.tags) (latest_first s.blocks.items) s.bindings.identifiers.items s.bindings.uses.items (condition_of s.refused) c.args.name.now
     (record { file_below = s.file_below; tags_below = s.tags_below; locals_below = s.blocks_below; identifiers_below = s.identifiers_below })
     c.in_ok-show.ensures.declared (place_of c.show.new.table) refl c.in_ok-show.ensures.entered

@@ -9,8 +9,8 @@ use Rattle.type_tables.specs.Changes.{has_name_in}
 use Rattle.type_tables.proofs.NameSteps.{seen_meant, name_has}
 use Rattle.type_tables.proofs.tables.Tables.declare_name.Goals as goal
 
-pub returns : goal.returns
-returns c = λ on.
+pub returns-clause-seen : goal.returns-clause-seen
+returns-clause-seen c = λ on.
     let becomes = c.in_ok-mean_at.ensures on in
     let has : has_name_in c.placed.new.self.declared.items c.in_ok-place.place c.args.name.now ≡ true = search rules in
     let placed : place_of c.placed.new.self.names c.args.name.now ≡ Some c.in_ok-place.place = search rules in

@@ -1,0 +1,4 @@
+pub mod Apart
+pub mod Faulty
+pub mod Gathered
+pub mod Mentioned
