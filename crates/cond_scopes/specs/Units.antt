@@ -1,6 +1,7 @@
 -- What is said of the identifiers of units in all configurations.
-use Rattle.std.specs.Prelude.{◌≡◌, ℕ, Bool, false, ◌&&◌, ◌||◌, List, [], ◌∷◌, IsTrue, ⊤}
+use Rattle.std.specs.Prelude.{◌≡◌, ℕ, Bool, false, ◌&&◌, ◌||◌, List, [], ◌∷◌, IsTrue, ⊤, if◌then◌else◌}
 use Rattle.cond_formula.specs.Conditions.{Condition, value, condition_of}
+use Rattle.c_tree.specs.Trees.{PlainTree}
 use Rattle.c_tree.specs.Grammar.{is_unit}
 use Rattle.choice_trees.specs.declared.trees.Forest.{Forest}
 use Rattle.choice_trees.specs.ChoiceTrees.{forest_at}
@@ -48,6 +49,12 @@ module _ (on : ℕ → Bool) where
   UnitsUseFileNames (unit ∷ units) (forest ∷ forests) (bound ∷ all) = UsesFileNames (condition_of unit.when) forest bound × UnitsUseFileNames units forests all
   UnitsUseFileNames [] forests [] = ⊤
   UnitsUseFileNames units forests all = ⊥
+
+  -- the trees of the units that are present
+  abbrev pub present_trees : List Unit → List Forest → List PlainTree
+  present_trees (unit ∷ units) (forest ∷ forests) =
+      if value on (condition_of unit.when) then forest_at on forest ∷ present_trees units forests else present_trees units forests
+  present_trees units forests = []
 
   -- each unit that is present has a tree of the grammar
   abbrev pub AreInGrammar : List Unit → List Forest → Type 0

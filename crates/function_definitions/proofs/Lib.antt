@@ -1,0 +1,5 @@
+mod Inside
+mod Leaving
+mod OneBlock
+mod OneHead
+mod OneDefinition

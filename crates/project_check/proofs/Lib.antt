@@ -1,0 +1,3 @@
+pub mod Present
+pub mod BrokenLemmas
+pub mod LeastBroken

@@ -1,0 +1,5 @@
+mod Places
+mod Staying
+mod Shapes
+mod Structs
+mod OneItem

@@ -1,0 +1,4 @@
+pub mod Sizes
+pub mod Leaving
+pub mod Steps
+pub mod Units
