@@ -14,7 +14,7 @@ use Rattle.type_tables.specs.Tables as plain
 use Rattle.type_tables.specs.Tables.{object, declared_function, sort_in}
 use Rattle.type_tables.specs.Seen.{seen_tables}
 use Rattle.type_tables.specs.declared.tables.Tables.{Tables}
-use Rattle.typed_scopes.specs.Follows.{AreThere, SortIsThere, StructFollows, SortFollows, renumbered_signature}
+use Rattle.type_tables.specs.Follows.{AreThere, SortIsThere, StructFollows, SortFollows, renumbered_signature}
 use Rattle.cond_compatible.specs.Depths.{types_agree, parameters_agree, sorts_agree}
 use Rattle.cond_compatible.specs.SeenTags.{tags_seen}
 use Rattle.cond_compatible.specs.SeenSorts.{SeenSortsAgree}

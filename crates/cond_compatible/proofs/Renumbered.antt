@@ -11,7 +11,7 @@ use Rattle.operand_types.specs.OperandTypes.{renumbered}
 use Rattle.type_tables.specs.Seen.{is_declared, is_complete, members_of, holds, tag_of, seen_tables}
 use Rattle.type_tables.specs.declared.entries.CondStruct.{CondStruct}
 use Rattle.type_tables.specs.declared.tables.Tables.{Tables}
-use Rattle.typed_scopes.specs.Follows.{IsThere, StructFollows}
+use Rattle.type_tables.specs.Follows.{IsThere, StructFollows}
 use Rattle.cond_compatible.specs.SeenTags.{tag_seen, tags_seen, TypesAgree}
 use Rattle.cond_compatible.proofs.RenumberedPairs.{TagFollows, compatible_moved, compatible_back}
 

@@ -14,7 +14,7 @@ use Rattle.c_types.specs.Tags.{PlainMember, PlainTag}
 use Rattle.c_types.specs.Compatible.{pair, Agree, MemberAgrees, TagAgrees, FoundAgree, PairAgrees, Compatible}
 use Rattle.core_meaning.specs.Entities.{Struct, tags_of}
 use Rattle.operand_types.specs.OperandTypes.{renumbered}
-use Rattle.typed_scopes.specs.Follows.{IsThere, AreThere, types_of, renumbered_member}
+use Rattle.type_tables.specs.Follows.{IsThere, AreThere, types_of, renumbered_member}
 use Rattle.cond_compatible.proofs.PairsWhere.{pairs_where, pairs_contain, pairs_hold}
 use Rattle.cond_compatible.proofs.AgreeLaws.{both_true, left_true, right_true}
 

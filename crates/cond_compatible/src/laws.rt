@@ -9,7 +9,7 @@ ghost use Rattle.operand_types.specs.OperandTypes.{renumbered};
 ghost use Rattle.type_tables.specs.Tables as plain;
 ghost use Rattle.type_tables.specs.Seen.{seen_tables};
 ghost use Rattle.type_tables.specs.declared.tables.Tables.{Tables};
-ghost use Rattle.typed_scopes.specs.Follows.{IsThere, SortIsThere, StructFollows, SortFollows};
+ghost use Rattle.type_tables.specs.Follows.{IsThere, SortIsThere, StructFollows, SortFollows};
 ghost use Rattle.cond_compatible.specs.SeenTags.{TypesAgree};
 ghost use Rattle.cond_compatible.specs.SeenSorts.{SeenSortsAgree};
 

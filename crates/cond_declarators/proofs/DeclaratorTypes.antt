@@ -17,7 +17,7 @@ use Rattle.core_meaning.specs.Typing.{is_complete, is_complete_struct}
 use Rattle.core_meaning.specs.Declarations.{pointers, starred, behind_word, element_count, object_type}
 use Rattle.operand_types.specs.OperandTypes.{outcome_as, renumbered}
 use Rattle.type_tables.specs.Tables.{Tables, is_complete_type}
-use Rattle.typed_scopes.specs.Follows.{IsThere, Follows}
+use Rattle.type_tables.specs.Follows.{IsThere, Follows}
 use Rattle.cond_declarators.specs.Elements.{array_type}
 
 pub pointers_renumbered : (by : ℕ → ℕ) (n : ℕ) (ty : PlainType) → renumbered by (pointers n ty) ≡ pointers n (renumbered by ty)

@@ -30,10 +30,10 @@ use Rattle.type_tables.specs.Questions.{where_declared}
 use Rattle.type_tables.specs.declared.entries.DeclaredType.{DeclaredType}
 use Rattle.type_tables.proofs.Same.{structs_same}
 use Rattle.type_tables.proofs.StructSteps.{same_text}
-use Rattle.typed_scopes.specs.Follows.{IsThere, Follows}
-use Rattle.typed_scopes.specs.Numbers.{NumbersKept}
-use Rattle.typed_scopes.proofs.Options.{some_same}
-use Rattle.typed_scopes.proofs.Structs.{struct_declared, numbers_kept}
+use Rattle.type_tables.specs.Follows.{IsThere, Follows}
+use Rattle.type_tables.specs.Numbers.{NumbersKept}
+use Rattle.type_tables.proofs.Options.{some_same}
+use Rattle.type_tables.proofs.StructLaws.{struct_declared, numbers_kept}
 use Rattle.cond_declarators.specs.Types.{ShowsType, based_in, base_type}
 use Rattle.cond_declarators.specs.DeclaredBases.{IsBased, DeclaresBase, DeclaresHere, DeclaresNext}
 use Rattle.cond_declarators.proofs.WordTypes.{arithmetic_renumbered, arithmetic_without}

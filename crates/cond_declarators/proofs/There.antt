@@ -17,7 +17,7 @@ use Rattle.core_meaning.specs.Typing.{is_complete}
 use Rattle.core_meaning.specs.Declarations.{Based, based_on_tag, based, name_in, new_struct, starred, behind_word, element_count, object_type}
 use Rattle.operand_types.specs.OperandTypes.{struct_in}
 use Rattle.type_tables.specs.Tables.{Tables}
-use Rattle.typed_scopes.specs.Follows.{IsThere, Follows}
+use Rattle.type_tables.specs.Follows.{IsThere, Follows}
 use Rattle.cond_declarators.specs.Types.{based_in, object_type_in}
 use Rattle.cond_declarators.specs.Laws.{BasesAreThere, ObjectsAreThere}
 use Rattle.cond_declarators.proofs.WordTypes.{arithmetic_without}

@@ -12,7 +12,7 @@ use Rattle.core_meaning.specs.Expressions.{has_terminal, words_type, arithmetic_
 use Rattle.core_meaning.specs.Declarations.{name_in, based_on_tag, based}
 use Rattle.operand_types.specs.OperandTypes.{outcome_as, renumbered, struct_in}
 use Rattle.type_tables.specs.Tables.{Tables}
-use Rattle.typed_scopes.specs.Follows.{Follows}
+use Rattle.type_tables.specs.Follows.{Follows}
 use Rattle.cond_declarators.specs.Types.{base_type}
 use Rattle.cond_declarators.specs.Elements.{struct_if_any}
 

@@ -12,8 +12,8 @@ use Rattle.operand_rules.specs.PlainOperandTypes.{reason}
 use Rattle.type_tables.specs.Forms.{declared_type_form}
 use Rattle.type_tables.specs.Tables.{Tables}
 use Rattle.type_tables.specs.declared.entries.DeclaredType.{DeclaredType}
-use Rattle.typed_scopes.specs.Follows.{IsThere, Follows}
-use Rattle.typed_scopes.specs.Numbers.{NumbersKept}
+use Rattle.type_tables.specs.Follows.{IsThere, Follows}
+use Rattle.type_tables.specs.Numbers.{NumbersKept}
 use Rattle.cond_declarators.specs.Types.{ShowsType, based_in, base_type}
 
 -- the tables follow what is visible behind the words; this type comes of them, and the struct that it is made of is there

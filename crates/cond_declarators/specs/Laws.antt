@@ -8,7 +8,7 @@ use Rattle.core_meaning.specs.Checking.{Binding}
 use Rattle.core_meaning.specs.Entities.{Scope}
 use Rattle.core_meaning.specs.Declarations.{Based}
 use Rattle.type_tables.specs.Tables.{Tables}
-use Rattle.typed_scopes.specs.Follows.{IsThere, Follows}
+use Rattle.type_tables.specs.Follows.{IsThere, Follows}
 use Rattle.cond_declarators.specs.Types.{based_in, object_type_in}
 
 -- that of the type that words name, behind the words

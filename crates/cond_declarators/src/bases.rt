@@ -13,7 +13,7 @@ ghost use Rattle.operand_types.specs.OperandTypes.{outcome_as};
 ghost use Rattle.type_tables.specs.Forms.{declared_type_form};
 ghost use Rattle.type_tables.specs.Questions.{where_declared};
 ghost use Rattle.type_tables.specs.Seen.{seen_tables};
-ghost use Rattle.typed_scopes.specs.Follows.{Follows};
+ghost use Rattle.type_tables.specs.Follows.{Follows};
 ghost use Rattle.cond_declarators.specs.Types.{ShowsType, based_in, base_type};
 ghost use Rattle.cond_declarators.specs.Elements.{struct_if_any};
 

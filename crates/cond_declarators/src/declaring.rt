@@ -13,7 +13,7 @@ ghost use Rattle.core_meaning.specs.Declarations.{based, based_on_tag};
 ghost use Rattle.operand_rules.specs.PlainOperandTypes.{reason};
 ghost use Rattle.type_tables.specs.Forms.{declared_type_form};
 ghost use Rattle.type_tables.specs.Seen.{seen_tables};
-ghost use Rattle.typed_scopes.specs.Follows.{Follows};
+ghost use Rattle.type_tables.specs.Follows.{Follows};
 ghost use Rattle.cond_declarators.specs.Types.{ShowsType, based_in};
 ghost use Rattle.cond_declarators.specs.DeclaredBases.{DeclaresBase, DeclaresHere, DeclaresNext};
 

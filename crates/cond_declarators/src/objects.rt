@@ -15,7 +15,7 @@ ghost use Rattle.operand_rules.specs.PlainOperandTypes.{reason};
 ghost use Rattle.type_tables.specs.Forms.{declared_type_form};
 ghost use Rattle.type_tables.specs.Tables.{is_complete_type};
 ghost use Rattle.type_tables.specs.Seen.{seen_tables};
-ghost use Rattle.typed_scopes.specs.Follows.{IsThere, Follows};
+ghost use Rattle.type_tables.specs.Follows.{IsThere, Follows};
 ghost use Rattle.cond_sizes.specs.Sizes.{plain_count, ShowsCount};
 ghost use Rattle.cond_declarators.specs.Types.{ShowsType, object_type_in};
 ghost use Rattle.cond_declarators.specs.Elements.{array_type};

@@ -5,7 +5,7 @@ use Rattle.c_types.specs.Tags.{PlainMember}
 use Rattle.core_meaning.specs.Entities.{Struct, Scope}
 use Rattle.operand_types.specs.OperandTypes.{renumbered}
 use Rattle.type_tables.specs.Tables.{Tables}
-use Rattle.typed_scopes.specs.Follows.{AreThere, types_of, renumbered_member, StructFollows, Follows}
+use Rattle.type_tables.specs.Follows.{AreThere, types_of, renumbered_member, StructFollows, Follows}
 use Rattle.cond_initialisers.specs.Refusals.{members_in}
 
 types_renumbered : (by : ℕ → ℕ) (ms : List PlainMember) → types_of (map (renumbered_member by) ms) ≡ map (renumbered by) (types_of ms)

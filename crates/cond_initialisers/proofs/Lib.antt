@@ -1,3 +1,11 @@
+pub mod FormLaws
+pub mod Each
+pub mod Addresses
+pub mod Values
+pub mod FirstValues
+pub mod Anywhere
+pub mod Globals
+pub mod SeenConstants
 pub mod Refused
 pub mod ByTypes
 pub mod Read

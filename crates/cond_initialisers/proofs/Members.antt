@@ -10,7 +10,7 @@ use Rattle.type_tables.specs.Forms.{member_form}
 use Rattle.type_tables.specs.declared.entries.Member.{Member}
 use Rattle.type_tables.specs.declared.entries.CondStruct.{CondStruct}
 use Rattle.type_tables.specs.Seen as seen_in
-use Rattle.typed_scopes.specs.Follows.{types_of}
+use Rattle.type_tables.specs.Follows.{types_of}
 use Rattle.cond_initialisers.specs.Places.{Extends, AreNumbered, members_of}
 use Rattle.cond_initialisers.proofs.Numbered.{next_numbered}
 

@@ -21,7 +21,7 @@ use Rattle.operand_types.specs.OperandTypes.{renumbered}
 use Rattle.expression_types.specs.Reading.{is_operand}
 use Rattle.expression_types.proofs.PartsRead.{no_operand}
 use Rattle.statement_readings.specs.Walks.{is_refused}
-use Rattle.typed_scopes.specs.Follows.{IsThere, AreThere, types_of}
+use Rattle.type_tables.specs.Follows.{IsThere, AreThere, types_of}
 use Rattle.cond_initialisers.specs.Laws.{AreRefused}
 use Rattle.cond_initialisers.specs.Refusals.{RefusedFor, Asked, parts_of, in_pairs, some_refused, alone, as_text, refuses, entries_in}
 use Rattle.cond_initialisers.proofs.Refused.{refused_with, always_refused, refused_both}

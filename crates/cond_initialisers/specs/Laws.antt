@@ -14,7 +14,7 @@ use Rattle.core_meaning.specs.Constancy.{initial, value_initial, text_initial}
 use Rattle.operand_types.specs.OperandTypes.{renumbered}
 use Rattle.statement_readings.specs.Walks.{is_refused}
 use Rattle.type_tables.specs.Tables.{Tables, known_in}
-use Rattle.typed_scopes.specs.Follows.{IsThere, Follows}
+use Rattle.type_tables.specs.Follows.{IsThere, Follows}
 use Rattle.cond_initialisers.specs.Refusals.{Asked, by_types, refuses, members_in}
 
 -- Expressions are refused exactly where what they give is, of a local or of one of so many globals.

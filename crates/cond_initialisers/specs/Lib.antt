@@ -1,3 +1,6 @@
+pub mod Forms
+pub mod Constants
+pub mod ConstantLaws
 pub mod Shapes
 pub mod Refusals
 pub mod Rows

@@ -5,7 +5,7 @@ use Rattle.conditional.specs.Entries.{seen, listed}
 use Rattle.c_types.specs.Types.{PlainType}
 use Rattle.type_tables.specs.declared.entries.CondStruct.{CondStruct}
 use Rattle.type_tables.specs.Forms.{member_form}
-use Rattle.typed_scopes.specs.Follows.{types_of}
+use Rattle.type_tables.specs.Follows.{types_of}
 
 -- a type that has a number among the first has it among the second
 abbrev pub Extends : List PlainType → List PlainType → Type 0

@@ -13,7 +13,7 @@ use Rattle.operand_rules.specs.PlainOperandTypes.{accepted}
 use Rattle.expression_types.specs.Known.{Known}
 use Rattle.expression_types.specs.Reading.{is_operand, read_expression}
 use Rattle.type_tables.specs.Tables.{Tables}
-use Rattle.typed_scopes.specs.Follows.{types_of}
+use Rattle.type_tables.specs.Follows.{types_of}
 
 abbrev pub Test : Type 0
 Test = Checked (Unit {0}) (Unit {0})

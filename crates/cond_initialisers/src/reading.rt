@@ -16,7 +16,7 @@ ghost use Rattle.core_meaning.specs.Constancy.{initial};
 ghost use Rattle.operand_types.specs.OperandTypes.{renumbered};
 ghost use Rattle.statement_readings.specs.Walks.{is_refused};
 ghost use Rattle.type_tables.specs.Seen.{seen_tables};
-ghost use Rattle.typed_scopes.specs.Follows.{IsThere, Follows};
+ghost use Rattle.type_tables.specs.Follows.{IsThere, Follows};
 ghost use Rattle.cond_initialisers.specs.Laws.{AreRefused};
 ghost use Rattle.cond_initialisers.specs.Refusals.{members_in, refuses, entries_in, in_pairs, some_refused, parts_of, one_entry};
 ghost use Rattle.cond_initialisers.specs.Rows.{plain_types, asked_for, asked_each, row, rows};

@@ -15,9 +15,9 @@ use Rattle.operand_types.specs.OperandTypes.{renumbered}
 use Rattle.statement_readings.specs.Walks.{is_refused}
 use Rattle.type_tables.specs.Tables.{Tables}
 use Rattle.type_tables.specs.Steps as step
-use Rattle.typed_scopes.specs.Follows.{IsThere, FollowsInBlock}
-use Rattle.typed_scopes.specs.Numbers.{FollowsInBlockBy}
-use Rattle.typed_scopes.proofs.Blocks.{local_declared, local_by}
+use Rattle.type_tables.specs.Follows.{IsThere, FollowsInBlock}
+use Rattle.type_tables.specs.Numbers.{FollowsInBlockBy}
+use Rattle.type_tables.proofs.BlockLaws.{local_declared, local_by}
 use Rattle.cond_declarators.specs.Types.{object_type_in}
 use Rattle.cond_locals.specs.Declaring.{IsInitialiser, IsDeclared, GoesOn, name_of, local_in}
 

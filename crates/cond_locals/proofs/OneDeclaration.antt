@@ -18,7 +18,7 @@ use Rattle.operand_types.specs.OperandTypes.{outcome_as}
 use Rattle.operand_rules.specs.declared.operands.Refused.{Refused}
 use Rattle.type_tables.specs.Tables.{Tables}
 use Rattle.type_tables.specs.declared.entries.DeclaredType.{DeclaredType}
-use Rattle.typed_scopes.specs.Follows.{IsThere, Follows, FollowsInBlock}
+use Rattle.type_tables.specs.Follows.{IsThere, Follows, FollowsInBlock}
 use Rattle.cond_declarators.specs.Types.{ShowsType, based_in, base_type}
 use Rattle.cond_declarators.proofs.There.{bases_are_there}
 use Rattle.cond_statements.specs.Following as following

@@ -16,7 +16,7 @@ use Rattle.statement_readings.specs.Walks.{is_refused}
 use Rattle.type_tables.specs.Forms.{declared_type_form}
 use Rattle.type_tables.specs.Tables.{Tables, local_named, is_in_block}
 use Rattle.type_tables.specs.declared.entries.DeclaredType.{DeclaredType}
-use Rattle.typed_scopes.specs.Follows.{IsThere, Follows, FollowsInBlock}
+use Rattle.type_tables.specs.Follows.{IsThere, Follows, FollowsInBlock}
 use Rattle.cond_declarators.specs.Types.{ShowsType, object_type_in}
 use Rattle.cond_declarators.proofs.There.{objects_are_there}
 use Rattle.conditional_steps.specs.Here as results

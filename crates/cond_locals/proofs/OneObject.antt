@@ -16,8 +16,8 @@ use Rattle.operand_types.specs.OperandTypes.{renumbered}
 use Rattle.statement_readings.specs.Walks.{is_refused}
 use Rattle.type_tables.specs.Tables.{Tables, is_complete_type, is_small}
 use Rattle.type_tables.specs.Steps.{with_local, where_true}
-use Rattle.typed_scopes.specs.Follows.{IsThere, Follows}
-use Rattle.typed_scopes.proofs.Scalars.{small_same}
+use Rattle.type_tables.specs.Follows.{IsThere, Follows}
+use Rattle.type_tables.proofs.ScalarLaws.{small_same}
 use Rattle.cond_declarators.proofs.DeclaratorTypes.{complete_followed}
 use Rattle.conditional_steps.specs.Here.{Here}
 use Rattle.cond_locals.specs.Declaring.{IsInitialiser, IsDeclared}

@@ -25,8 +25,8 @@ use Rattle.declaration_readings.specs.Laws.{LocalsAreRead}
 use Rattle.declaration_readings.proofs.Lists.{one_alone, one_before, value_alone, value_before}
 use Rattle.type_tables.specs.Tables.{Tables}
 use Rattle.type_tables.specs.declared.entries.DeclaredType.{DeclaredType}
-use Rattle.typed_scopes.specs.Follows.{IsThere}
-use Rattle.typed_scopes.specs.Numbers.{FollowsInBlockBy}
+use Rattle.type_tables.specs.Follows.{IsThere}
+use Rattle.type_tables.specs.Numbers.{FollowsInBlockBy}
 use Rattle.cond_declarators.specs.Types.{ShowsType}
 use Rattle.conditional_steps.specs.Here.{Here}
 use Rattle.cond_locals.specs.Declaring.{IsInitialiser, GoesOn, Declares}

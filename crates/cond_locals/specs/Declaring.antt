@@ -18,8 +18,8 @@ use Rattle.statement_readings.specs.Walks.{is_refused}
 use Rattle.type_tables.specs.Tables.{Tables}
 use Rattle.type_tables.specs.Steps.{with_local}
 use Rattle.type_tables.specs.declared.entries.DeclaredType.{DeclaredType}
-use Rattle.typed_scopes.specs.Follows.{IsThere, FollowsInBlock}
-use Rattle.typed_scopes.specs.Numbers.{FollowsInBlockBy}
+use Rattle.type_tables.specs.Follows.{IsThere, FollowsInBlock}
+use Rattle.type_tables.specs.Numbers.{FollowsInBlockBy}
 use Rattle.cond_declarators.specs.Types.{ShowsType}
 use Rattle.cond_statements.specs.Following.{Declared}
 use Rattle.cond_statements.specs.Ready.{IsDerived}

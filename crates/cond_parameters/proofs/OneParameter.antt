@@ -25,8 +25,8 @@ use Rattle.operand_types.specs.OperandTypes.{outcome_as, renumbered}
 use Rattle.plain_declarators.specs.Words.{is_absence}
 use Rattle.plain_parameters.specs.Parameters.{words_then}
 use Rattle.type_tables.specs.Tables.{Tables}
-use Rattle.typed_scopes.proofs.Options.{some_same}
-use Rattle.typed_scopes.specs.Follows.{IsThere, Follows}
+use Rattle.type_tables.proofs.Options.{some_same}
+use Rattle.type_tables.specs.Follows.{IsThere, Follows}
 use Rattle.cond_parameters.specs.Types.{renumbered_parameter}
 use Rattle.cond_parameters.proofs.ParameterTypes.{types_there}
 

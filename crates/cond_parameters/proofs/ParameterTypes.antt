@@ -23,7 +23,7 @@ use Rattle.operand_rules.specs.declared.operands.Refused.{Refused}
 use Rattle.operand_rules.specs.PlainOperandTypes.{reason}
 use Rattle.operand_types.specs.OperandTypes.{outcome_as, renumbered}
 use Rattle.type_tables.specs.Tables.{Tables, is_complete_type}
-use Rattle.typed_scopes.specs.Follows.{IsThere, Follows}
+use Rattle.type_tables.specs.Follows.{IsThere, Follows}
 use Rattle.cond_parameters.specs.Types.{is_fine}
 
 -- ---- sizes

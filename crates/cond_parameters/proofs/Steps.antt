@@ -15,9 +15,9 @@ use Rattle.core_meaning.specs.UnitNames.{parameter_types, with_parameters}
 use Rattle.operand_types.specs.OperandTypes.{outcome_as, renumbered}
 use Rattle.plain_parameters.specs.Parameters.{is_void_node}
 use Rattle.type_tables.specs.Tables.{Tables}
-use Rattle.typed_scopes.specs.Follows.{IsThere, AreThere, FollowsInBlock}
-use Rattle.typed_scopes.specs.Numbers.{FollowsInBlockBy}
-use Rattle.typed_scopes.proofs.Blocks.{local_declared, local_by}
+use Rattle.type_tables.specs.Follows.{IsThere, AreThere, FollowsInBlock}
+use Rattle.type_tables.specs.Numbers.{FollowsInBlockBy}
+use Rattle.type_tables.proofs.BlockLaws.{local_declared, local_by}
 use Rattle.cond_declarators.proofs.There.{whole_of}
 use Rattle.cond_parameters.specs.Parameters.{AreDeclared, Declares}
 use Rattle.cond_parameters.specs.Readings.{Reading, nothing_read, with_next, goes_on}

@@ -10,8 +10,8 @@ use Rattle.core_meaning.specs.Declarations.{Parameter, with_block}
 use Rattle.core_meaning.specs.UnitNames.{parameter_types, with_parameters}
 use Rattle.operand_types.specs.OperandTypes.{renumbered}
 use Rattle.type_tables.specs.Tables.{Tables}
-use Rattle.typed_scopes.specs.Follows.{AreThere}
-use Rattle.typed_scopes.specs.Numbers.{FollowsInBlockBy}
+use Rattle.type_tables.specs.Follows.{AreThere}
+use Rattle.type_tables.specs.Numbers.{FollowsInBlockBy}
 
 -- a list is a tree of the grammar, or it is left out
 pub data IsList : PlainTree → Type 0 where

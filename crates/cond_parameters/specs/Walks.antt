@@ -14,7 +14,7 @@ use Rattle.type_tables.specs.Seen.{seen_tables}
 use Rattle.type_tables.specs.Steps.{with_local}
 use Rattle.type_tables.specs.Tables as plain
 use Rattle.type_tables.specs.declared.tables.Tables.{Tables}
-use Rattle.typed_scopes.specs.Follows.{FollowsInBlock}
+use Rattle.type_tables.specs.Follows.{FollowsInBlock}
 use Rattle.cond_parameters.specs.Parameters.{Declares}
 use Rattle.cond_parameters.specs.Readings.{Reading}
 use Rattle.cond_parameters.specs.Types.{renumbered_parameter, HaveNames}

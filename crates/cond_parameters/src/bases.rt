@@ -10,7 +10,7 @@ ghost use Rattle.core_meaning.specs.Entities.{Scope};
 ghost use Rattle.operand_types.specs.OperandTypes.{outcome_as};
 ghost use Rattle.type_tables.specs.Questions.{where_declared};
 ghost use Rattle.type_tables.specs.Seen.{seen_tables};
-ghost use Rattle.typed_scopes.specs.Follows.{Follows};
+ghost use Rattle.type_tables.specs.Follows.{Follows};
 ghost use Rattle.cond_parameters.specs.Types.{judged_type};
 
 use c_tree::{Terminal, Tree};

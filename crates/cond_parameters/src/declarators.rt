@@ -10,7 +10,7 @@ ghost use Rattle.core_meaning.specs.Declarations.{size_of_parameter, parameter_t
 ghost use Rattle.core_meaning.specs.Entities.{Scope};
 ghost use Rattle.operand_types.specs.OperandTypes.{outcome_as, renumbered};
 ghost use Rattle.type_tables.specs.Seen.{seen_tables};
-ghost use Rattle.typed_scopes.specs.Follows.{IsThere, Follows};
+ghost use Rattle.type_tables.specs.Follows.{IsThere, Follows};
 ghost use Rattle.cond_parameters.specs.Types.{judged_type, is_fine};
 
 use crate::bases::{JudgedType, no_type, type_anywhere};

@@ -14,7 +14,7 @@ ghost use Rattle.plain_declarators.specs.Words.{is_absence};
 ghost use Rattle.plain_parameters.specs.Parameters as plain;
 ghost use Rattle.plain_parameters.specs.Parameters.{words_then, are_void, is_void_node};
 ghost use Rattle.type_tables.specs.Seen.{seen_tables};
-ghost use Rattle.typed_scopes.specs.Follows.{IsThere, FollowsInBlock};
+ghost use Rattle.type_tables.specs.Follows.{IsThere, FollowsInBlock};
 ghost use Rattle.cond_parameters.specs.Types.{renumbered_parameter, found_at, HaveNames};
 
 use crate::bases::{JudgedType, type_of_words};

@@ -12,7 +12,7 @@ ghost use Rattle.core_meaning.specs.Declarations.{with_block};
 ghost use Rattle.type_tables.specs.Forms.{declared_type_form};
 ghost use Rattle.type_tables.specs.Seen.{seen_tables};
 ghost use Rattle.type_tables.specs.Steps.{where_true};
-ghost use Rattle.typed_scopes.specs.Numbers.{FollowsInBlockBy};
+ghost use Rattle.type_tables.specs.Numbers.{FollowsInBlockBy};
 ghost use Rattle.cond_statements.specs.Following.{OnlyLocals};
 ghost use Rattle.cond_parameters.specs.Parameters.{Declares};
 ghost use Rattle.cond_parameters.specs.Types.{found_at};

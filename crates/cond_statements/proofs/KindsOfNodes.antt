@@ -9,7 +9,7 @@ use Rattle.core_meaning.specs.Declarations.{with_block}
 use Rattle.statement_readings.specs.Walks.{State, leave, expression_read, node_read}
 use Rattle.type_tables.specs.Tables.{Tables}
 use Rattle.type_tables.specs.Steps.{entered}
-use Rattle.typed_scopes.specs.Numbers.{FollowsBy}
+use Rattle.type_tables.specs.Numbers.{FollowsBy}
 use Rattle.cond_statements.specs.declared.roles.Role.{Role}
 use Rattle.cond_statements.specs.declared.roles.Role.TheVariants.{LeftOut, Declaration, Scoped, Parts, Jump, Expression}
 use Rattle.cond_statements.specs.Roles.{role_of}

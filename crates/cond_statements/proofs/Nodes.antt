@@ -15,8 +15,8 @@ use Rattle.operand_types.specs.OperandTypes.{renumbered}
 use Rattle.expression_types.specs.Reading.{is_operand}
 use Rattle.statement_readings.specs.Walks.{State, use_in, is_loop, scope_in, with_locals, leave, expression_refused, expression_read, left_out, node_read, walk_parts}
 use Rattle.type_tables.specs.Tables.{Tables}
-use Rattle.typed_scopes.specs.Follows.{FollowsInBlock}
-use Rattle.typed_scopes.specs.Numbers.{FollowsBy, FollowsInBlockBy}
+use Rattle.type_tables.specs.Follows.{FollowsInBlock}
+use Rattle.type_tables.specs.Numbers.{FollowsBy, FollowsInBlockBy}
 use Rattle.cond_statements.specs.declared.roles.Role.{Role}
 use Rattle.cond_statements.specs.declared.roles.Role.TheVariants.{LeftOut, Declaration, Scoped, Parts, Jump, Expression}
 use Rattle.cond_statements.specs.Roles.{role_of}

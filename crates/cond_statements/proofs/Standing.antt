@@ -6,9 +6,9 @@ use Rattle.core_meaning.specs.Entities.{Scope}
 use Rattle.core_meaning.specs.Declarations.{with_block}
 use Rattle.type_tables.specs.Tables.{Tables}
 use Rattle.type_tables.specs.Steps.{entered}
-use Rattle.typed_scopes.specs.Follows.{Follows}
-use Rattle.typed_scopes.specs.Numbers.{FollowsBy, FollowsInBlockBy}
-use Rattle.typed_scopes.proofs.Blocks.{block_entered, entered_by}
+use Rattle.type_tables.specs.Follows.{Follows}
+use Rattle.type_tables.specs.Numbers.{FollowsBy, FollowsInBlockBy}
+use Rattle.type_tables.proofs.BlockLaws.{block_entered, entered_by}
 use Rattle.statement_readings.specs.Walks.{State}
 use Rattle.cond_statements.specs.Readings.{Stand, Arrives}
 

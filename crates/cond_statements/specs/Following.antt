@@ -5,7 +5,7 @@ use Rattle.core_meaning.specs.Declarations.{Locals}
 use Rattle.type_tables.specs.Tables as plain
 use Rattle.type_tables.specs.declared.tables.Tables.{Tables}
 use Rattle.type_tables.specs.Blocks.{KeepsOutside}
-use Rattle.typed_scopes.specs.Numbers.{FollowsInBlockBy}
+use Rattle.type_tables.specs.Numbers.{FollowsInBlockBy}
 
 -- what the judgement of a declaration gives is in the tables, or it is refused
 abbrev pub Declared : (ℕ → ℕ) → Checked Locals → Bool → plain.Tables → Type 0

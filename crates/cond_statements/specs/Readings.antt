@@ -12,7 +12,7 @@ use Rattle.expression_types.specs.Reading.{is_operand}
 use Rattle.statement_readings.specs.Walks.{State, turns, walk_parts}
 use Rattle.type_tables.specs.Tables.{Tables}
 use Rattle.type_tables.specs.Steps.{entered}
-use Rattle.typed_scopes.specs.Numbers.{FollowsBy, FollowsInBlockBy}
+use Rattle.type_tables.specs.Numbers.{FollowsBy, FollowsInBlockBy}
 use Rattle.cond_statements.specs.Ready.{Ready}
 
 -- whether no node stands among these parts, if none stands before them

@@ -14,7 +14,7 @@ ghost use Rattle.statement_readings.specs.Walks.{walk_body};
 ghost use Rattle.statement_readings.specs.Laws.{starting};
 ghost use Rattle.type_tables.specs.Forms.{declared_type_form};
 ghost use Rattle.type_tables.specs.Seen.{seen_tables};
-ghost use Rattle.typed_scopes.specs.Follows.{FollowsInBlock};
+ghost use Rattle.type_tables.specs.Follows.{FollowsInBlock};
 
 use crate::blocks::close_block;
 use crate::declarations::Declarations;

@@ -9,7 +9,7 @@ ghost use Rattle.core_meaning.specs.Entities.{Scope};
 ghost use Rattle.core_meaning.specs.Declarations.{judged_locals};
 ghost use Rattle.choice_trees.specs.ChoiceTrees.{plain_choices, parts_at};
 ghost use Rattle.type_tables.specs.Seen.{seen_tables};
-ghost use Rattle.typed_scopes.specs.Follows.{FollowsInBlock};
+ghost use Rattle.type_tables.specs.Follows.{FollowsInBlock};
 ghost use Rattle.cond_statements.specs.Following.{Declared, OnlyLocals};
 ghost use Rattle.cond_statements.specs.Ready.{IsDerived};
 

@@ -11,7 +11,7 @@ ghost use Rattle.operand_types.specs.OperandTypes.{renumbered};
 ghost use Rattle.statement_readings.specs.Walks as walks;
 ghost use Rattle.type_tables.specs.Forms.{declared_type_form};
 ghost use Rattle.type_tables.specs.Seen.{seen_tables};
-ghost use Rattle.typed_scopes.specs.Numbers.{FollowsBy};
+ghost use Rattle.type_tables.specs.Numbers.{FollowsBy};
 ghost use Rattle.cond_statements.specs.Ready.{IsExpression};
 ghost use Rattle.cond_statements.specs.Uses.{use_of};
 

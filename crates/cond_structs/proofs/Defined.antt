@@ -33,9 +33,9 @@ use Rattle.type_tables.specs.Tables.{Tables, is_complete_type}
 use Rattle.type_tables.specs.Forms.{declared_type_form}
 use Rattle.type_tables.specs.Steps.{with_completed, where_true}
 use Rattle.type_tables.specs.declared.entries.DeclaredType.{DeclaredType}
-use Rattle.typed_scopes.specs.Follows.{IsThere, renumbered_member, Follows}
-use Rattle.typed_scopes.specs.Numbers.{NumbersKept}
-use Rattle.typed_scopes.proofs.Structs.{struct_completed, completed_by}
+use Rattle.type_tables.specs.Follows.{IsThere, renumbered_member, Follows}
+use Rattle.type_tables.specs.Numbers.{NumbersKept}
+use Rattle.type_tables.proofs.StructLaws.{struct_completed, completed_by}
 use Rattle.cond_declarators.specs.Types.{ShowsType, based_in}
 use Rattle.cond_declarators.specs.DeclaredBases.{DeclaresBase}
 use Rattle.cond_declarators.proofs.DeclaratorTypes.{complete_followed}

@@ -22,9 +22,9 @@ use Rattle.operand_rules.specs.declared.operands.Refused.{Refused}
 use Rattle.operand_rules.specs.PlainOperandTypes.{reason}
 use Rattle.type_tables.specs.Tables.{Tables}
 use Rattle.type_tables.specs.declared.entries.DeclaredType.{DeclaredType}
-use Rattle.typed_scopes.specs.Follows.{types_of, Follows}
-use Rattle.typed_scopes.specs.Numbers.{NumbersKept}
-use Rattle.typed_scopes.proofs.Renumbering.{members_same, all_still_there}
+use Rattle.type_tables.specs.Follows.{types_of, Follows}
+use Rattle.type_tables.specs.Numbers.{NumbersKept}
+use Rattle.type_tables.proofs.Renumbering.{members_same, all_still_there}
 use Rattle.cond_declarators.specs.Types.{ShowsType, based_in}
 use Rattle.cond_declarators.specs.DeclaredBases.{DeclaresBase}
 use Rattle.cond_structs.specs.Gathered.{Gathered, refuse}

@@ -23,8 +23,8 @@ use Rattle.core_meaning.specs.UnitNames as units
 use Rattle.declaration_readings.specs.Readings.{Going, after}
 use Rattle.operand_types.specs.OperandTypes.{renumbered, outcome_as}
 use Rattle.type_tables.specs.Tables.{Tables, member_named, is_complete_type}
-use Rattle.typed_scopes.specs.Follows.{IsThere, AreThere, types_of, place_of, renumbered_member, Follows}
-use Rattle.typed_scopes.proofs.Scalars.{scalars_same}
+use Rattle.type_tables.specs.Follows.{IsThere, AreThere, types_of, place_of, renumbered_member, Follows}
+use Rattle.type_tables.proofs.ScalarLaws.{scalars_same}
 use Rattle.cond_declarators.specs.Types.{object_type_in}
 use Rattle.cond_declarators.proofs.DeclaratorTypes.{complete_followed}
 use Rattle.cond_declarators.proofs.There.{objects_are_there}

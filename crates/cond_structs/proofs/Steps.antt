@@ -12,7 +12,7 @@ use Rattle.core_meaning.specs.UnitNames.{Members, one_member}
 use Rattle.declaration_readings.specs.Readings.{Going, after}
 use Rattle.operand_types.specs.OperandTypes.{renumbered, outcome_as}
 use Rattle.type_tables.specs.Seen.{seen_tables}
-use Rattle.typed_scopes.specs.Follows.{IsThere, Follows}
+use Rattle.type_tables.specs.Follows.{IsThere, Follows}
 use Rattle.cond_declarators.specs.Types.{ShowsType, object_type_in}
 use Rattle.cond_structs.specs.declared.collecting.Gathering.{Gathering}
 use Rattle.cond_structs.specs.declared.declaring.Declaration.{Declaration}

@@ -14,7 +14,7 @@ use Rattle.operand_rules.specs.declared.operands.Refused.{Refused}
 use Rattle.type_tables.specs.declared.entries.DeclaredType.{DeclaredType}
 use Rattle.type_tables.specs.Tables.{Tables}
 use Rattle.type_tables.specs.Seen.{seen_tables}
-use Rattle.typed_scopes.specs.Follows.{IsThere, Follows}
+use Rattle.type_tables.specs.Follows.{IsThere, Follows}
 use Rattle.cond_declarators.specs.Types.{ShowsType}
 use Rattle.cond_structs.specs.Gathered.{gathered}
 use Rattle.cond_structs.specs.Standing.{GathersSoFar}

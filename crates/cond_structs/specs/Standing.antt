@@ -6,8 +6,8 @@ use Rattle.core_meaning.specs.Entities.{Struct}
 use Rattle.core_meaning.specs.UnitNames.{Members, AllMembers, UnitState}
 use Rattle.declaration_readings.specs.Readings.{Going}
 use Rattle.type_tables.specs.Tables.{Tables}
-use Rattle.typed_scopes.specs.Follows.{AreThere, types_of, place_of, renumbered_member, Follows}
-use Rattle.typed_scopes.specs.Numbers.{NumbersKept}
+use Rattle.type_tables.specs.Follows.{AreThere, types_of, place_of, renumbered_member, Follows}
+use Rattle.type_tables.specs.Numbers.{NumbersKept}
 use Rattle.cond_structs.specs.Gathered.{Gathered}
 
 -- these members are gathered, where structs have these numbers

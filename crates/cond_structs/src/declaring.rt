@@ -10,7 +10,7 @@ ghost use Rattle.core_meaning.specs.Declarations as spec;
 ghost use Rattle.core_meaning.specs.Entities.{Scope};
 ghost use Rattle.operand_types.specs.OperandTypes.{renumbered, outcome_as};
 ghost use Rattle.type_tables.specs.Seen.{seen_tables};
-ghost use Rattle.typed_scopes.specs.Follows.{IsThere, Follows};
+ghost use Rattle.type_tables.specs.Follows.{IsThere, Follows};
 ghost use Rattle.cond_declarators.specs.Types.{ShowsType, object_type_in};
 ghost use Rattle.cond_structs.specs.Gathered.{gathered, refuse, is_named, with_member, with_declared, Comes, Keeps};
 ghost use Rattle.cond_structs.specs.Walks.{declared_name};

@@ -14,7 +14,7 @@ ghost use Rattle.type_tables.specs.Tables.{is_complete_type};
 ghost use Rattle.type_tables.specs.Forms.{declared_type_form};
 ghost use Rattle.type_tables.specs.Seen.{seen_tables};
 ghost use Rattle.type_tables.specs.Steps.{with_completed, where_true};
-ghost use Rattle.typed_scopes.specs.Follows.{Follows};
+ghost use Rattle.type_tables.specs.Follows.{Follows};
 ghost use Rattle.cond_structs.specs.Gathered.{gathered};
 ghost use Rattle.cond_structs.specs.Standing.{parts_of, DefinesStruct};
 

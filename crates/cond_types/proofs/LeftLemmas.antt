@@ -17,9 +17,9 @@ use Rattle.cond_scopes.specs.Units.{IsInGrammar, AreInGrammar, UsesFileNames, Un
 use Rattle.type_tables.specs.declared.tables.Tables.{Tables}
 use Rattle.link_faults.specs.declared.left.LeftUnit.{LeftUnit}
 use Rattle.link_faults.specs.SeenUnits.{is_present, LeavesAlike}
-use Rattle.unit_types.specs.declared.units.TypedUnit.{TypedUnit}
-use Rattle.unit_types.specs.declared.units.TypedUnits.{TypedUnits}
-use Rattle.unit_types.specs.Units.{is_present as is_typed_present, IsLeft, AreTyped}
+use Rattle.cond_types.specs.declared.units.TypedUnit.{TypedUnit}
+use Rattle.cond_types.specs.declared.units.TypedUnits.{TypedUnits}
+use Rattle.cond_types.specs.Units.{is_present as is_typed_present, IsLeft, AreTyped}
 use Rattle.cond_types.specs.declared.typing.CondTypes.{CondTypes}
 use Rattle.cond_types.specs.Uses.{HasUses, HaveUses}
 use Rattle.cond_types.specs.Typed.{IsTypedAs}

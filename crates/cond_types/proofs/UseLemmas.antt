@@ -8,7 +8,7 @@ use Rattle.cond_bindings.specs.Bindings.{uses_at}
 use Rattle.link_faults.specs.declared.left.CondUse.{CondUse}
 use Rattle.link_faults.specs.declared.left.LeftUnit.{LeftUnit}
 use Rattle.link_faults.specs.SeenUnits.{is_used}
-use Rattle.unit_types.specs.declared.units.TypedUnit.{TypedUnit}
+use Rattle.cond_types.specs.declared.units.TypedUnit.{TypedUnit}
 use Rattle.cond_types.specs.Uses.{use_of, uses_of_place, HasUses, HaveUses}
 
 have_push :

@@ -1,2 +1,9 @@
+pub mod Places
+pub mod Functions
+pub mod Definitions
+pub mod Sizes
+pub mod Leaving
+pub mod Steps
+pub mod Units
 pub mod Uses
 pub mod Typed

@@ -5,7 +5,7 @@ use Rattle.core_meaning.specs.Checking.{Checked, fine}
 use Rattle.core_meaning.specs.Linking.{Units}
 use Rattle.type_tables.specs.Seen.{seen_tables}
 use Rattle.link_faults.specs.SeenUnits.{LeaveAlike}
-use Rattle.link_agreements.specs.Faulty.{StructsFollow}
+use Rattle.link_faults.specs.Faulty.{StructsFollow}
 use Rattle.cond_types.specs.declared.typing.CondTypes.{CondTypes}
 
 -- The units that are present leave what these do, and each struct is one of the tables', by its number.

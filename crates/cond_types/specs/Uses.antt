@@ -5,7 +5,7 @@ use Rattle.cond_bindings.specs.declared.unit_bindings.UnitBindings.{UnitBindings
 use Rattle.cond_bindings.specs.Bindings.{PlainUse, file_uses_of}
 use Rattle.link_faults.specs.declared.left.LeftUnit.{LeftUnit}
 use Rattle.link_faults.specs.declared.left.CondUse.{CondUse}
-use Rattle.unit_types.specs.declared.units.TypedUnit.{TypedUnit}
+use Rattle.cond_types.specs.declared.units.TypedUnit.{TypedUnit}
 
 abbrev pub uses_of : Option UnitBindings → List PlainUse
 uses_of None = []

@@ -19,7 +19,7 @@ use link_faults::LeftUnit;
 use project_file::Unit;
 use std::alloc::Global;
 use type_tables::Tables;
-use unit_types::{TypedUnit, TypedUnits, declare_units};
+use crate::{TypedUnit, TypedUnits, declare_units};
 
 /// What the units of a project are by their types, in all configurations.
 #[derive(Drop)]

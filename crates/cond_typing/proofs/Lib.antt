@@ -1,3 +1,7 @@
+pub mod FoundWords
+pub mod Constants
+pub mod Pushed
+pub mod MadeOfVariants
 pub mod TextRows
 pub mod NullConstants
 pub mod KindsOfNodes

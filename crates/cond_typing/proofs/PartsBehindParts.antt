@@ -16,7 +16,7 @@ use Rattle.expression_types.specs.Known.{Callable, Known}
 use Rattle.expression_types.specs.Reading.{Read, Parts, nothing_read, single, is_operand, with_operand, with_sign, with_node, read_parts}
 use Rattle.cond_nodes.specs.declared.parts.CondParts.{CondParts}
 use Rattle.cond_nodes.specs.Reads.{ShowsParts}
-use Rattle.cond_parts.specs.Progress.{part_read, ReadsPart}
+use Rattle.cond_typing.specs.PartsProgress.{part_read, ReadsPart}
 use Rattle.cond_typing.specs.Readings.{arguments_in, read_if_any, first_read}
 
 pub no_items : {T : Type 0} (xs : List T) → length xs ≡ 0 → xs ≡ []

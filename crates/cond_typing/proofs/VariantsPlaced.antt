@@ -16,7 +16,7 @@ use Rattle.expression_types.specs.Known.{Callable}
 use Rattle.expression_types.specs.Reading.{Read}
 use Rattle.cond_nodes.specs.declared.parts.CondRead.{CondRead}
 use Rattle.cond_nodes.specs.Reads.{callee_number, ShowsRead}
-use Rattle.cond_parts.proofs.MadeOfVariants.{made_by, made, stands_made}
+use Rattle.cond_typing.proofs.MadeOfVariants.{made_by, made, stands_made}
 use Rattle.cond_typing.specs.declared.variants.VariantReads.{VariantReads}
 use Rattle.cond_typing.specs.Progress.{NamesSoFar, ShowsSoFar}
 

@@ -1,3 +1,4 @@
+pub mod PartsProgress
 pub mod Texts
 pub mod Roles
 pub mod Readings

@@ -9,7 +9,7 @@ ghost use Rattle.choice_trees.specs.ChoiceTrees.{plain_item, plain_branches, pla
 ghost use Rattle.choice_variants.specs.Variants.{part_at, before};
 ghost use Rattle.expression_types.specs.Reading as spec;
 ghost use Rattle.cond_nodes.specs.Reads.{ShowsRead, ShowsParts, ShowsEach};
-ghost use Rattle.cond_parts.specs.Progress.{ReadsPart};
+ghost use Rattle.cond_typing.specs.PartsProgress.{ReadsPart};
 ghost use Rattle.cond_typing.specs.Readings.{node_of, first_read, read_if_any, arguments_in};
 
 use crate::arguments::{no_argument, push_argument, with_argument};
@@ -22,7 +22,7 @@ use choice_variants::{Part, variants};
 use cond_formula::{NoMemory, Oracle};
 use cond_nodes::{CondParts, CondRead, Knowledge, node_read};
 use cond_operands::Operands;
-use cond_parts::{no_parts, push_leaf, push_refused, single, words};
+use crate::{no_parts, push_leaf, push_refused, single, words};
 use conditional::Guarded;
 use std::alloc::Global;
 use std::slice;

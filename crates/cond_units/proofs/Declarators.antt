@@ -12,10 +12,10 @@ use Rattle.operand_rules.specs.declared.operands.Refused.{Refused}
 use Rattle.type_tables.specs.declared.entries.DeclaredType.{DeclaredType}
 use Rattle.declarator_lists.specs.Lists.{declared}
 use Rattle.core_meaning.specs.UnitNames.{Storage, UnitState, declared_one}
-use Rattle.cond_objects.specs.Seen.{SeenUnit}
-use Rattle.cond_objects.specs.Units.{IsUnit, GoesOn, IsInitialiser, object_in, Declares}
-use Rattle.cond_functions.specs.Functions.{IsFunctionDeclarator, of_function, function_in}
-use Rattle.cond_functions.specs.Where.{Where}
+use Rattle.cond_units.specs.Seen.{SeenUnit}
+use Rattle.cond_units.specs.Declaring.{IsUnit, GoesOn, IsInitialiser, object_in, Declares}
+use Rattle.cond_units.specs.Functions.{IsFunctionDeclarator, of_function, function_in}
+use Rattle.cond_units.specs.Where.{Where}
 use Rattle.cond_units.specs.Names.{is_function, one_name, IsReady}
 
 same_object : (globals : ℕ) (storage : Storage) (tree : PlainTree) (initialiser : Option PlainTree) (rest : PlainTrees) (unit : UnitState) (ty : PlainType) → is_function tree ≡ false

@@ -19,13 +19,13 @@ use Rattle.core_meaning.specs.UnitNames.{UnitState, with_scope, declared_from}
 use Rattle.operand_rules.specs.declared.operands.Refused.{Refused}
 use Rattle.type_tables.specs.declared.entries.DeclaredType.{DeclaredType}
 use Rattle.type_tables.specs.Tables.{Tables}
-use Rattle.typed_scopes.specs.Follows.{Follows}
-use Rattle.typed_scopes.specs.Numbers.{NumbersKept, FollowsBy}
+use Rattle.type_tables.specs.Follows.{Follows}
+use Rattle.type_tables.specs.Numbers.{NumbersKept, FollowsBy}
 use Rattle.cond_declarators.specs.Types.{ShowsType, based_in}
 use Rattle.cond_declarators.specs.DeclaredBases.{DeclaresBase}
-use Rattle.cond_objects.specs.Seen.{SeenUnit}
-use Rattle.cond_objects.specs.Units.{IsUnit, GoesOn, Declares}
-use Rattle.cond_functions.specs.Where.{Stays, Where}
+use Rattle.cond_units.specs.Seen.{SeenUnit}
+use Rattle.cond_units.specs.Declaring.{IsUnit, GoesOn, Declares}
+use Rattle.cond_units.specs.Where.{Stays, Where}
 use Rattle.cond_units.specs.Names.{all_names, storage_in}
 use Rattle.cond_units.specs.Items.{ItemGoesOn, DeclaresItem, declaration_of, words_alone}
 

@@ -15,11 +15,11 @@ use Rattle.declarator_lists.specs.declared.items.ListEntry.{ListEntry}
 use Rattle.core_meaning.specs.Checking.{Binding, Checked, fine, refused, broken, with_bindings, ◌>>=◌}
 use Rattle.core_meaning.specs.Entities.{Struct}
 use Rattle.core_meaning.specs.UnitNames.{UnitState, judged_item, judged_file_items}
-use Rattle.typed_scopes.specs.Numbers.{NumbersKept}
+use Rattle.type_tables.specs.Numbers.{NumbersKept}
 use Rattle.cond_declarators.proofs.There.{whole_of}
-use Rattle.cond_objects.specs.Seen.{SeenUnit}
-use Rattle.cond_objects.specs.Units.{IsUnit}
-use Rattle.cond_functions.specs.Where.{Where}
+use Rattle.cond_units.specs.Seen.{SeenUnit}
+use Rattle.cond_units.specs.Declaring.{IsUnit}
+use Rattle.cond_units.specs.Where.{Where}
 use Rattle.cond_units.specs.Items.{GoesOnAnew, ItemGoesOn, DeclaresItem}
 use Rattle.cond_units.specs.Units.{one_item}
 use Rattle.cond_units.proofs.Growing.{UnitGrows, has_itself, item_grows}

@@ -16,7 +16,7 @@ use Rattle.core_meaning.specs.Declarations.{Based, based_on_tag, based, name_in,
 use Rattle.core_meaning.specs.UnitNames.{Storage, by_extern, by_static, by_none, UnitState, same_sort, same_bool, linkage, declared_as, with_name, is_function, judged_global, defined_object, with_defined, with_scope, declared_object, declared_function, declared_one, declared_from, defined_function, signature_of, new_function, parameter_types, is_result, result_kind, judged_body, with_parameters, refused_initialiser, object_body, function_body, constant_parts, Members, AllMembers, all_members, members_from, completed, with_members_at, is_defined_tag, number_of_struct, defined_struct, judged_item, storage_of, count_functions}
 use Rattle.core_meaning.specs.Constancy.{initial}
 use Rattle.core_meaning.specs.Statements.{JudgedItems}
-use Rattle.typed_scopes.proofs.Renumbering.{Has}
+use Rattle.type_tables.proofs.Renumbering.{Has}
 use Rattle.cond_declarators.proofs.There.{Whole}
 
 pub has_itself : (structs : List Struct) → Has structs structs

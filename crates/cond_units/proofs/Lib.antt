@@ -1,3 +1,12 @@
+pub mod Judging
+pub mod Fitting
+pub mod OneObject
+pub mod OneObjectDeclarator
+pub mod Given
+pub mod Staying
+pub mod OneFunction
+pub mod OneFunctionDeclarator
+pub mod ParameterLists
 pub mod Searching
 pub mod Completing
 pub mod Declarators

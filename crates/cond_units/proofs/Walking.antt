@@ -21,11 +21,11 @@ use Rattle.declaration_readings.specs.Readings.{Going, after, goes_on, goes_thro
 use Rattle.declaration_readings.specs.Laws.{NamesAreRead}
 use Rattle.declaration_readings.proofs.Lists.{one_alone, one_before, value_alone, value_before}
 use Rattle.type_tables.specs.declared.entries.DeclaredType.{DeclaredType}
-use Rattle.typed_scopes.specs.Follows.{IsThere}
+use Rattle.type_tables.specs.Follows.{IsThere}
 use Rattle.cond_declarators.specs.Types.{ShowsType}
-use Rattle.cond_objects.specs.Seen.{SeenUnit}
-use Rattle.cond_objects.specs.Units.{IsUnit, GoesOn, Declares}
-use Rattle.cond_functions.specs.Where.{Where}
+use Rattle.cond_units.specs.Seen.{SeenUnit}
+use Rattle.cond_units.specs.Declaring.{IsUnit, GoesOn, Declares}
+use Rattle.cond_units.specs.Where.{Where}
 use Rattle.cond_units.specs.Names.{one_name, IsReady}
 
 -- ---- what is derived of a list

@@ -4,10 +4,10 @@ use Rattle.c_tree.specs.Trees.{PlainTree, PlainTrees}
 use Rattle.core_meaning.specs.Checking.{Checked, fine, ◌>>=◌, give}
 use Rattle.core_meaning.specs.Entities.{Struct}
 use Rattle.core_meaning.specs.UnitNames.{UnitState, with_scope, declared_from}
-use Rattle.typed_scopes.specs.Numbers.{NumbersKept}
+use Rattle.type_tables.specs.Numbers.{NumbersKept}
 use Rattle.cond_declarators.specs.Types.{based_in}
-use Rattle.cond_objects.specs.Seen.{SeenUnit}
-use Rattle.cond_objects.specs.Units.{IsUnit}
+use Rattle.cond_units.specs.Seen.{SeenUnit}
+use Rattle.cond_units.specs.Declaring.{IsUnit}
 use Rattle.cond_units.specs.Names.{storage_in}
 
 -- What is seen goes on to say what the unit is. There may be further structs; those that were there have the same numbers.

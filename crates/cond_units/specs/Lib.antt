@@ -1,3 +1,9 @@
+pub mod Seen
+pub mod Declaring
+pub mod Definitions
+pub mod Values
+pub mod Functions
+pub mod Where
 pub mod Tags
 pub mod Names
 pub mod Items

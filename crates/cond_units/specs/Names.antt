@@ -10,7 +10,7 @@ use Rattle.tree_derivations.specs.Derivations.{Derivation}
 use Rattle.declarator_lists.specs.Lists.{Declared}
 use Rattle.core_meaning.specs.UnitNames.{Storage, by_none, storage_of, declared_one, declared_from}
 use Rattle.plain_objects.specs.PlainStates.{plain_storage}
-use Rattle.cond_objects.specs.Units.{IsInitialiser, Judged}
+use Rattle.cond_units.specs.Declaring.{IsInitialiser, Judged}
 use Rattle.cond_units.specs.declared.storages.SaidStorage.{SaidStorage}
 
 -- ---- functions

@@ -5,7 +5,7 @@ use Rattle.c_tree.specs.Grammar.{file_item}
 use Rattle.tree_derivations.specs.Derivations.{Each}
 use Rattle.core_meaning.specs.Checking.{Checked}
 use Rattle.core_meaning.specs.UnitNames.{UnitState, judged_item, judged_file_items}
-use Rattle.cond_objects.specs.Seen.{SeenUnit}
+use Rattle.cond_units.specs.Seen.{SeenUnit}
 use Rattle.cond_units.specs.Items.{DeclaresItem}
 
 -- what is judged of an item, before the rest of a unit

@@ -8,7 +8,7 @@ ghost use Rattle.cond_units.specs.Tags.{items_at};
 
 use crate::completions::where_completes;
 use cond_formula::{Formula, NoMemory};
-use cond_objects::Behind;
+use crate::Behind;
 use conditional_steps::{both_of, never};
 use declarator_lists::ListEntry;
 use reduced_conditions::{both, either};

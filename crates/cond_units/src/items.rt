@@ -9,15 +9,15 @@ ghost use Rattle.c_tree.specs.Grammar.{file_item};
 ghost use Rattle.tree_derivations.specs.Derivations.{Derivation};
 ghost use Rattle.choice_trees.specs.ChoiceTrees.{plain_item, plain_choices, item_at, parts_at};
 ghost use Rattle.declarator_lists.specs.Entries.{entries_at};
-ghost use Rattle.cond_objects.specs.Seen.{seen_unit};
-ghost use Rattle.cond_functions.specs.Where.{Where};
+ghost use Rattle.cond_units.specs.Seen.{seen_unit};
+ghost use Rattle.cond_units.specs.Where.{Where};
 ghost use Rattle.cond_units.specs.Items.{DeclaresItem};
 ghost use Rattle.cond_units.specs.Units.{one_item, DeclaresItems};
 
 use crate::behind::ItemsBehind;
 use choice_trees::{Choice, Item};
 use cond_formula::{Formula, NoMemory, Oracle};
-use cond_objects::{Behind, UnitTables};
+use crate::{Behind, UnitTables};
 use conditional_steps::{both_of, never};
 use declarator_lists::{ListEntry, entries};
 use reduced_conditions::either;

@@ -11,17 +11,17 @@ ghost use Rattle.choice_trees.specs.ChoiceTrees.{plain_item, plain_choices, item
 ghost use Rattle.declarator_lists.specs.Lists.{declared, declared_in, trees_of};
 ghost use Rattle.declarator_lists.specs.Entries.{declarator_at, listed_at};
 ghost use Rattle.plain_objects.specs.PlainStates.{plain_storage};
-ghost use Rattle.cond_objects.specs.Seen.{seen_unit};
-ghost use Rattle.cond_objects.specs.Units.{Declares};
+ghost use Rattle.cond_units.specs.Seen.{seen_unit};
+ghost use Rattle.cond_units.specs.Declaring.{Declares};
 ghost use Rattle.cond_units.specs.Names as spec;
-ghost use Rattle.cond_functions.specs.Where.{Where};
+ghost use Rattle.cond_units.specs.Where.{Where};
 ghost use Rattle.cond_units.specs.Names.{IsReady, one_name, all_names};
 
 use c_tree::Kind;
 use choice_trees::{Choice, Item};
 use cond_formula::{Formula, NoMemory, Oracle};
-use cond_functions::declare_function;
-use cond_objects::{Behind, ObjectDeclaration, UnitTables, declare_object};
+use crate::declare_function;
+use crate::{Behind, ObjectDeclaration, UnitTables, declare_object};
 use conditional::Outcomes;
 use conditional_steps::{both_of, never};
 use declarator_lists::{ListedDeclarator, listed_declarators};

@@ -1,3 +1,9 @@
+pub mod Walks
+pub mod Gathering
+pub mod ApartLaws
+pub mod Noting
+pub mod Correspondence
+pub mod FaultLaws
 pub mod SeenLaws
 pub mod Loops
 pub mod Entries

@@ -13,8 +13,8 @@ use Rattle.type_tables.specs.Forms.{file_name_form}
 use Rattle.type_tables.specs.Seen.{seen_tables}
 use Rattle.type_tables.specs.declared.entries.CondName.{CondName}
 use Rattle.type_tables.specs.declared.tables.Tables.{Tables}
-use Rattle.typed_scopes.specs.Follows.{NameFollows, SortIsThere}
-use Rattle.cond_objects.specs.Seen.{PlainDefinition, definition_form, plain_definitions}
+use Rattle.type_tables.specs.Follows.{NameFollows, SortIsThere}
+use Rattle.cond_units.specs.Seen.{PlainDefinition, definition_form, plain_definitions}
 use Rattle.link_faults.specs.declared.left.LeftUnit.{LeftUnit}
 use Rattle.link_faults.specs.declared.left.CondUse.{CondUse}
 

@@ -11,7 +11,7 @@ ghost use Rattle.link_faults.specs.Measures.{whole_in, defined_in};
 use crate::left::LeftUnit;
 use crate::several::{Several, none, one, together};
 use cond_formula::{Formula, NoMemory};
-use cond_objects::Definition;
+use cond_units::Definition;
 use conditional::Guarded;
 use reduced_conditions::either;
 use std::alloc::Global;

@@ -1,6 +1,6 @@
 //! What units leave for linking.
 use cond_formula::Formula;
-use cond_objects::Definition;
+use cond_units::Definition;
 use conditional::CondList;
 use type_tables::CondName;
 

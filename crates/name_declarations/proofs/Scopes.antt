@@ -19,9 +19,9 @@ use Rattle.operand_types.specs.Laws.{KeepsApart}
 use Rattle.operand_types.proofs.Renumbered.{same_by}
 use Rattle.type_tables.specs.Tables.{Tables, Sort, object, declared_function, FileName}
 use Rattle.type_tables.specs.Steps.{with_name, where_true}
-use Rattle.typed_scopes.specs.Follows.{IsNumbered, SortFollows, NameFollows, SortIsThere, Follows, renumbered_signature}
-use Rattle.typed_scopes.specs.Numbers.{FollowsBy}
-use Rattle.typed_scopes.proofs.Names.{name_declared, name_by}
+use Rattle.type_tables.specs.Follows.{IsNumbered, SortFollows, NameFollows, SortIsThere, Follows, renumbered_signature}
+use Rattle.type_tables.specs.Numbers.{FollowsBy}
+use Rattle.type_tables.proofs.NameLaws.{name_declared, name_by}
 use Rattle.name_declarations.specs.Conflicts.{is_same_sort, is_function, keeps_linkage, returns_so, differs, is_no_such_function, conflicting}
 use Rattle.name_declarations.specs.Names.{Named}
 

@@ -3,7 +3,7 @@ use Rattle.std.specs.Prelude.{◌≡◌, ℕ, Bool, true, false}
 use Rattle.core_meaning.specs.Checking.{Checked, fine}
 use Rattle.core_meaning.specs.Entities.{Scope}
 use Rattle.type_tables.specs.Tables.{Tables}
-use Rattle.typed_scopes.specs.Numbers.{FollowsBy}
+use Rattle.type_tables.specs.Numbers.{FollowsBy}
 
 -- the tables follow what is visible behind the declaration, or it is refused
 abbrev pub Named : (ℕ → ℕ) → Checked Scope → Bool → Tables → Type 0

@@ -10,7 +10,7 @@ ghost use Rattle.operand_types.specs.OperandTypes.{renumbered};
 ghost use Rattle.plain_objects.specs.PlainStates.{plain_storage};
 ghost use Rattle.type_tables.specs.Forms.{sort_form};
 ghost use Rattle.type_tables.specs.Seen.{seen_tables};
-ghost use Rattle.typed_scopes.specs.Follows.{IsNumbered, Follows, SortFollows, SortIsThere};
+ghost use Rattle.type_tables.specs.Follows.{IsNumbered, Follows, SortFollows, SortIsThere};
 ghost use Rattle.name_declarations.specs.Conflicts.{differs, is_no_such_function, conflicting};
 ghost use Rattle.name_declarations.specs.Names.{Named};
 

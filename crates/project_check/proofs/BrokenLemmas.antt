@@ -14,11 +14,11 @@ use Rattle.project_file.specs.View.{project_view}
 use Rattle.project_program.specs.declared.programs.Stage.TheVariants.{Preprocess, Parse}
 use Rattle.project_program.specs.Programs.{AreTrees}
 use Rattle.project_program.specs.Laws.{ProgramsAreOne}
-use Rattle.link_agreements.specs.Faulty.{FailToLink}
+use Rattle.link_faults.specs.Faulty.{FailToLink}
 use Rattle.cond_types.specs.declared.typing.CondTypes.{CondTypes}
 use Rattle.cond_types.specs.Typed.{IsLinkable, IsTypedAs}
 use Rattle.cond_scopes.specs.Units.{present_trees}
-use Rattle.cond_projects.specs.Parsed.{AreReadUnits}
+use Rattle.project_check.specs.Parsed.{AreReadUnits}
 use Rattle.project_check.specs.Broken.{TellsElaborated, TellsProgram}
 
 -- ---- trees

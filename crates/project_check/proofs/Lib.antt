@@ -1,3 +1,4 @@
+pub mod UnitLemmas
 pub mod Present
 pub mod BrokenLemmas
 pub mod LeastBroken

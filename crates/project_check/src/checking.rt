@@ -23,7 +23,7 @@ use project_file::Project;
 use project_program::{ProgramError, Stage, program, programs_are_one};
 use std::alloc::{AllocError, Global};
 use text_edits::Files;
-use unit_items::UnitItems;
+use cond_types::UnitItems;
 use verdict_query::{ModelOracle, Verdict, ask, fewer_features_suffice};
 
 /// The stage that refuses a configuration without a program.

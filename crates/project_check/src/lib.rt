@@ -4,7 +4,10 @@
 
 mod broken;
 mod checking;
+mod forests;
 mod outcomes;
+mod unit_forests;
 
 pub use checking::check;
+pub use forests::{ParsedUnits, parse_units};
 pub use outcomes::CheckOutcome;

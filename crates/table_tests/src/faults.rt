@@ -1,6 +1,6 @@
 use crate::fixtures::{A, NONE, tables, where_a};
 use cond_formula::{Config, Formula, NoMemory};
-use cond_objects::Definition;
+use cond_units::Definition;
 use conditional::CondList;
 use link_faults::{CondUse, LeftUnit, where_duplicate, where_no_main, where_undefined};
 use std::alloc::Global;

@@ -5,7 +5,7 @@ use c_tree::Kind;
 use c_types::CType;
 use choice_trees::{Choice, Item};
 use cond_formula::{Config, Formula, NoMemory, PlainOracle};
-use constant_initialisers::where_first_value_refused;
+use cond_initialisers::where_first_value_refused;
 use std::alloc::Global;
 use std::test::Fail;
 

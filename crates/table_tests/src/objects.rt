@@ -6,7 +6,7 @@ use c_text::TokenKind;
 use c_tree::Kind;
 use c_types::CType;
 use cond_formula::{Config, Formula, NoMemory, PlainOracle};
-use cond_objects::{Behind, ObjectDeclaration, UnitTables, declare_object};
+use cond_units::{Behind, ObjectDeclaration, UnitTables, declare_object};
 use conditional::{CondList, Outcomes};
 use name_declarations::where_no_such_function;
 use plain_objects::Storage;

@@ -1,3 +1,10 @@
+pub mod Options
+pub mod Known
+pub mod BlockLaws
+pub mod Renumbering
+pub mod StructLaws
+pub mod NameLaws
+pub mod ScalarLaws
 pub mod Lists
 pub mod Same
 pub mod StructSteps

@@ -1,3 +1,5 @@
+pub mod Follows
+pub mod Numbers
 pub mod Tables
 pub mod Forms
 pub mod Seen

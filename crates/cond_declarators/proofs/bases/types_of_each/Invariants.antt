@@ -9,7 +9,7 @@ use Rattle.operand_types.specs.OperandTypes.{outcome_as}
 use Rattle.operand_rules.specs.PlainOperandTypes.{reason}
 use Rattle.type_tables.specs.Forms.{declared_type_form}
 use Rattle.type_tables.specs.Seen.{seen_tables}
-use Rattle.typed_scopes.specs.Follows.{Follows}
+use Rattle.type_tables.specs.Follows.{Follows}
 use Rattle.cond_declarators.specs.Types.{based_in, base_type}
 use Rattle.cond_declarators.proofs.Placing.{PlacedSoFar}
 use Rattle.cond_declarators.proofs.bases.types_of_each.Given as goal

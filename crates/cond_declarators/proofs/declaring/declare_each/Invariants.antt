@@ -6,7 +6,7 @@ use Rattle.c_tree.specs.Trees.{PlainTree}
 use Rattle.choice_expansions.specs.Expansions.{plain_expansion, expanded}
 use Rattle.core_meaning.specs.Entities.{Scope}
 use Rattle.type_tables.specs.Seen.{seen_tables}
-use Rattle.typed_scopes.specs.Follows.{Follows}
+use Rattle.type_tables.specs.Follows.{Follows}
 use Rattle.cond_declarators.proofs.StructsDeclared.{DeclaredSoFar}
 use Rattle.cond_declarators.proofs.declaring.declare_each.Given as goal
 

@@ -12,7 +12,7 @@ use Rattle.operand_types.specs.OperandTypes.{outcome_as, renumbered}
 use Rattle.operand_rules.specs.PlainOperandTypes.{reason}
 use Rattle.type_tables.specs.Forms.{declared_type_form}
 use Rattle.type_tables.specs.Seen.{seen_tables}
-use Rattle.typed_scopes.specs.Follows.{IsThere, Follows}
+use Rattle.type_tables.specs.Follows.{IsThere, Follows}
 use Rattle.cond_declarators.specs.Types.{object_type_in}
 use Rattle.cond_declarators.proofs.Placing.{PlacedSoFar}
 use Rattle.cond_declarators.proofs.objects.types_of_each.Given as goal

@@ -1,5 +1,5 @@
 use Rattle.type_tables.specs.Tables.{known_in}
-use Rattle.typed_scopes.proofs.Known.{known_followed}
+use Rattle.type_tables.proofs.Known.{known_followed}
 use Rattle.cond_initialisers.proofs.ByTypes.{refused_by_types}
 use Rattle.cond_initialisers.proofs.laws.locals_are_refused_by_types.Goals as goal
 

@@ -13,7 +13,7 @@ use Rattle.declarator_lists.specs.Lists.{declared_in, trees_of}
 use Rattle.declarator_lists.specs.Entries.{declarator_at, listed_at}
 use Rattle.declaration_readings.specs.Readings.{goes_through, next_local}
 use Rattle.type_tables.specs.Seen.{seen_tables}
-use Rattle.typed_scopes.specs.Follows.{IsThere, FollowsInBlock}
+use Rattle.type_tables.specs.Follows.{IsThere, FollowsInBlock}
 use Rattle.cond_declarators.specs.Types.{ShowsType}
 use Rattle.cond_statements.specs.Following.{OnlyLocals}
 use Rattle.cond_locals.proofs.Walking.{WalksTo}

@@ -1,7 +1,7 @@
 use Rattle.std.proofs.Common.{ap, ◌∙◌}
 use Rattle.type_tables.specs.Seen.{seen_tables}
 use Rattle.type_tables.specs.Tables.{is_small}
-use Rattle.typed_scopes.proofs.Scalars.{small_same}
+use Rattle.type_tables.proofs.ScalarLaws.{small_same}
 use Rattle.cond_parameters.proofs.declarators.where_small.Goals as goal
 
 pub returns : goal.returns

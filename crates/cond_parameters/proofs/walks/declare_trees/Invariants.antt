@@ -8,7 +8,7 @@ use Rattle.choice_expansions.proofs.StepByStep.{still}
 use Rattle.core_meaning.specs.Declarations.{with_block}
 use Rattle.core_meaning.specs.Entities.{Scope}
 use Rattle.type_tables.specs.Seen.{seen_tables}
-use Rattle.typed_scopes.specs.Numbers.{FollowsInBlockBy}
+use Rattle.type_tables.specs.Numbers.{FollowsInBlockBy}
 use Rattle.cond_statements.specs.Following.{OnlyLocals}
 use Rattle.cond_parameters.specs.Readings.{Reading, nothing_read, goes_on}
 use Rattle.cond_parameters.specs.Walks.{state_of, IsStateOf}

@@ -8,7 +8,7 @@ use Rattle.expression_types.specs.Known.{IsKnown}
 use Rattle.expression_types.specs.Reading.{read_expression}
 use Rattle.type_tables.specs.Tables.{known_in}
 use Rattle.type_tables.specs.Seen.{seen_tables}
-use Rattle.typed_scopes.proofs.Known.{known_followed}
+use Rattle.type_tables.proofs.Known.{known_followed}
 use Rattle.cond_statements.specs.Uses.{use_of}
 use Rattle.cond_statements.proofs.Judged.{expression_judged}
 use Rattle.cond_statements.proofs.expressions.where_expression_refused.Goals as goal

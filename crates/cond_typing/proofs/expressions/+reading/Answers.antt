@@ -12,7 +12,7 @@ use Rattle.choice_variants.specs.Variants.{before, part_depth, shown, AreAllLow}
 use Rattle.expression_types.specs.Reading as spec
 use Rattle.cond_nodes.specs.declared.parts.CondParts.{CondParts}
 use Rattle.cond_nodes.specs.Reads.{ShowsRead, EachRead, ShowsEach, ShowsParts}
-use Rattle.cond_parts.proofs.Pushed.{operand_pushed}
+use Rattle.cond_typing.proofs.Pushed.{operand_pushed}
 use Rattle.cond_typing.specs.declared.roles.Role.TheVariants.{Operand}
 use Rattle.cond_typing.specs.Readings.{node_of, arguments_in}
 use Rattle.cond_typing.specs.Progress.{ShowsSoFar, ArgumentSoFar}

@@ -9,7 +9,7 @@ use Rattle.c_tree.specs.declared.kinds.Kind.TheVariants as k
 use Rattle.choice_trees.specs.ChoiceTrees.{plain_choices, parts_at}
 use Rattle.choice_variants.specs.Variants.{before, shown}
 use Rattle.choice_variants.proofs.Placing.{EachPlaced, next_placed, all_placed}
-use Rattle.cond_parts.proofs.MadeOfVariants.{made_by, made, stands_made, begin_placed}
+use Rattle.cond_typing.proofs.MadeOfVariants.{made_by, made, stands_made, begin_placed}
 use Rattle.cond_typing.specs.Texts.{same_length, row_length}
 use Rattle.cond_typing.proofs.texts.choice_length.Goals as goal
 

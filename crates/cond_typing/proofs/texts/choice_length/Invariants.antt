@@ -1,7 +1,7 @@
 use Rattle.std.proofs.Common.{ℕ, Bool, drop}
 use Rattle.conditional.specs.Entries.{alternatives}
 use Rattle.choice_variants.proofs.Placing.{EachPlaced}
-use Rattle.cond_parts.proofs.MadeOfVariants.{made}
+use Rattle.cond_typing.proofs.MadeOfVariants.{made}
 use Rattle.cond_typing.specs.Texts.{same_length, row_length}
 use Rattle.cond_typing.proofs.texts.choice_length.Given as goal
 

@@ -7,7 +7,7 @@ use Rattle.c_tree.specs.declared.kinds.Kind.TheVariants as k
 use Rattle.choice_trees.specs.ChoiceTrees.{plain_item, plain_choices, item_at, parts_at}
 use Rattle.choice_expansions.specs.Expansions.{expanded}
 use Rattle.type_tables.specs.Seen.{seen_tables}
-use Rattle.cond_objects.specs.Seen.{seen_unit}
+use Rattle.cond_units.specs.Seen.{seen_unit}
 use Rattle.cond_units.specs.Names.{storage_in, said}
 use Rattle.cond_units.proofs.Declaring.{declared_here}
 use Rattle.cond_units.proofs.declarations.declare.Goals as goal

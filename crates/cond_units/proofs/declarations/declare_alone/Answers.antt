@@ -3,7 +3,7 @@ use Rattle.cond_formula.specs.Features.{has}
 use Rattle.cond_formula.specs.Conditions.{condition_of, value}
 use Rattle.choice_trees.specs.ChoiceTrees.{plain_item, item_at}
 use Rattle.type_tables.specs.Seen.{seen_tables}
-use Rattle.cond_objects.specs.Seen.{seen_unit}
+use Rattle.cond_units.specs.Seen.{seen_unit}
 use Rattle.cond_units.proofs.Declaring.{alone_here}
 use Rattle.cond_units.proofs.declarations.declare_alone.Goals as goal
 

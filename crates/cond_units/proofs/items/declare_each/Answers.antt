@@ -9,9 +9,9 @@ use Rattle.tree_derivations.specs.Derivations.{Derivation}
 use Rattle.choice_trees.specs.ChoiceTrees.{plain_item, item_at}
 use Rattle.declarator_lists.specs.Entries.{entries_at}
 use Rattle.core_meaning.specs.UnitNames.{judged_file_items}
-use Rattle.cond_objects.specs.Seen.{seen_unit}
-use Rattle.cond_functions.specs.Where.{Where}
-use Rattle.cond_functions.proofs.Staying.{staying}
+use Rattle.cond_units.specs.Seen.{seen_unit}
+use Rattle.cond_units.specs.Where.{Where}
+use Rattle.cond_units.proofs.Staying.{staying}
 use Rattle.cond_units.specs.Items.{DeclaresItem}
 use Rattle.cond_units.specs.Units.{one_item}
 use Rattle.cond_units.proofs.EachItem.{items_begin, next_item, no_item}

@@ -7,9 +7,9 @@ use Rattle.c_tree.specs.Grammar.{file_item}
 use Rattle.tree_derivations.specs.Derivations.{Each}
 use Rattle.declarator_lists.specs.Entries.{entries_at}
 use Rattle.core_meaning.specs.UnitNames.{UnitState, judged_file_items}
-use Rattle.cond_objects.specs.Seen.{seen_unit}
-use Rattle.cond_objects.specs.Units.{IsUnit}
-use Rattle.cond_functions.specs.Where.{Stays}
+use Rattle.cond_units.specs.Seen.{seen_unit}
+use Rattle.cond_units.specs.Declaring.{IsUnit}
+use Rattle.cond_units.specs.Where.{Stays}
 use Rattle.cond_units.proofs.EachItem.{SoFar}
 use Rattle.cond_units.proofs.items.declare_each.Given as goal
 

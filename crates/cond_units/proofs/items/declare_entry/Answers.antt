@@ -7,8 +7,8 @@ use Rattle.c_tree.specs.Grammar.{file_item}
 use Rattle.tree_derivations.specs.Derivations.{Derivation}
 use Rattle.choice_trees.specs.ChoiceTrees.{plain_item, item_at}
 use Rattle.declarator_lists.specs.Entries.{entries_at}
-use Rattle.cond_objects.specs.Seen.{seen_unit}
-use Rattle.cond_functions.specs.Where.{Where}
+use Rattle.cond_units.specs.Seen.{seen_unit}
+use Rattle.cond_units.specs.Where.{Where}
 use Rattle.cond_units.specs.Items.{DeclaresItem}
 use Rattle.cond_units.specs.Units.{one_item}
 use Rattle.cond_units.proofs.items.declare_entry.Goals as goal

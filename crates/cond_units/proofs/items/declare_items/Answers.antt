@@ -6,8 +6,8 @@ use Rattle.c_tree.specs.declared.kinds.Kind.TheVariants as k
 use Rattle.c_tree.specs.Trees.{PlainTrees, trees}
 use Rattle.choice_trees.specs.ChoiceTrees.{plain_choices, parts_at}
 use Rattle.declarator_lists.specs.Entries.{entries_at}
-use Rattle.cond_objects.specs.Seen.{seen_unit}
-use Rattle.cond_functions.specs.Where.{Where}
+use Rattle.cond_units.specs.Seen.{seen_unit}
+use Rattle.cond_units.specs.Where.{Where}
 use Rattle.cond_units.specs.Units.{DeclaresItems}
 use Rattle.cond_units.proofs.EachItem.{trees_again}
 use Rattle.cond_units.proofs.items.declare_items.Goals as goal

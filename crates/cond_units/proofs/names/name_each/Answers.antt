@@ -10,10 +10,10 @@ use Rattle.declaration_readings.proofs.Judged.{names_read}
 use Rattle.plain_objects.specs.PlainStates.{plain_storage}
 use Rattle.conditional_steps.proofs.Alternatives.{nothing_done}
 use Rattle.conditional_steps.proofs.FirstAlternative.{next_seen, none_seen}
-use Rattle.cond_objects.specs.Seen.{seen_unit}
-use Rattle.cond_objects.specs.Units.{Declares}
-use Rattle.cond_functions.specs.Where.{Where}
-use Rattle.cond_functions.proofs.Staying.{staying}
+use Rattle.cond_units.specs.Seen.{seen_unit}
+use Rattle.cond_units.specs.Declaring.{Declares}
+use Rattle.cond_units.specs.Where.{Where}
+use Rattle.cond_units.proofs.Staying.{staying}
 use Rattle.cond_units.specs.Names.{IsReady, one_name}
 use Rattle.cond_units.proofs.Walking.{WalksTo, AreReady, are_ready, walk_begins, walk_goes_on, walk_ends}
 use Rattle.cond_units.proofs.names.name_each.Goals as goal

@@ -13,11 +13,11 @@ use Rattle.declarator_lists.specs.Lists.{declared_in, trees_of}
 use Rattle.declarator_lists.specs.Entries.{declarator_at, listed_at}
 use Rattle.declaration_readings.specs.Readings.{goes_through, next_name}
 use Rattle.plain_objects.specs.PlainStates.{plain_storage}
-use Rattle.typed_scopes.specs.Follows.{IsThere}
+use Rattle.type_tables.specs.Follows.{IsThere}
 use Rattle.cond_declarators.specs.Types.{ShowsType}
-use Rattle.cond_objects.specs.Seen.{seen_unit}
-use Rattle.cond_objects.specs.Units.{IsUnit}
-use Rattle.cond_functions.specs.Where.{Stays}
+use Rattle.cond_units.specs.Seen.{seen_unit}
+use Rattle.cond_units.specs.Declaring.{IsUnit}
+use Rattle.cond_units.specs.Where.{Stays}
 use Rattle.cond_units.proofs.Walking.{WalksTo}
 use Rattle.cond_units.proofs.names.name_each.Given as goal
 

@@ -4,8 +4,8 @@ use Rattle.cond_formula.specs.Features.{has}
 use Rattle.cond_formula.specs.Conditions.{condition_of, value}
 use Rattle.choice_trees.specs.ChoiceTrees.{plain_item, item_at}
 use Rattle.plain_objects.specs.PlainStates.{plain_storage}
-use Rattle.cond_objects.specs.Seen.{seen_unit}
-use Rattle.cond_objects.proofs.Given.{still_given}
+use Rattle.cond_units.specs.Seen.{seen_unit}
+use Rattle.cond_units.proofs.Given.{still_given}
 use Rattle.cond_units.proofs.Declarators.{function_named}
 use Rattle.cond_units.proofs.names.name_function.Goals as goal
 

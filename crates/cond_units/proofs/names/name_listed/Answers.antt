@@ -3,9 +3,9 @@ use Rattle.cond_formula.specs.Features.{has}
 use Rattle.cond_formula.specs.Conditions.{condition_of, value}
 use Rattle.declarator_lists.specs.Entries.{declarator_at}
 use Rattle.plain_objects.specs.PlainStates.{plain_storage}
-use Rattle.cond_objects.specs.Seen.{seen_unit}
-use Rattle.cond_objects.specs.Units.{Declares}
-use Rattle.cond_functions.specs.Where.{Where}
+use Rattle.cond_units.specs.Seen.{seen_unit}
+use Rattle.cond_units.specs.Declaring.{Declares}
+use Rattle.cond_units.specs.Where.{Where}
 use Rattle.cond_units.specs.Names.{IsReady, one_name}
 use Rattle.cond_units.proofs.names.name_listed.Goals as goal
 

@@ -3,7 +3,7 @@ use Rattle.cond_formula.specs.Features.{has}
 use Rattle.cond_formula.specs.Conditions.{condition_of, value}
 use Rattle.choice_trees.specs.ChoiceTrees.{plain_item, item_at}
 use Rattle.plain_objects.specs.PlainStates.{plain_storage}
-use Rattle.cond_objects.specs.Seen.{seen_unit}
+use Rattle.cond_units.specs.Seen.{seen_unit}
 use Rattle.cond_units.proofs.Declarators.{object_named}
 use Rattle.cond_units.proofs.names.name_object.Goals as goal
 

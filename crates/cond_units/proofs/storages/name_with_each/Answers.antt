@@ -8,10 +8,10 @@ use Rattle.tree_derivations.specs.Derivations.{Declared}
 use Rattle.plain_objects.specs.PlainStates.{plain_storage}
 use Rattle.conditional_steps.proofs.Alternatives.{Alternates, alternates_begin, alternates_next, alternates_end}
 use Rattle.conditional_steps.proofs.FirstAlternative.{next_seen, none_seen}
-use Rattle.cond_objects.specs.Seen.{seen_unit}
-use Rattle.cond_objects.specs.Units.{Declares}
-use Rattle.cond_functions.specs.Where.{Stays}
-use Rattle.cond_functions.proofs.Staying.{staying, declares_stable}
+use Rattle.cond_units.specs.Seen.{seen_unit}
+use Rattle.cond_units.specs.Declaring.{Declares}
+use Rattle.cond_units.specs.Where.{Stays}
+use Rattle.cond_units.proofs.Staying.{staying, declares_stable}
 use Rattle.cond_units.specs.Names.{all_names, said_at, said}
 use Rattle.cond_units.proofs.storages.name_with_each.Goals as goal
 

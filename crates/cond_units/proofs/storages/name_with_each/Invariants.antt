@@ -8,9 +8,9 @@ use Rattle.choice_trees.specs.ChoiceTrees.{plain_choices, parts_at}
 use Rattle.conditional_steps.proofs.Alternatives.{Alternates}
 use Rattle.tree_derivations.specs.Derivations.{Declared}
 use Rattle.core_meaning.specs.UnitNames as meaning
-use Rattle.cond_objects.specs.Seen.{seen_unit}
-use Rattle.cond_objects.specs.Units.{Declares}
-use Rattle.cond_functions.specs.Where.{Stays}
+use Rattle.cond_units.specs.Seen.{seen_unit}
+use Rattle.cond_units.specs.Declaring.{Declares}
+use Rattle.cond_units.specs.Where.{Stays}
 use Rattle.cond_units.specs.Names.{all_names, said_at, said}
 use Rattle.cond_units.proofs.storages.name_with_each.Given as goal
 

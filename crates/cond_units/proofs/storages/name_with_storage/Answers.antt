@@ -5,9 +5,9 @@ use Rattle.c_tree.specs.declared.kinds.Kind.TheVariants as k
 use Rattle.choice_trees.specs.ChoiceTrees.{plain_choices, parts_at}
 use Rattle.tree_derivations.specs.Derivations.{Declared}
 use Rattle.plain_objects.specs.PlainStates.{plain_storage}
-use Rattle.cond_objects.specs.Seen.{seen_unit}
-use Rattle.cond_objects.specs.Units.{Declares}
-use Rattle.cond_functions.specs.Where.{Where}
+use Rattle.cond_units.specs.Seen.{seen_unit}
+use Rattle.cond_units.specs.Declaring.{Declares}
+use Rattle.cond_units.specs.Where.{Where}
 use Rattle.cond_units.specs.Names.{all_names}
 use Rattle.cond_units.proofs.storages.name_with_storage.Goals as goal
 

@@ -1,4 +1,0 @@
-pub mod Staying
-pub mod OneFunction
-pub mod OneDeclarator
-pub mod ParameterLists

@@ -1,4 +1,0 @@
-pub mod Seen
-pub mod Units
-pub mod Definitions
-pub mod Values

@@ -1,4 +1,0 @@
-pub mod FoundWords
-pub mod Constants
-pub mod Pushed
-pub mod MadeOfVariants

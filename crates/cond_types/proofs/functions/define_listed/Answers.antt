@@ -1,0 +1,13 @@
+use Rattle.std.proofs.Common.{◌≡◌, [], ◌∷◌, sym, ap, ◌∙◌, subst}
+use Rattle.cond_formula.specs.Features.{has}
+use Rattle.cond_formula.specs.Conditions.{value}
+use Rattle.conditional.specs.Entries.{seen}
+use Rattle.c_tree.specs.declared.kinds.Kind.TheVariants as k
+use Rattle.choice_trees.specs.ChoiceTrees.{plain_choices, parts_at}
+use Rattle.choice_variants.specs.Variants.{shown}
+use Rattle.cond_types.proofs.functions.define_listed.Goals as goal
+
+pub returns-clause-declares : goal.returns-clause-declares
+returns-clause-declares g c = λ n admitted.
+    c.in_ok-refused.ensures.declares n (parts_at (has n) k.Declarators 0 (plain_choices c.args.list.now)) (ap (value (has n)) c.in_ok-all.ensures.kept ∙ admitted)
+    (subst (λ list. seen (has n) (shown (has n) list) ≡ parts_at (has n) k.Declarators 0 (plain_choices c.args.list.now) ∷ []) (sym c.deref.ensures.value) (c.in_ok-all.ensures.alone n admitted))

@@ -1,5 +1,0 @@
-mod Inside
-mod Leaving
-mod OneBlock
-mod OneHead
-mod OneDefinition

@@ -1,5 +1,0 @@
-use Rattle.link_agreements.proofs.Correspondence.{undeclared_agree}
-use Rattle.link_agreements.proofs.laws.undeclared_names_agree.Goals as goal
-
-pub returns : goal.returns
-returns c = λ linked name h k. undeclared_agree linked name h k

@@ -1,7 +1,0 @@
-use Rattle.std.proofs.Common.{◌∙◌, sym}
-use Rattle.std.specs.Str.{bytes_eq}
-use Rattle.link_agreements.proofs.Walks.{any_map}
-use Rattle.link_agreements.proofs.names.Names.contains.Goals as goal
-
-pub returns : goal.returns
-returns c = rw (← c.self.view_is) (c.contains.ensures ∙ sym (any_map (bytes_eq c.args.name.now) (λ v. v.items) c.self.inside.names.keys))

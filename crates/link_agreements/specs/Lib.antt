@@ -1,4 +1,0 @@
-pub mod Apart
-pub mod Faulty
-pub mod Gathered
-pub mod Mentioned

@@ -1,5 +1,0 @@
-mod Places
-mod Staying
-mod Shapes
-mod Structs
-mod OneItem

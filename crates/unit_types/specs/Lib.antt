@@ -1,4 +1,0 @@
-pub mod Sizes
-pub mod Leaving
-pub mod Steps
-pub mod Units
