@@ -6,8 +6,7 @@ ghost use Rattle.c_tree.specs.Trees.{plain_tree, plain_trees, written, all_writt
 
 use crate::kinds::Kind;
 use c_text::Token;
-use cond_formula::NoMemory;
-use std::alloc::Global;
+use std::alloc::{AllocError, Global};
 
 /// The tree of a unit, or a part of one: a token, or a node with its parts in the order of the text.
 #[derive(Drop)]
@@ -20,7 +19,7 @@ impl Tree {
     /// The same tree once more, with the same origins.
     #[cycle(copy)]
     #[tactic(auto, using(crate::specs::TreeLaws::tree_kinds))]
-    pub fn try_clone(&self, alloc: Global) -> Result<Tree, NoMemory>
+    pub fn try_clone(&self, alloc: Global) -> Result<Tree, AllocError>
         ensures { IfOk result (λ t. plain_tree t ≡ plain_tree self.now) }
     {
         match self {
@@ -31,7 +30,7 @@ impl Tree {
 
     #[cycle(spell)]
     #[tactic(auto, using(crate::specs::TreeLaws::tree_kinds))]
-    fn spell_onto(&self, alloc: Global, tokens: &mut Vec<Token>) -> Result<(), NoMemory>
+    fn spell_onto(&self, alloc: Global, tokens: &mut Vec<Token>) -> Result<(), AllocError>
         ensures { OnOk result (Adds (written (plain_tree self.now)) (map plain_token tokens.old.items) (map plain_token tokens.new.items)) }
     {
         match self {
@@ -45,7 +44,7 @@ impl Tree {
 }
 
 #[cycle(copy)]
-fn copied(parts: &[Tree], alloc: Global) -> Result<Vec<Tree>, NoMemory>
+fn copied(parts: &[Tree], alloc: Global) -> Result<Vec<Tree>, AllocError>
     ensures { IfOk result (λ copies. map plain_tree copies.items ≡ map plain_tree parts.now) }
 {
     let mut copies = Vec::with_capacity(alloc, parts.len())?;
@@ -56,7 +55,7 @@ fn copied(parts: &[Tree], alloc: Global) -> Result<Vec<Tree>, NoMemory>
 }
 
 #[cycle(spell)]
-fn spell_all_onto(parts: &[Tree], alloc: Global, tokens: &mut Vec<Token>) -> Result<(), NoMemory>
+fn spell_all_onto(parts: &[Tree], alloc: Global, tokens: &mut Vec<Token>) -> Result<(), AllocError>
     ensures { OnOk result (Adds (all_written (plain_trees parts.now)) (map plain_token tokens.old.items) (map plain_token tokens.new.items)) }
 {
     for part in parts {
@@ -66,7 +65,7 @@ fn spell_all_onto(parts: &[Tree], alloc: Global, tokens: &mut Vec<Token>) -> Res
 }
 
 /// The tokens of a tree in the order of the text.
-pub fn spell(alloc: Global, t: &Tree) -> Result<Vec<Token>, NoMemory>
+pub fn spell(alloc: Global, t: &Tree) -> Result<Vec<Token>, AllocError>
     ensures { IfOk result (λ tokens. map plain_token tokens.items ≡ spelled (plain_tree t.now)) }
 {
     let mut tokens = Vec::new(alloc);

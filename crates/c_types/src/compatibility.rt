@@ -7,8 +7,7 @@ ghost use Rattle.c_types.specs.Pairs.{Closure};
 
 use crate::pairs::{Pair, agree, pair_agrees};
 use crate::types::{CType, Tag, TagTable};
-use cond_formula::NoMemory;
-use std::alloc::Global;
+use std::alloc::{AllocError, Global};
 
 /// Whether a type of one unit and a type of another are compatible, each with its table of structs. Structs are compared by
 /// tag and members; behind pointers those whose comparison is under way are taken as compatible. A number that names no
@@ -19,7 +18,7 @@ pub fn compatible(
     b: &CType,
     ta: &TagTable,
     tb: &TagTable,
-) -> Result<bool, NoMemory>
+) -> Result<bool, AllocError>
     ensures { IfOk result (λ holds.
         IsTrue holds ↔ Compatible (plain_tags ta.now) (plain_tags tb.now) (plain_type a.now) (plain_type b.now)) }
 {
@@ -31,7 +30,7 @@ pub fn compatible(
 }
 
 /// Whether the structs of the pairs agree, and those of the pairs that they need in turn.
-fn found_agree(first: &[Tag], second: &[Tag], mut found: Vec<Pair>) -> Result<bool, NoMemory>
+fn found_agree(first: &[Tag], second: &[Tag], mut found: Vec<Pair>) -> Result<bool, AllocError>
     ensures { IfOk result (λ holds.
         IsTrue holds ↔ Closure (map plain_tag first.now) (map plain_tag second.now) found.items) }
 {

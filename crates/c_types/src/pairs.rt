@@ -8,7 +8,7 @@ ghost use Rattle.c_types.specs.Pairs as spec;
 
 use crate::integers::{is_signed, width};
 use crate::types::{CType, Member, Tag};
-use cond_formula::NoMemory;
+use std::alloc::AllocError;
 
 /// A struct of each of two tables, by their numbers.
 #[derive(Clone, Copy, Debug, PartialEq)]
@@ -137,7 +137,7 @@ fn needed_by_struct(number: u32, b: &CType) -> Needs
     }
 }
 
-fn add(pair: Pair, found: &mut Vec<Pair>) -> Result<(), NoMemory>
+fn add(pair: Pair, found: &mut Vec<Pair>) -> Result<(), AllocError>
     ensures { OnOk result (spec.Adds pair found.old.items found.new.items) }
 {
     if !found.contains(&pair) {
@@ -147,7 +147,7 @@ fn add(pair: Pair, found: &mut Vec<Pair>) -> Result<(), NoMemory>
 }
 
 /// Whether two types agree once the pair of structs that they need is noted.
-pub fn agree(a: &CType, b: &CType, found: &mut Vec<Pair>) -> Result<bool, NoMemory>
+pub fn agree(a: &CType, b: &CType, found: &mut Vec<Pair>) -> Result<bool, AllocError>
     ensures { IfOk result (λ agrees.
         spec.Notes (λ pairs. Agree pairs (plain_type a.now) (plain_type b.now)) found.old.items found.new.items agrees) }
 {
@@ -161,7 +161,7 @@ pub fn agree(a: &CType, b: &CType, found: &mut Vec<Pair>) -> Result<bool, NoMemo
     }
 }
 
-fn member_agrees(a: &Member, b: &Member, found: &mut Vec<Pair>) -> Result<bool, NoMemory>
+fn member_agrees(a: &Member, b: &Member, found: &mut Vec<Pair>) -> Result<bool, AllocError>
     ensures { IfOk result (λ agrees.
         spec.Notes (λ pairs. MemberAgrees pairs (plain_member a.now) (plain_member b.now)) found.old.items found.new.items agrees) }
 {
@@ -171,7 +171,7 @@ fn member_agrees(a: &Member, b: &Member, found: &mut Vec<Pair>) -> Result<bool, 
     Ok(agree(&a.ty, &b.ty, found)?)
 }
 
-fn members_agree(a: &[Member], b: &[Member], found: &mut Vec<Pair>) -> Result<bool, NoMemory>
+fn members_agree(a: &[Member], b: &[Member], found: &mut Vec<Pair>) -> Result<bool, AllocError>
     ensures { IfOk result (λ agrees.
         spec.Notes (λ pairs. AllZip (MemberAgrees pairs) (map plain_member a.now) (map plain_member b.now))
         found.old.items found.new.items agrees) }
@@ -187,7 +187,7 @@ fn members_agree(a: &[Member], b: &[Member], found: &mut Vec<Pair>) -> Result<bo
     Ok(true)
 }
 
-fn tag_agrees(a: &Tag, b: &Tag, found: &mut Vec<Pair>) -> Result<bool, NoMemory>
+fn tag_agrees(a: &Tag, b: &Tag, found: &mut Vec<Pair>) -> Result<bool, AllocError>
     ensures { IfOk result (λ agrees.
         spec.Notes (λ pairs. TagAgrees pairs (plain_tag a.now) (plain_tag b.now)) found.old.items found.new.items agrees) }
 {
@@ -213,7 +213,7 @@ fn numbered_agrees(
     number: u32,
     second: &[Tag],
     found: &mut Vec<Pair>,
-) -> Result<bool, NoMemory>
+) -> Result<bool, AllocError>
     ensures { IfOk result (λ agrees.
         spec.Notes (λ pairs. FoundAgree pairs (Some (plain_tag a.now)) (slice_get (map plain_tag second.now) number))
         found.old.items found.new.items agrees) }
@@ -230,7 +230,7 @@ pub fn pair_agrees(
     first: &[Tag],
     second: &[Tag],
     found: &mut Vec<Pair>,
-) -> Result<bool, NoMemory>
+) -> Result<bool, AllocError>
     ensures { IfOk result (λ agrees.
         spec.Notes (λ pairs. PairAgrees (map plain_tag first.now) (map plain_tag second.now) pairs pair)
         found.old.items found.new.items agrees) }

@@ -5,8 +5,7 @@ ghost use Rattle.c_types.specs.Tags.{plain_tag, plain_tags, NamesBelow};
 ghost use Rattle.c_types.specs.Printed as spec;
 
 use crate::types::{CType, Tag, TagTable};
-use cond_formula::NoMemory;
-use std::alloc::Global;
+use std::alloc::{AllocError, Global};
 
 /// A declaration of the name, as `int *k` (6.7), without what would follow it: the base, a blank, the stars and the name. An
 /// empty name leaves the type alone, as types are put in order by it.
@@ -15,7 +14,7 @@ pub fn print_type(
     t: &CType,
     tags: &TagTable,
     name: &[u8],
-) -> Result<Vec<u8>, NoMemory>
+) -> Result<Vec<u8>, AllocError>
     requires numbered { NamesBelow (vec_len tags.now.tags) (plain_type t.now) }
     requires no_array { spec.HasNoArray (plain_type t.now) }
     ensures { IfOk result (λ text. text.items ≡ spec.printed (plain_tags tags.now) (plain_type t.now) name.now) }
@@ -47,7 +46,7 @@ fn behind_pointers<'a>(t: &'a CType) -> &'a CType
 }
 
 #[tactic(auto, using(crate::proofs::TypeSteps::type_steps))]
-fn write_stars(t: &CType, text: &mut Vec<u8>) -> Result<(), NoMemory>
+fn write_stars(t: &CType, text: &mut Vec<u8>) -> Result<(), AllocError>
     ensures { OnOk result (text.new.items ≡ text.old.items ++ spec.stars (plain_type t.now)) }
 {
     match t {
@@ -111,7 +110,7 @@ fn tag_name<'a>(t: &CType, tags: &'a [Tag]) -> &'a [u8]
     }
 }
 
-fn write_base(t: &CType, tags: &[Tag], text: &mut Vec<u8>) -> Result<(), NoMemory>
+fn write_base(t: &CType, tags: &[Tag], text: &mut Vec<u8>) -> Result<(), AllocError>
     requires { NamesBelow (length tags.now) (plain_type t.now) }
     ensures { OnOk result (text.new.items ≡ text.old.items ++ spec.base (map plain_tag tags.now) (plain_type t.now)) }
 {

@@ -12,9 +12,9 @@ use Rattle.command_promises.specs.Commands.{IsFit, IsDecidedCommand}
 use Rattle.command_promises.proofs.Leading.{one_saying}
 use Rattle.command_promises.proofs.Fitting.{tells_fits}
 use Rattle.command_projects.specs.Faults.{bad_project}
-use Rattle.command_projects.proofs.Decided.{ProjectLaws, project_decided, project_says}
+use Rattle.command_projects.proofs.Decided.{ProjectLaws, one_project, project_decided, project_says}
 use Rattle.command_projects.proofs.Least.{one_set}
-use Rattle.command_admit.specs.Admit.{Asks, admits, admits_nothing, OfProject, admit}
+use Rattle.command_admit.specs.Admit.{admits, admits_nothing, OfProject, admit}
 
 -- conditions of one value have one least model
 one_least : (features : ℕ) (x y : Condition) (a b : List Bool) → ((on : ℕ → Bool) → value on x ≡ value on y) → IsLeastModel features x a → IsLeastModel features y b → has a ≡ has b
@@ -36,9 +36,6 @@ agree a b alike files c d (inl h) (inr k) = absurd (never_both a.model b.model (
 agree a b alike files c d (inr h) (inl k) = absurd (never_both b.model a.model (length b.features) k.0 (λ on. sym (alike.model on)) k.1 h.0)
 agree a b alike files c d (inr h) (inr k) = h.1 ∙ sym k.1
 
-one_query : (further : List (List ℕ)) (m n : List ℕ) → Asks further m → Asks further n → m ≡ n
-one_query further m n a b = let e : m ∷ [] ≡ n ∷ [] = sym a.words_are ∙ b.words_are in cc
-
 admits_fits : (names : List (List ℕ)) → IsFit admit (admits names)
 admits_fits names = tells_fits admit 0 (admits names).report (0, omega arith, refl) (inl (omega arith))
 
@@ -56,7 +53,7 @@ project_fits project files what (inr h) = subst (IsFit admit) (sym (one_saying w
 
 pub decided : ProjectLaws → IsDecidedCommand admit
 decided laws = record {
-  one_query = one_query;
+  one_query = one_project;
   one_deed = λ name. project_decided laws name OfProject agree;
   fits = λ name. project_says (IsFit admit) fault_fits name OfProject project_fits;
 }

@@ -6,13 +6,8 @@ use Rattle.project_file.specs.Projects.{PlainProject, names_on}
 use Rattle.command_promises.specs.Courses.{Saying, says, Course}
 use Rattle.command_promises.specs.Sayings.{line, tells}
 use Rattle.command_promises.specs.Commands.{Command}
-use Rattle.command_projects.specs.Names.{is_project_name, listed}
+use Rattle.command_projects.specs.Names.{AsksProject, listed}
 use Rattle.command_projects.specs.Projects.{WithProject}
-
--- the further words, `PROJECT`, ask for this project
-pub record Asks (further : List (List ℕ)) (project : List ℕ) : Type 0 where
-  pub words_are : further ≡ project ∷ []
-  pub good : is_project_name project ≡ true
 
 abbrev pub admits : List (List ℕ) → Saying
 admits names = tells 0 (line (codes "admits " ++ listed names))
@@ -32,4 +27,4 @@ abbrev pub Does : List ℕ → Course
 Does name = WithProject name OfProject
 
 abbrev pub admit : Command
-admit = record { word = codes "admit"; Query = List ℕ; Asks = Asks; Does = Does; statuses = 0 ∷ 5 ∷ []; writes = false }
+admit = record { word = codes "admit"; Query = List ℕ; Asks = AsksProject; Does = Does; statuses = 0 ∷ 5 ∷ []; writes = false }

@@ -13,8 +13,7 @@ ghost use Rattle.command_promises.specs.Sayings.{saying, SaysOrEnds, CameTo};
 ghost use Rattle.command_promises.specs.Commands.{CourseFor};
 ghost use Rattle.command_admit.specs.Admit as spec;
 
-use crate::words::asked_project;
-use command_projects::{listed, names_on, without_project};
+use command_projects::{asked_project, listed, names_on, without_project};
 use command_promises::{Said, Stop, usage};
 use cond_formula::{Config, Formula};
 use project_store::{Project, Store, read_project};

@@ -5,7 +5,6 @@ ghost use Rattle.command_promises.specs.Commands.{IsDecidedCommand};
 ghost use Rattle.command_admit.specs.Admit as spec;
 
 mod least;
-mod words;
 
 pub use least::admit;
 use project_file::{first_fault_is_one, projects_are_alike, projects_have_no_fault};

@@ -22,7 +22,7 @@ has_front : (p : List Bool) (b : Bool) (i : ℕ) → i < length p → has (p ++ 
 unfolding has
 has_front p b i h = ap (λ v. nat_lt i 128 && v) (front p b i h)
 
-has_end : (p : List Bool) (b : Bool) → length p < 128 → has (p ++ b ∷ []) (length p) ≡ b
+pub has_end : (p : List Bool) (b : Bool) → length p < 128 → has (p ++ b ∷ []) (length p) ≡ b
 unfolding has
 has_end p b h = ap (λ t. t && get_or (p ++ b ∷ []) (length p) false) (lt-ltb (length p) 128 h) ∙ at_end p b
 
@@ -30,18 +30,30 @@ and-false : (a : Bool) → (a && false) ≡ false
 and-false true = refl
 and-false false = refl
 
-has_past : (p : List Bool) (i : ℕ) → length p ≤ i → has p i ≡ false
+pub has_past : (p : List Bool) (i : ℕ) → length p ≤ i → has p i ≡ false
 unfolding has
 has_past p i h = ap (λ v. nat_lt i 128 && v) (get_or_past p i false h) ∙ and-false (nat_lt i 128)
 
-one_longer : (p : List Bool) (b : Bool) → length (p ++ b ∷ []) ≡ length p + 1
+pub one_longer : (p : List Bool) (b : Bool) → length (p ++ b ∷ []) ≡ length p + 1
 one_longer p b = length-append p (b ∷ [])
 
-module _ (n : ℕ) (few : n ≤ 128) (model : Condition) (below : VarsBelow n model) where
-  -- the set has the features as they were chosen
-  abbrev Follows : List Bool → (ℕ → Bool) → Type 0
-  Follows p on = (i : ℕ) → i < length p → has p i ≡ on i
+-- the set has the features as they were chosen
+abbrev pub Follows : List Bool → (ℕ → Bool) → Type 0
+Follows p on = (i : ℕ) → i < length p → has p i ≡ on i
 
+pub follows_more : (p : List Bool) (b : Bool) (on : ℕ → Bool) → length p < 128 → Follows p on → on (length p) ≡ b → Follows (p ++ b ∷ []) on
+follows_more p b on h f e i inside =
+    elim (cases_lt i (length p)) [
+      | inl small ↦ has_front p b i small ∙ f i small
+      | inr last ↦
+          let same : i ≡ length p = omega (arith, inside, last, one_longer p b) in
+          subst (λ k. has (p ++ b ∷ []) k ≡ on k) (sym same) (has_end p b h ∙ sym e)
+    ]
+
+pub shorter : (p : List Bool) (b : Bool) (on : ℕ → Bool) → Follows (p ++ b ∷ []) on → Follows p on
+shorter p b on f i inside = sym (has_front p b i inside) ∙ f i (omega (arith, inside, one_longer p b))
+
+module _ (n : ℕ) (few : n ≤ 128) (model : Condition) (below : VarsBelow n model) where
   record HasLeast (p : List Bool) : Type 0 where
     config : List Bool
     sized : length config ≡ n
@@ -51,18 +63,6 @@ module _ (n : ℕ) (few : n ≤ 128) (model : Condition) (below : VarsBelow n mo
 
   abbrev HasNone : List Bool → Type 0
   HasNone p = (on : ℕ → Bool) → Follows p on → value on model ≡ false
-
-  follows_more : (p : List Bool) (b : Bool) (on : ℕ → Bool) → length p < 128 → Follows p on → on (length p) ≡ b → Follows (p ++ b ∷ []) on
-  follows_more p b on h f e i inside =
-      elim (cases_lt i (length p)) [
-        | inl small ↦ has_front p b i small ∙ f i small
-        | inr last ↦
-            let same : i ≡ length p = omega (arith, inside, last, one_longer p b) in
-            subst (λ k. has (p ++ b ∷ []) k ≡ on k) (sym same) (has_end p b h ∙ sym e)
-      ]
-
-  shorter : (p : List Bool) (b : Bool) (on : ℕ → Bool) → Follows (p ++ b ∷ []) on → Follows p on
-  shorter p b on f i inside = sym (has_front p b i inside) ∙ f i (omega (arith, inside, one_longer p b))
 
   false_true : (b : Bool) → b ≡ false → IsTrue b → ⊥
   false_true true e t = let no : ◌≡◌ {A = Bool} true false = e in cc

@@ -1,5 +1,5 @@
 pub mod Courses
-mod Least
+pub mod Least
 mod Admit
 mod Tokens
 mod Quick

@@ -8,6 +8,7 @@ use Rattle.project_file.specs.Laws.{Alike, AreAlike, ProjectsHaveNoFault, FirstF
 use Rattle.project_store.specs.Reads.{names_of}
 use Rattle.command_promises.specs.Courses.{Saying, Deed, reads, says, Course, Agree, IsDecided}
 use Rattle.command_promises.specs.Sayings.{usage}
+use Rattle.command_projects.specs.Names.{AsksProject}
 use Rattle.command_projects.specs.Faults.{bad_project}
 use Rattle.command_projects.specs.Projects.{WithProject, WithFit, WithFiles, Unless}
 
@@ -19,6 +20,24 @@ pub record ProjectLaws : Type 0 where
 
 pub laws_of : ProjectsHaveNoFault → FirstFaultIsOne → ProjectsAreAlike → ProjectLaws
 laws_of no_fault one_fault alike = record { no_fault = no_fault; one_fault = one_fault; alike = alike }
+
+-- words ask for one project at most
+pub one_project : (further : List (List ℕ)) (m n : List ℕ) → AsksProject further m → AsksProject further n → m ≡ n
+one_project further m n a b = let e : m ∷ [] ≡ n ∷ [] = sym a.words_are ∙ b.words_are in cc
+
+pub alike_back : (a b : PlainProject) → Alike a b → Alike b a
+alike_back a b like = record {
+  name = sym like.name;
+  features = sym like.features;
+  headers = sym like.headers;
+  model = λ on. sym (like.model on);
+  units = back a.units b.units like.units;
+} where
+  back : (us vs : List PlainUnit) → AreAlike us vs → AreAlike vs us
+  back [] [] h = h
+  back [] (v ∷ vs) h = absurd h
+  back (u ∷ us) [] h = absurd h
+  back (u ∷ us) (v ∷ vs) h = (sym h.0, λ on. sym (h.1 on), back us vs h.2)
 
 file_names_alike : (us vs : List PlainUnit) → AreAlike us vs → map (λ (u : PlainUnit). u.file) us ≡ map (λ (u : PlainUnit). u.file) vs
 file_names_alike [] [] a = refl

@@ -6,8 +6,10 @@ mod faults;
 mod names;
 mod naming;
 mod products;
+mod words;
 
 pub use faults::without_project;
 pub use names::{are_lawful, has_repetition, is_project_name, names_in};
 pub use naming::{listed, names_on};
 pub use products::{are_features, configuration};
+pub use words::asked_project;

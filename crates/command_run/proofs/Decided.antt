@@ -11,6 +11,7 @@ use Rattle.project_store.specs.Reads.{names_of}
 use Rattle.project_program.specs.declared.programs.Stage.{Stage}
 use Rattle.project_program.specs.Programs.{IsProgram, IsRefusedAt}
 use Rattle.project_program.specs.Laws.{ProgramsAreOne}
+use Rattle.project_program.proofs.AlikeProjects.{program_alike, refused_alike}
 use Rattle.command_promises.specs.Courses.{Saying, Deed, says, Course, Agree, IsDecided}
 use Rattle.command_promises.specs.Sayings.{tells, usage}
 use Rattle.command_promises.specs.Commands.{IsFit, IsDecidedCommand}
@@ -22,7 +23,6 @@ use Rattle.command_projects.specs.Projects.{WithFiles}
 use Rattle.command_projects.proofs.Decided.{ProjectLaws, names_alike, project_decided, fits_agree, files_agree, unless_agree, project_says, fit_says, files_say, unless_says}
 use Rattle.command_run.specs.Words.{RunQuery}
 use Rattle.command_run.specs.Run.{HasFeatures, not_accepted, answers, input_names, input_of, OfProduct, OfConfiguration, OfInputs, OfFiles, OfProject, run}
-use Rattle.command_run.proofs.Programs.{program_alike, refused_alike}
 use Rattle.command_run.proofs.RunWords.{one_run}
 
 module _ (laws : ProgramsAreOne) where

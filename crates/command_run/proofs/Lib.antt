@@ -1,4 +1,3 @@
-pub mod Programs
 pub mod RunWords
 pub mod Refusals
 pub mod Decided

@@ -7,8 +7,7 @@ use Rattle.core_meaning.specs.Run as meaning
 use Rattle.project_file.specs.Projects.{PlainProject}
 use Rattle.project_store.specs.Reads.{names_of}
 use Rattle.project_program.specs.declared.programs.Stage.{Stage}
-use Rattle.project_program.specs.declared.programs.Stage.TheVariants.{Preprocess, Parse, Types, Link}
-use Rattle.project_program.specs.Programs.{IsProgram, IsRefusedAt}
+use Rattle.project_program.specs.Programs.{stage_name, IsProgram, IsRefusedAt}
 use Rattle.command_promises.specs.Courses.{Saying, says, Course}
 use Rattle.command_promises.specs.Sayings.{line, tells}
 use Rattle.command_promises.specs.Commands.{Command}
@@ -19,13 +18,6 @@ use Rattle.command_run.specs.Words.{RunQuery, Asks}
 -- the words fit the project: all the names are those of features
 abbrev pub HasFeatures : RunQuery → PlainProject → Unit {0} → Type 0
 HasFeatures q project fit = are_features project.features q.names ≡ true
-
--- the name of a stage of translation
-abbrev pub stage_name : Stage → List ℕ
-stage_name Preprocess = codes "preprocess"
-stage_name Parse = codes "parse"
-stage_name Types = codes "type"
-stage_name Link = codes "link"
 
 abbrev pub not_accepted : Stage → Saying
 not_accepted stage = tells 9 (line (codes "not accepted " ++ stage_name stage))

@@ -29,16 +29,14 @@ use std::alloc::{AllocError, Global};
 use text_edits::Files;
 use variant_interp::RunAnswer;
 
-/// The line that names the stage that refuses a configuration.
-fn refusal(stage: Stage) -> &'static str
-    ensures { result.now ≡ (spec.not_accepted stage).report }
+/// The stage refuses the configuration.
+fn not_accepted(alloc: Global, stage: Stage) -> Result<Said, AllocError>
+    ensures { IfOk result (λ said. saying said ≡ spec.not_accepted stage) }
 {
-    match stage {
-        Stage::Preprocess => "not accepted preprocess\n",
-        Stage::Parse => "not accepted parse\n",
-        Stage::Types => "not accepted type\n",
-        Stage::Link => "not accepted link\n",
-    }
+    let stage = stage.name();
+    let text = format!(in alloc; "not accepted {stage}\n")?;
+    let said = Said::tells(alloc, 9, text.as_str())?;
+    Ok(said)
 }
 
 /// What a run put out, and on a line of its own how it went on.
@@ -101,7 +99,7 @@ fn without_program(alloc: Global, error: ProgramError) -> Result<Said, Stop>
 {
     match error {
         ProgramError::NotAccepted(stage) => {
-            let said = Said::tells(alloc, 9, refusal(stage))?;
+            let said = not_accepted(alloc, stage)?;
             Ok(said)
         }
         ProgramError::Memory => Err(Stop::WantOfMemory),

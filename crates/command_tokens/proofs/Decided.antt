@@ -19,10 +19,10 @@ use Rattle.command_projects.specs.Faults.{bad_project}
 use Rattle.command_projects.specs.Names.{names_in}
 use Rattle.command_projects.specs.Products.{on_by, admits_named, not_admitted}
 use Rattle.command_projects.specs.Projects.{WithFiles, Unless}
-use Rattle.command_projects.proofs.Decided.{ProjectLaws, names_alike, project_decided, fits_agree, files_agree, unless_agree, project_says, fit_says, files_say, unless_says}
+use Rattle.command_projects.proofs.Decided.{ProjectLaws, alike_back, names_alike, project_decided, fits_agree, files_agree, unless_agree, project_says, fit_says, files_say, unless_says}
 use Rattle.command_tokens.specs.Words.{UnitQuery, Asks}
 use Rattle.command_tokens.specs.Tokens.{NumberedUnit, FitsProject, not_present, not_preprocessed, prints, OfSources, OfUnit, OfProject, tokens}
-use Rattle.command_tokens.proofs.Units.{SameUnit, fit_alike, same_unit, same_sources_of, alike_back}
+use Rattle.command_tokens.proofs.Units.{SameUnit, fit_alike, same_unit, same_sources_of}
 
 one_query : (further : List (List ℕ)) (p q : UnitQuery) → Asks further p → Asks further q → p ≡ q
 one_query further p q a b =

@@ -71,17 +71,3 @@ pub same_sources_of : (a b : PlainProject) (files : List PlainFile) (on : ℕ �
 same_sources_of a b files on like =
     let by : List (List ℕ) → List (List ℕ) → Sources = λ headers features. sources_of (record a { headers = headers; features = features }) files on in
     ap (λ hs. by hs a.features) like.headers ∙ ap (λ ns. by b.headers ns) like.features
-
-pub alike_back : (a b : PlainProject) → Alike a b → Alike b a
-alike_back a b like = record {
-  name = sym like.name;
-  features = sym like.features;
-  headers = sym like.headers;
-  model = λ on. sym (like.model on);
-  units = back a.units b.units like.units;
-} where
-  back : (us vs : List PlainUnit) → AreAlike us vs → AreAlike vs us
-  back [] [] h = h
-  back [] (v ∷ vs) h = absurd h
-  back (u ∷ us) [] h = absurd h
-  back (u ∷ us) (v ∷ vs) h = (sym h.0, λ on. sym (h.1 on), back us vs h.2)

@@ -15,6 +15,7 @@ ghost use Rattle.cond_initialisers.specs.Constants as spec;
 
 use crate::forms::{Form, form_of};
 use crate::numbers::has_number;
+use crate::{where_failed, where_unfit};
 use c_tree::{Kind, Tree};
 use c_types::CType;
 use choice_expansions::{Expansion, expansions};
@@ -27,7 +28,6 @@ use conditional::{Judgement, judged};
 use operand_rules::{OperandType, Refused};
 use reduced_conditions::{both, either, without};
 use std::alloc::Global;
-use crate::{where_failed, where_unfit};
 
 // ---- one tree
 

@@ -16,17 +16,16 @@ ghost use Rattle.type_tables.specs.Seen.{seen_tables};
 ghost use Rattle.type_tables.specs.Follows.{IsThere, Follows};
 ghost use Rattle.cond_initialisers.specs.Constants.{by_constants};
 
-use crate::constants::where_unfit_or_variable;
 use crate::constant_laws::globals_are_refused_by_constants;
+use crate::constants::where_unfit_or_variable;
+use crate::{Expressions, where_refused, where_without_room};
 use c_types::CType;
 use choice_trees::Item;
 use cond_formula::{Formula, NoMemory, Oracle};
-use crate::{Expressions, where_refused};
 use cond_nodes::Knowledge;
 use known_tables::Visible;
 use std::alloc::Global;
 use type_tables::Tables;
-use crate::where_without_room;
 
 /// Expressions that initialise objects of file scope, by what is known where they stand.
 #[derive(Drop)]

@@ -20,9 +20,9 @@ mod typed_expressions;
 mod typed_initialisers;
 
 pub use constant_laws::{first_values_are_there, globals_are_refused_by_constants};
-pub use typed_initialisers::{Typed, where_initialiser_refused};
 pub use expressions::Expressions;
 pub use first_values::{Constants, where_first_value_refused};
 pub use laws::{initialisers_are_refused, locals_are_refused_by_types};
 pub use reading::where_refused;
 pub use typed_expressions::{where_failed, where_unfit, where_without_room};
+pub use typed_initialisers::{Typed, where_initialiser_refused};

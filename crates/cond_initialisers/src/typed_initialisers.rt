@@ -17,10 +17,10 @@ ghost use Rattle.type_tables.specs.Follows.{IsThere, Follows};
 ghost use Rattle.cond_initialisers.specs.Refusals.{by_types};
 
 use crate::typed_expressions::{where_unfit, where_without_room};
+use crate::{Expressions, locals_are_refused_by_types, where_refused};
 use c_types::CType;
 use choice_trees::Item;
 use cond_formula::{Formula, NoMemory, Oracle};
-use crate::{Expressions, locals_are_refused_by_types, where_refused};
 use cond_nodes::Knowledge;
 use known_tables::Visible;
 use std::alloc::Global;

@@ -7,7 +7,7 @@ ghost use Rattle.conditional.specs.Entries.{seen};
 ghost use Rattle.choice_trees.specs.ChoiceTrees.{plain_item, item_at};
 ghost use Rattle.choice_variants.specs.Variants.{part_at, before, shown};
 ghost use Rattle.type_tables.specs.Seen.{seen_tables};
-ghost use Rattle.cond_statements.specs.Following.{OnlyLocals};
+ghost use Rattle.type_tables.specs.Blocks.{OnlyLocals};
 ghost use Rattle.conditional_steps.specs.Here.{Here};
 ghost use Rattle.cond_locals.specs.Declaring.{DeclaresLocals};
 

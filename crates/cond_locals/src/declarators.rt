@@ -9,7 +9,7 @@ ghost use Rattle.choice_trees.specs.ChoiceTrees.{plain_item, item_at};
 ghost use Rattle.choice_expansions.specs.Expansions.{expanded};
 ghost use Rattle.core_meaning.specs.Declarations.{is_new_local, one_local};
 ghost use Rattle.type_tables.specs.Seen.{seen_tables};
-ghost use Rattle.cond_statements.specs.Following.{OnlyLocals};
+ghost use Rattle.type_tables.specs.Blocks.{OnlyLocals};
 ghost use Rattle.conditional_steps.specs.Here.{Here};
 ghost use Rattle.cond_locals.specs.Declaring.{IsInitialiser, Declares, local_in, name_of};
 

@@ -12,7 +12,7 @@ ghost use Rattle.core_meaning.specs.Declarations.{one_local, locals_from};
 ghost use Rattle.declarator_lists.specs.Lists.{declared_in, trees_of};
 ghost use Rattle.declarator_lists.specs.Entries.{listed_at};
 ghost use Rattle.type_tables.specs.Seen.{seen_tables};
-ghost use Rattle.cond_statements.specs.Following.{OnlyLocals};
+ghost use Rattle.type_tables.specs.Blocks.{OnlyLocals};
 ghost use Rattle.conditional_steps.specs.Here.{Here};
 ghost use Rattle.cond_locals.specs.Declaring.{IsInitialiser, Declares};
 

@@ -12,7 +12,7 @@ ghost use Rattle.statement_readings.specs.Walks.{is_refused};
 ghost use Rattle.type_tables.specs.Tables.{is_complete_type, is_small};
 ghost use Rattle.type_tables.specs.Seen.{seen_tables};
 ghost use Rattle.type_tables.specs.Follows.{IsThere, Follows};
-ghost use Rattle.cond_statements.specs.Following.{OnlyLocals};
+ghost use Rattle.type_tables.specs.Blocks.{OnlyLocals};
 ghost use Rattle.conditional_steps.specs.Here.{Here};
 ghost use Rattle.cond_locals.specs.Declaring.{IsInitialiser, IsDeclared};
 
@@ -21,12 +21,12 @@ use c_types::CType;
 use choice_trees::Item;
 use choice_variants::may_hold;
 use cond_formula::{Formula, NoMemory, Oracle};
+use cond_initialisers::where_initialiser_refused;
 use conditional_steps::{never, possible_both};
 use plain_scope::copied;
 use reduced_conditions::{both, either};
 use std::alloc::Global;
 use type_tables::Tables;
-use cond_initialisers::where_initialiser_refused;
 
 /// Where no object is of the type: it isn't complete, or too big.
 fn where_unfit(alloc: Global, tables: &Tables, ty: &CType) -> Result<Formula, NoMemory>

@@ -8,7 +8,7 @@ ghost use Rattle.c_types.specs.Types.{PlainType};
 ghost use Rattle.choice_trees.specs.ChoiceTrees.{plain_item, item_at};
 ghost use Rattle.type_tables.specs.Forms.{declared_type_form};
 ghost use Rattle.type_tables.specs.Seen.{seen_tables};
-ghost use Rattle.cond_statements.specs.Following.{OnlyLocals};
+ghost use Rattle.type_tables.specs.Blocks.{OnlyLocals};
 ghost use Rattle.cond_locals.specs.Declaring.{IsDeclared};
 
 use crate::objects::declare_object;

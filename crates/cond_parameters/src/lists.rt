@@ -12,7 +12,7 @@ ghost use Rattle.operand_types.specs.OperandTypes.{outcome_as};
 ghost use Rattle.type_tables.specs.Forms.{declared_type_form};
 ghost use Rattle.type_tables.specs.Seen.{seen_tables};
 ghost use Rattle.type_tables.specs.Numbers.{FollowsInBlockBy};
-ghost use Rattle.cond_statements.specs.Following.{OnlyLocals};
+ghost use Rattle.type_tables.specs.Blocks.{OnlyLocals};
 ghost use Rattle.cond_parameters.specs.Parameters.{IsList, Declares};
 ghost use Rattle.cond_parameters.specs.Walks.{state_of};
 

@@ -13,7 +13,7 @@ ghost use Rattle.type_tables.specs.Forms.{declared_type_form};
 ghost use Rattle.type_tables.specs.Seen.{seen_tables};
 ghost use Rattle.type_tables.specs.Steps.{where_true};
 ghost use Rattle.type_tables.specs.Numbers.{FollowsInBlockBy};
-ghost use Rattle.cond_statements.specs.Following.{OnlyLocals};
+ghost use Rattle.type_tables.specs.Blocks.{OnlyLocals};
 ghost use Rattle.cond_parameters.specs.Parameters.{Declares};
 ghost use Rattle.cond_parameters.specs.Types.{found_at};
 ghost use Rattle.cond_parameters.specs.Readings.{Reading, nothing_read, goes_on, read_all};

@@ -5,25 +5,12 @@ use Rattle.type_tables.specs.declared.tables.Tables.{Tables}
 use Rattle.type_tables.specs.Seen.{seen_tables, locals_in}
 use Rattle.type_tables.specs.Steps.{entered}
 use Rattle.type_tables.specs.Blocks.{KeepsOutside}
-use Rattle.cond_statements.specs.Following.{OnlyLocals}
-
-pub nothing_changed : (t : Tables) → OnlyLocals t t
-nothing_changed t = record { same = refl; outside = λ before kept. kept }
-
-pub locals_again : (a b c : Tables) → OnlyLocals a b → OnlyLocals b c → OnlyLocals a c
-locals_again a b c x y = record {
-  same = y.same ∙ ap (λ (t : Tables). record t { locals = c.locals }) x.same;
-  outside = λ before kept. y.outside before (x.outside before kept);
-}
+use Rattle.type_tables.specs.Blocks.{OnlyLocals}
 
 -- ---- blocks
 
 pub seen_entered : (on : ℕ → Bool) (old new : Tables) → new ≡ record old { depth = old.depth + 1 } → seen_tables on new ≡ entered (seen_tables on old)
 seen_entered on old new is = ap (seen_tables on) is ∙ ap (λ n. record (seen_tables on old) { depth = n }) (add-one old.depth)
-
-pub seen_same : (on : ℕ → Bool) (old new : Tables) → new ≡ record old { locals = new.locals } → new.locals.items ≡ old.locals.items → seen_tables on new ≡ seen_tables on old
-seen_same on old new is same =
-    ap (seen_tables on) is ∙ ap (λ (ls : List LocalName). record (seen_tables on old) { locals = locals_in on (reverse ls) }) same
 
 -- a block that has been opened, in which only locals have changed, and that is closed
 pub record IsClosed (old new : Tables) : Type 0 where

@@ -3,16 +3,9 @@ use Rattle.std.specs.Prelude.{◌≡◌, ℕ, Bool, true, false}
 use Rattle.core_meaning.specs.Checking.{Checked, fine}
 use Rattle.core_meaning.specs.Declarations.{Locals}
 use Rattle.type_tables.specs.Tables as plain
-use Rattle.type_tables.specs.declared.tables.Tables.{Tables}
-use Rattle.type_tables.specs.Blocks.{KeepsOutside}
 use Rattle.type_tables.specs.Numbers.{FollowsInBlockBy}
 
 -- what the judgement of a declaration gives is in the tables, or it is refused
 abbrev pub Declared : (ℕ → ℕ) → Checked Locals → Bool → plain.Tables → Type 0
 Declared by (fine locals bindings) refused t = (refused ≡ false) × FollowsInBlockBy by t locals.scope
 Declared by other refused t = refused ≡ true
-
--- nothing but locals has changed, and what was there before a block is still there
-pub record OnlyLocals (old new : Tables) : Type 0 where
-  pub same : new ≡ record old { locals = new.locals }
-  pub outside : (before : Tables) → KeepsOutside before old → KeepsOutside before new

@@ -10,7 +10,8 @@ ghost use Rattle.core_meaning.specs.Declarations.{judged_locals};
 ghost use Rattle.choice_trees.specs.ChoiceTrees.{plain_choices, parts_at};
 ghost use Rattle.type_tables.specs.Seen.{seen_tables};
 ghost use Rattle.type_tables.specs.Follows.{FollowsInBlock};
-ghost use Rattle.cond_statements.specs.Following.{Declared, OnlyLocals};
+ghost use Rattle.cond_statements.specs.Following.{Declared};
+ghost use Rattle.type_tables.specs.Blocks.{OnlyLocals};
 ghost use Rattle.cond_statements.specs.Ready.{IsDerived};
 
 use choice_trees::{Choice, Item};

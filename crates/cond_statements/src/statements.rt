@@ -9,7 +9,7 @@ ghost use Rattle.conditional.specs.Entries.{alternatives, Stands};
 ghost use Rattle.choice_trees.specs.ChoiceTrees.{plain_item, plain_branches, plain_choices, with_part, item_at, branch_at, parts_at};
 ghost use Rattle.type_tables.specs.Forms.{declared_type_form};
 ghost use Rattle.type_tables.specs.Seen.{seen_tables};
-ghost use Rattle.cond_statements.specs.Following.{OnlyLocals};
+ghost use Rattle.type_tables.specs.Blocks.{OnlyLocals};
 ghost use Rattle.cond_statements.specs.Results.{absence_refused};
 ghost use Rattle.cond_statements.specs.Readings.{turned_behind, Reads, ReadsBlock, Walks};
 

@@ -8,7 +8,7 @@ use Rattle.type_tables.specs.Blocks.{IsOutside, KeepsOutside}
 use Rattle.type_tables.specs.Seen.{seen_tables, locals_in}
 use Rattle.type_tables.specs.Steps.{with_signature, entered}
 use Rattle.type_tables.specs.Tables as plain
-use Rattle.cond_statements.specs.Following.{OnlyLocals}
+use Rattle.type_tables.specs.Blocks.{OnlyLocals}
 use Rattle.cond_types.proofs.Inside.{closed}
 
 module _ (old begun inner named walked new : Tables) (o : Outside) (outside : IsOutside old o) (kept : KeepsOutside old begun) (only : OnlyLocals begun inner) (locals_are : named.locals ≡ inner.locals)

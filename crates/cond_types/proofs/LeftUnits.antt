@@ -17,9 +17,10 @@ use Rattle.type_tables.specs.Follows.{IsNumbered, SortFollows, NameFollows, Sort
 use Rattle.type_tables.specs.Numbers.{FollowsBy, NumbersKept}
 use Rattle.type_tables.proofs.NameLaws.{nothing_begun}
 use Rattle.type_tables.proofs.Renumbering.{Has, name_follows, sort_still_there}
-use Rattle.cond_units.specs.declared.units.Definition.{Definition}
+use Rattle.type_tables.specs.declared.definitions.Definition.{Definition}
 use Rattle.conditional.specs.declared.lists.CondList.{CondList}
-use Rattle.cond_units.specs.Seen.{PlainDefinition, SeenUnit, definition_form, plain_definitions, seen_unit}
+use Rattle.cond_units.specs.Seen.{SeenUnit, seen_unit}
+use Rattle.type_tables.specs.Definitions.{PlainDefinition, definition_form, plain_definitions}
 use Rattle.cond_units.specs.Declaring.{IsUnit}
 use Rattle.link_faults.specs.SeenUnits.{name_seen}
 use Rattle.cond_types.specs.Leaving.{sort_behind, name_behind, without_functions, begun, unit_before_all}

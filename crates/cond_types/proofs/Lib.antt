@@ -17,3 +17,4 @@ pub mod Present
 pub mod UseLemmas
 pub mod Judged
 pub mod LeftLemmas
+mod NotElaborated

@@ -26,7 +26,8 @@ use Rattle.type_tables.proofs.NameLaws.{function_declared, function_by}
 use Rattle.cond_declarators.proofs.DeclaratorTypes.{pointers_renumbered, pointers_there, complete_followed}
 use Rattle.name_declarations.specs.Names.{Named}
 use Rattle.cond_parameters.specs.Parameters.{IsList}
-use Rattle.cond_units.specs.Seen.{PlainDefinition, SeenUnit, plain_definition, plain_definitions}
+use Rattle.cond_units.specs.Seen.{SeenUnit}
+use Rattle.type_tables.specs.Definitions.{PlainDefinition, plain_definition, plain_definitions}
 use Rattle.cond_units.specs.Declaring.{IsUnit, GoesOn, DeclaresTyped}
 use Rattle.cond_units.proofs.Judging.{nothing_behind, Keeps, name_keeps}
 use Rattle.cond_units.proofs.OneObjectDeclarator.{goes_still}

@@ -13,7 +13,8 @@ use Rattle.type_tables.specs.Numbers.{NumbersKept, FollowsBy}
 use Rattle.cond_declarators.specs.Types.{based_in}
 use Rattle.cond_declarators.proofs.There.{Whole}
 use Rattle.cond_structs.specs.Standing.{IsDefined, DefinesStruct}
-use Rattle.cond_units.specs.Seen.{SeenUnit, plain_definitions}
+use Rattle.cond_units.specs.Seen.{SeenUnit}
+use Rattle.type_tables.specs.Definitions.{plain_definitions}
 use Rattle.cond_units.specs.Declaring.{IsUnit}
 use Rattle.cond_units.specs.Items.{ItemGoesOn}
 use Rattle.cond_units.proofs.Growing.{whole_then, whole_behind}

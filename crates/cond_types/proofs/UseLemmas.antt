@@ -4,12 +4,12 @@ use Rattle.std.specs.Str.{bytes_eq}
 use Rattle.std.proofs.lemmas.Slice.Eq.{bytes_eq-Decides}
 use Rattle.cond_formula.specs.Conditions.{condition_of, value}
 use Rattle.cond_bindings.specs.declared.unit_bindings.UnitBindings.{UnitBindings}
-use Rattle.cond_bindings.specs.Bindings.{uses_at}
-use Rattle.link_faults.specs.declared.left.CondUse.{CondUse}
+use Rattle.cond_bindings.specs.Bindings.{plain_use, uses_at}
+use Rattle.cond_bindings.specs.declared.unit_bindings.FileUse.{FileUse}
 use Rattle.link_faults.specs.declared.left.LeftUnit.{LeftUnit}
 use Rattle.link_faults.specs.SeenUnits.{is_used}
 use Rattle.cond_types.specs.declared.units.TypedUnit.{TypedUnit}
-use Rattle.cond_types.specs.Uses.{use_of, uses_of_place, HasUses, HaveUses}
+use Rattle.cond_types.specs.Uses.{uses_of_place, HasUses, HaveUses}
 
 have_push :
     (bound : List UnitBindings) (place : ℕ) (typed : List TypedUnit) (left : List LeftUnit) (t : TypedUnit) (l : LeftUnit) → HaveUses bound place typed left → HasUses (uses_of_place bound (place + length left)) t l
@@ -56,7 +56,7 @@ either_order true false q' r r' e f = rw (sym e) f
 either_order false true q' r r' e f = f
 either_order false false q' r r' e f = f
 
-pub used_as : (on : ℕ → Bool) (name : List ℕ) (uses : List CondUse) → is_used on uses name ≡ uses_at on (map use_of uses) name
+pub used_as : (on : ℕ → Bool) (name : List ℕ) (uses : List FileUse) → is_used on uses name ≡ uses_at on (map plain_use uses) name
 used_as on name [] = refl
 used_as on name (u ∷ uses) =
-    either_order (value on (condition_of u.when)) (bytes_eq name u.name.items) (bytes_eq u.name.items name) (is_used on uses name) (uses_at on (map use_of uses) name) (same_or_not name u.name.items) (used_as on name uses)
+    either_order (value on (condition_of u.when)) (bytes_eq name u.name.items) (bytes_eq u.name.items name) (is_used on uses name) (uses_at on (map plain_use uses) name) (same_or_not name u.name.items) (used_as on name uses)

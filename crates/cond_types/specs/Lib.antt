@@ -7,3 +7,4 @@ pub mod Steps
 pub mod Units
 pub mod Uses
 pub mod Typed
+pub mod Elaborated

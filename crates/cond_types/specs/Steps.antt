@@ -8,7 +8,8 @@ use Rattle.tree_derivations.specs.Derivations.{Each}
 use Rattle.core_meaning.specs.Checking.{Checked}
 use Rattle.core_meaning.specs.UnitNames.{UnitState, judged_to_end}
 use Rattle.type_tables.specs.Seen.{seen_tables}
-use Rattle.cond_units.specs.Seen.{SeenUnit, definition_form, seen_unit}
+use Rattle.cond_units.specs.Seen.{SeenUnit, seen_unit}
+use Rattle.type_tables.specs.Definitions.{definition_form}
 use Rattle.cond_units.specs.declared.units.UnitTables.{UnitTables}
 use Rattle.cond_units.specs.Where.{Where}
 use Rattle.cond_units.specs.Items.{DeclaresItem}

@@ -15,7 +15,7 @@ use Rattle.core_meaning.specs.Linking as linking
 use Rattle.type_tables.specs.Seen.{seen_tables}
 use Rattle.type_tables.specs.declared.tables.Tables.{Tables}
 use Rattle.type_tables.specs.Follows.{NameFollows, SortIsThere, StructFollows}
-use Rattle.cond_units.specs.Seen.{definition_form, plain_definitions}
+use Rattle.type_tables.specs.Definitions.{definition_form, plain_definitions}
 use Rattle.link_faults.specs.SeenUnits.{name_seen}
 use Rattle.cond_types.specs.declared.units.TypedUnit.{TypedUnit}
 use Rattle.cond_types.specs.declared.units.TypedUnits.{TypedUnits}

@@ -1,10 +1,8 @@
 -- The names of file scope that the expressions of units use.
 use Rattle.std.specs.Prelude.{◌≡◌, ℕ, suc, List, [], ◌∷◌, map, Option, Some, None, slice_get, ⊤}
-use Rattle.cond_formula.specs.Conditions.{condition_of}
 use Rattle.cond_bindings.specs.declared.unit_bindings.UnitBindings.{UnitBindings}
-use Rattle.cond_bindings.specs.Bindings.{PlainUse, file_uses_of}
+use Rattle.cond_bindings.specs.Bindings.{PlainUse, plain_use, file_uses_of}
 use Rattle.link_faults.specs.declared.left.LeftUnit.{LeftUnit}
-use Rattle.link_faults.specs.declared.left.CondUse.{CondUse}
 use Rattle.cond_types.specs.declared.units.TypedUnit.{TypedUnit}
 
 abbrev pub uses_of : Option UnitBindings → List PlainUse
@@ -14,16 +12,12 @@ uses_of (Some unit) = file_uses_of unit
 abbrev pub uses_of_place : List UnitBindings → ℕ → List PlainUse
 uses_of_place bound place = uses_of (slice_get bound place)
 
--- a use as definitions see it
-abbrev pub use_of : CondUse → PlainUse
-use_of u = record { name = u.name.items; when = condition_of u.when }
-
 -- a unit leaves what it is by its types, and uses these names
 pub record HasUses (uses : List PlainUse) (typed : TypedUnit) (left : LeftUnit) : Type 0 where
   pub when : left.when ≡ typed.when
   pub names : left.names ≡ typed.names
   pub defined : left.defined ≡ typed.defined
-  pub used : map use_of left.uses.items ≡ uses
+  pub used : map plain_use left.uses.items ≡ uses
 
 -- one by one, from a place on
 abbrev pub HaveUses : List UnitBindings → ℕ → List TypedUnit → List LeftUnit → Type 0

@@ -12,6 +12,7 @@ ghost use Rattle.cond_units.specs.Where.{Where};
 ghost use Rattle.cond_units.specs.Items.{DeclaresItem};
 ghost use Rattle.cond_types.specs.Functions.{listed_definition, IsListedDefinition};
 
+use crate::define_function;
 use crate::parts::item_in;
 use c_tree::Kind;
 use choice_trees::{Choice, Item};
@@ -19,7 +20,6 @@ use choice_variants::{Variant, variants};
 use cond_formula::{Formula, NoMemory, Oracle};
 use cond_units::UnitTables;
 use conditional_steps::{both_of, never};
-use crate::define_function;
 use reduced_conditions::either;
 use std::alloc::Global;
 

@@ -16,9 +16,8 @@ use crate::functions::{AroundList, define_listed};
 use crate::parts::{declarators_in, item_in, members_in};
 use choice_variants::Part;
 use cond_formula::{Formula, NoMemory, Oracle};
-use cond_units::{Behind, UnitTables};
 use cond_structs::define_struct;
-use cond_units::{Surroundings, declare, declare_alone};
+use cond_units::{Behind, Surroundings, UnitTables, declare, declare_alone};
 use conditional_steps::never;
 use std::alloc::Global;
 

@@ -4,17 +4,18 @@ ghost use Rattle.cond_formula.specs.Conditions.{condition_of};
 ghost use Rattle.conditional.specs.Entries.{seen, listed};
 ghost use Rattle.type_tables.specs.Seen.{seen_tables};
 ghost use Rattle.link_faults.specs.SeenUnits.{name_seen};
-ghost use Rattle.cond_units.specs.Seen.{definition_form, seen_unit};
+ghost use Rattle.cond_units.specs.Seen.{seen_unit};
+ghost use Rattle.type_tables.specs.Definitions.{definition_form};
 ghost use Rattle.cond_types.specs.Leaving.{name_behind, without_functions, begun};
 
 use crate::left_names::left_names;
 use crate::units::TypedUnit;
 use cond_formula::{Formula, NoMemory};
-use cond_units::{Definition, UnitTables};
+use cond_units::UnitTables;
 use conditional::CondList;
 use std::alloc::{AllocError, Global};
 use std::mem;
-use type_tables::{CondSignature, Tables};
+use type_tables::{CondSignature, Definition, Tables};
 
 /// How many declarations of functions there are.
 fn count(signatures: &[CondSignature]) -> Result<u32, NoMemory>

@@ -5,6 +5,7 @@
 mod beginnings;
 mod blocks;
 mod definitions;
+mod elaboration;
 mod ends;
 mod functions;
 mod heads;
@@ -21,6 +22,7 @@ mod units;
 mod uses;
 
 pub use definitions::define_function;
+pub use elaboration::where_not_elaborated;
 pub use items::UnitItems;
 pub use linking::{CondLinks, links};
 pub use typing::{CondTypes, types};

@@ -6,9 +6,9 @@ ghost use Rattle.core_meaning.specs.Linking.{Units, Links};
 ghost use Rattle.link_faults.specs.Faulty.{FailToLink};
 ghost use Rattle.cond_types.specs.Typed.{IsLinkable};
 
+use crate::CondTypes;
 use cond_compatible::alike_structs;
 use cond_formula::{Formula, NoMemory, Oracle};
-use crate::CondTypes;
 use link_faults::where_links_fail;
 use std::alloc::Global;
 

@@ -10,16 +10,15 @@ ghost use Rattle.cond_types.specs.Typed.{IsTypedAs};
 ghost use Rattle.cond_types.specs.Uses.{HaveUses};
 
 use crate::uses::uses_at;
+use crate::{TypedUnit, TypedUnits, UnitItems, declare_units};
 use bindings::file_names_are_used_alike;
 use choice_trees::Forest;
 use cond_bindings::{CondBindings, UnitBindings};
 use cond_formula::{Formula, NoMemory, Oracle};
-use cond_units::FileItems;
 use link_faults::LeftUnit;
 use project_file::Unit;
 use std::alloc::Global;
 use type_tables::Tables;
-use crate::{TypedUnit, TypedUnits, declare_units};
 
 /// What the units of a project are by their types, in all configurations.
 #[derive(Drop)]
@@ -59,10 +58,9 @@ fn all_with_uses(
 }
 
 /// What the units are by their types, by the trees of each unit and what its identifiers are bound to.
-pub fn types<F: FileItems, O: Oracle>(
+pub fn types<O: Oracle>(
     alloc: Global,
     oracle: &mut O,
-    file_items: &F,
     units: &[Unit],
     forests: &[Forest],
     b: &CondBindings,
@@ -76,7 +74,7 @@ pub fn types<F: FileItems, O: Oracle>(
         → AreWritten (present_trees (has c) units.now forests.now) → IsTypedAs (has c) (judged_program (present_trees (has c) units.now forests.now)) t) }
 {
     file_names_are_used_alike();
-    let found = declare_units(alloc, oracle, file_items, units, forests)?;
+    let found = declare_units(alloc, oracle, &UnitItems, units, forests)?;
     let TypedUnits {
         units: typed,
         tables,

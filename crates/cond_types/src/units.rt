@@ -10,13 +10,12 @@ ghost use Rattle.cond_types.specs.Units.{AreTyped};
 use crate::beginnings::{UnitsSoFar, no_unit, take_unit};
 use choice_trees::Forest;
 use cond_formula::{Formula, NoMemory, Oracle};
-use cond_units::{Definition, UnitTables};
-use cond_units::FileItems;
+use cond_units::{FileItems, UnitTables};
 use conditional::CondList;
 use project_file::Unit;
 use std::alloc::Global;
 use tree_derivations::units_are_derived;
-use type_tables::{CondName, Tables};
+use type_tables::{CondName, Definition, Tables};
 
 /// What a unit leaves by its types, where it is present.
 #[derive(Drop)]

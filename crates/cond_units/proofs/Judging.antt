@@ -13,7 +13,7 @@ use Rattle.core_meaning.specs.Typing.{is_complete}
 use Rattle.core_meaning.specs.Constancy.{is_small, Initial, initial}
 use Rattle.core_meaning.specs.UnitNames.{Storage, by_static, by_extern, by_none, UnitState, Defined, object_body, with_scope, with_defined, constant_parts, may_be_incomplete, linkage, is_function, same_sort, same_bool, declared_as, with_name, judged_global, defined_object}
 use Rattle.statement_readings.specs.Walks.{is_refused}
-use Rattle.cond_units.specs.Seen.{PlainDefinition, plain_definition, plain_definitions}
+use Rattle.type_tables.specs.Definitions.{PlainDefinition, plain_definition, plain_definitions}
 use Rattle.cond_units.specs.Definitions.{definitions_of}
 use Rattle.cond_units.specs.Values.{is_value_refused}
 

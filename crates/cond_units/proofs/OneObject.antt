@@ -16,7 +16,8 @@ use Rattle.type_tables.specs.Tables.{Tables}
 use Rattle.type_tables.specs.Follows.{IsThere}
 use Rattle.type_tables.specs.Numbers.{FollowsBy}
 use Rattle.name_declarations.specs.Names.{Named}
-use Rattle.cond_units.specs.Seen.{PlainDefinition, SeenUnit, plain_definitions}
+use Rattle.cond_units.specs.Seen.{SeenUnit}
+use Rattle.type_tables.specs.Definitions.{PlainDefinition, plain_definitions}
 use Rattle.cond_units.specs.Definitions.{definitions_of, is_unfit}
 use Rattle.cond_units.specs.Values.{is_value_refused}
 use Rattle.cond_units.specs.Declaring.{IsUnit, GoesOn, IsInitialiser, object_of_type, Names, DeclaresTyped}

@@ -21,8 +21,8 @@ use Rattle.operand_types.specs.OperandTypes.{outcome_as}
 use Rattle.type_tables.specs.Tables.{Tables}
 use Rattle.type_tables.specs.declared.tables.Tables as declared
 use Rattle.type_tables.specs.Seen.{seen_tables}
-use Rattle.cond_statements.specs.Following.{OnlyLocals}
-use Rattle.cond_statements.proofs.Locals.{seen_same}
+use Rattle.type_tables.specs.Blocks.{OnlyLocals}
+use Rattle.type_tables.proofs.LocalsAlone.{seen_same}
 use Rattle.cond_parameters.specs.Parameters.{no_list, a_list, Declares}
 use Rattle.cond_units.specs.Functions.{IsFunctionDeclarator, of_function, HasList, GivesTypes}
 

@@ -21,7 +21,8 @@ use Rattle.cond_declarators.specs.Types.{ShowsType}
 use Rattle.name_declarations.specs.Names.{Named}
 use Rattle.cond_units.specs.Definitions.{is_unfit}
 use Rattle.cond_units.specs.Values.{is_value_refused}
-use Rattle.cond_units.specs.Seen.{SeenUnit, plain_definitions}
+use Rattle.cond_units.specs.Seen.{SeenUnit}
+use Rattle.type_tables.specs.Definitions.{plain_definitions}
 
 -- What is seen says what is visible at a place of file scope and what has been defined, where structs have these numbers.
 pub record IsUnit (by : ℕ → ℕ) (seen : SeenUnit) (unit : UnitState) : Type 0 where

@@ -5,7 +5,7 @@ use Rattle.c_tree.specs.Trees.{PlainTrees}
 use Rattle.core_meaning.specs.Expressions.{is_void}
 use Rattle.core_meaning.specs.UnitNames.{Storage, by_extern, by_none, is_completed_in}
 use Rattle.type_tables.specs.Tables.{Tables, is_complete_type, is_small}
-use Rattle.cond_units.specs.Seen.{PlainDefinition}
+use Rattle.type_tables.specs.Definitions.{PlainDefinition}
 
 abbrev pub is_mere_declaration : Storage → Bool → Bool
 is_mere_declaration by_extern false = true

@@ -1,23 +1,13 @@
 -- What a configuration sees of a unit up to a place.
-use Rattle.std.specs.Prelude.{ℕ, Bool, List, map, Option, option_map}
+use Rattle.std.specs.Prelude.{ℕ, Bool, List, Option, option_map}
 use Rattle.c_tree.specs.Trees.{PlainTree}
 use Rattle.choice_trees.specs.ChoiceTrees.{plain_item, item_at}
 use Rattle.conditional.specs.Entries.{seen, listed}
-use Rattle.core_meaning.specs.UnitNames.{Defined}
-use Rattle.core_meaning.specs.Linking.{is_tentative}
 use Rattle.type_tables.specs.Tables.{Tables}
 use Rattle.type_tables.specs.Seen.{seen_tables}
-use Rattle.cond_units.specs.declared.units.Definition.{Definition}
+use Rattle.type_tables.specs.Definitions.{PlainDefinition, definition_form}
 use Rattle.cond_units.specs.declared.units.UnitTables.{UnitTables}
 use Rattle.cond_units.specs.declared.units.ObjectDeclaration.{ObjectDeclaration}
-
--- a definition of a name, and whether it is a tentative one of an object (6.9.2)
-pub record PlainDefinition : Type 0 where
-  pub name : List ℕ
-  pub tentative : Bool
-
-abbrev pub definition_form : Definition → PlainDefinition
-definition_form d = record { name = d.name.items; tentative = d.tentative }
 
 -- what is known at a place of a unit, and what has been defined before it
 pub record SeenUnit : Type 0 where
@@ -26,13 +16,6 @@ pub record SeenUnit : Type 0 where
 
 abbrev pub seen_unit : (ℕ → Bool) → UnitTables → SeenUnit
 seen_unit on unit = record { tables = seen_tables on unit.tables; defined = seen on (listed definition_form unit.defined) }
-
--- the definitions of a unit without what they give
-abbrev pub plain_definition : Defined → PlainDefinition
-plain_definition d = record { name = d.name; tentative = is_tentative d.body }
-
-abbrev pub plain_definitions : List Defined → List PlainDefinition
-plain_definitions defined = map plain_definition defined
 
 -- the initialiser of a declaration, if it has one
 abbrev pub initialiser_at : {B : Type 0} → (ℕ → Bool) → ObjectDeclaration B → Option PlainTree

@@ -6,9 +6,9 @@ ghost use Rattle.choice_trees.specs.ChoiceTrees.{plain_item, item_at};
 ghost use Rattle.core_meaning.specs.UnitNames.{completes};
 ghost use Rattle.cond_units.specs.Tags.{items_at};
 
+use crate::Behind;
 use crate::completions::where_completes;
 use cond_formula::{Formula, NoMemory};
-use crate::Behind;
 use conditional_steps::{both_of, never};
 use declarator_lists::ListEntry;
 use reduced_conditions::{both, either};

@@ -11,11 +11,11 @@ ghost use Rattle.cond_units.specs.Where.{Where};
 ghost use Rattle.cond_units.specs.Items.{DeclaresItem, declaration_of, words_alone};
 
 use crate::storages::{Surroundings, name_with_each, said_storages};
+use crate::{Behind, UnitTables};
 use choice_expansions::expansions;
 use choice_trees::{Choice, Item};
 use cond_declarators::declared_base;
 use cond_formula::{Formula, NoMemory, Oracle};
-use crate::{Behind, UnitTables};
 use conditional_steps::{possible_both, where_refused};
 use reduced_conditions::either;
 use std::alloc::Global;

@@ -3,13 +3,14 @@ ghost use Rattle.std.specs.Prelude.{◌≡◌, ℕ, Bool, [], ◌∷◌, ◌++�
 ghost use Rattle.cond_formula.specs.Conditions.{condition_of, value};
 ghost use Rattle.conditional.specs.Entries.{seen, listed, under};
 ghost use Rattle.plain_objects.specs.PlainStates.{plain_storage};
-ghost use Rattle.cond_units.specs.Seen.{definition_form};
+ghost use Rattle.type_tables.specs.Definitions.{definition_form};
 ghost use Rattle.cond_units.specs.Definitions.{definitions_of};
 
-use crate::units::{Definition, ObjectDeclaration, UnitTables};
+use crate::units::{ObjectDeclaration, UnitTables};
 use cond_formula::{Formula, NoMemory};
 use plain_objects::Storage;
 use std::alloc::Global;
+use type_tables::Definition;
 
 /// One more definition of a name, where the condition is true.
 pub fn define(

@@ -16,15 +16,15 @@ ghost use Rattle.cond_units.specs.Declaring.{Declares};
 ghost use Rattle.cond_units.specs.Functions.{IsFunctionDeclarator, HasList, judged_parts, judged_declarator};
 ghost use Rattle.cond_units.specs.Where.{Where};
 
+use crate::UnitTables;
+use crate::function_types::read_by_types;
 use crate::heads::{FunctionHead, HeadReader};
 use crate::parts::{behind_word, count_of_stars, name_in};
-use crate::function_types::read_by_types;
 use c_text::Token;
 use c_tree::{Kind, Terminal};
 use choice_trees::{Choice, Item};
 use choice_variants::{Part, Variant, variants};
 use cond_formula::{Formula, NoMemory, Oracle};
-use crate::UnitTables;
 use conditional::Outcomes;
 use conditional_steps::{both_of, never};
 use operand_rules::Refused;

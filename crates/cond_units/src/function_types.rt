@@ -12,11 +12,11 @@ ghost use Rattle.cond_units.specs.Seen.{seen_unit};
 ghost use Rattle.cond_units.specs.Declaring.{DeclaresTyped};
 ghost use Rattle.cond_units.specs.Where.{Stays, Where};
 
+use crate::UnitTables;
 use crate::heads::{FunctionHead, HeadReader};
 use c_types::CType;
 use choice_variants::may_hold;
 use cond_formula::{Formula, NoMemory, Oracle};
-use crate::UnitTables;
 use conditional::Guarded;
 use conditional_steps::{both_of, never};
 use reduced_conditions::{either, without};

@@ -17,6 +17,7 @@ ghost use Rattle.cond_units.specs.Declaring.{Declares};
 ghost use Rattle.cond_units.specs.Functions.{IsFunctionDeclarator, function_of_head, function_in};
 ghost use Rattle.cond_units.specs.Where.{Where};
 
+use crate::UnitTables;
 use crate::function_declarators::read_function;
 use crate::heads::{FunctionHead, HeadReader};
 use crate::lists::read_parameters;
@@ -25,7 +26,6 @@ use c_text::Token;
 use c_types::CType;
 use choice_trees::Item;
 use cond_formula::{Formula, NoMemory, Oracle};
-use crate::UnitTables;
 use cond_parameters::DeclaredParameters;
 use conditional::Outcomes;
 use conditional_steps::{both_of, never};

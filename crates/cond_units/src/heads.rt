@@ -11,11 +11,11 @@ ghost use Rattle.cond_units.specs.Declaring.{DeclaresTyped};
 ghost use Rattle.cond_units.specs.Functions.{JudgedHead};
 ghost use Rattle.cond_units.specs.Where.{Where};
 
+use crate::UnitTables;
 use c_text::Token;
 use c_types::CType;
 use choice_trees::Item;
 use cond_formula::{Formula, NoMemory, Oracle};
-use crate::UnitTables;
 use std::alloc::Global;
 
 /// What the declarator of a function says.

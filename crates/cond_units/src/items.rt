@@ -15,9 +15,9 @@ ghost use Rattle.cond_units.specs.Items.{DeclaresItem};
 ghost use Rattle.cond_units.specs.Units.{one_item, DeclaresItems};
 
 use crate::behind::ItemsBehind;
+use crate::{Behind, UnitTables};
 use choice_trees::{Choice, Item};
 use cond_formula::{Formula, NoMemory, Oracle};
-use crate::{Behind, UnitTables};
 use conditional_steps::{both_of, never};
 use declarator_lists::{ListEntry, entries};
 use reduced_conditions::either;

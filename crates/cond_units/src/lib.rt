@@ -35,4 +35,4 @@ pub use names::{FileDeclaration, declare_names};
 pub use object_declarators::declare_object;
 pub use parts::behind_stars;
 pub use storages::{SaidStorage, Surroundings, said_storages};
-pub use units::{Definition, ObjectDeclaration, UnitTables};
+pub use units::{ObjectDeclaration, UnitTables};

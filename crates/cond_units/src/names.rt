@@ -17,11 +17,10 @@ ghost use Rattle.cond_units.specs.Names as spec;
 ghost use Rattle.cond_units.specs.Where.{Where};
 ghost use Rattle.cond_units.specs.Names.{IsReady, one_name, all_names};
 
+use crate::{Behind, ObjectDeclaration, UnitTables, declare_function, declare_object};
 use c_tree::Kind;
 use choice_trees::{Choice, Item};
 use cond_formula::{Formula, NoMemory, Oracle};
-use crate::declare_function;
-use crate::{Behind, ObjectDeclaration, UnitTables, declare_object};
 use conditional::Outcomes;
 use conditional_steps::{both_of, never};
 use declarator_lists::{ListedDeclarator, listed_declarators};

@@ -17,11 +17,11 @@ ghost use Rattle.cond_units.specs.Where.{Where};
 ghost use Rattle.cond_units.specs.Names.{all_names, storage_in, said};
 
 use crate::names::{FileDeclaration, declare_names};
+use crate::{Behind, UnitTables};
 use c_tree::Tree;
 use choice_expansions::Expansion;
 use choice_trees::{Choice, Item};
 use cond_formula::{Formula, NoMemory, Oracle};
-use crate::{Behind, UnitTables};
 use conditional::Outcomes;
 use conditional_steps::{both_of, never};
 use operand_rules::Refused;

@@ -11,8 +11,8 @@ use Rattle.core_meaning.specs.Entities.{Signature}
 use Rattle.core_meaning.specs.UnitNames.{Defined}
 use Rattle.core_meaning.specs.Linking.{Unit, is_tentative, count_whole, count_defined, defines}
 use Rattle.type_tables.specs.Tables.{FileName}
-use Rattle.cond_units.specs.Seen.{definition_form}
-use Rattle.cond_units.specs.declared.units.Definition.{Definition}
+use Rattle.type_tables.specs.Definitions.{definition_form}
+use Rattle.type_tables.specs.declared.definitions.Definition.{Definition}
 use Rattle.link_faults.specs.declared.several.Several.{Several}
 use Rattle.link_faults.specs.Several.{Count}
 use Rattle.link_faults.specs.SeenUnits.{definition_of, name_in}

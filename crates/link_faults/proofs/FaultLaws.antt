@@ -19,10 +19,10 @@ use Rattle.type_tables.specs.Seen.{seen_tables}
 use Rattle.type_tables.specs.declared.entries.CondName.{CondName}
 use Rattle.type_tables.specs.declared.tables.Tables.{Tables}
 use Rattle.type_tables.specs.Follows.{NameFollows}
-use Rattle.cond_units.specs.Seen.{PlainDefinition, definition_form, plain_definition}
-use Rattle.cond_units.specs.declared.units.Definition.{Definition}
+use Rattle.type_tables.specs.Definitions.{PlainDefinition, definition_form, plain_definition}
+use Rattle.type_tables.specs.declared.definitions.Definition.{Definition}
 use Rattle.link_faults.specs.declared.left.LeftUnit.{LeftUnit}
-use Rattle.link_faults.specs.declared.left.CondUse.{CondUse}
+use Rattle.cond_bindings.specs.declared.unit_bindings.FileUse.{FileUse}
 use Rattle.link_faults.specs.SeenUnits as seen_units
 use Rattle.link_faults.specs.SeenUnits.{LeavesAlike, LeaveAlike, is_present, name_seen, units_seen}
 use Rattle.link_faults.proofs.SeenLaws.{main_seen}
@@ -123,7 +123,7 @@ bytes_eq_turned a b h = by (bytes_eq b a) refl
     by false e = refl
 
 module _ (on : ℕ → Bool) (name : List ℕ) where
-  not_used : (uses : List CondUse) → is_used name uses ≡ false → seen_units.is_used on uses name ≡ false
+  not_used : (uses : List FileUse) → is_used name uses ≡ false → seen_units.is_used on uses name ≡ false
   not_used [] h = refl
   not_used (u ∷ uses) h =
       let parts = either_not (bytes_eq name u.name.items) (is_used name uses) h in

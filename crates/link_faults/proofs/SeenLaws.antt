@@ -14,7 +14,7 @@ use Rattle.type_tables.specs.Tables.{Sort, object, declared_function, FileName, 
 use Rattle.type_tables.specs.Seen.{seen_tables}
 use Rattle.type_tables.specs.declared.tables.Tables.{Tables}
 use Rattle.type_tables.specs.Follows.{NameFollows, SortFollows}
-use Rattle.cond_units.specs.Seen.{plain_definitions}
+use Rattle.type_tables.specs.Definitions.{plain_definitions}
 use Rattle.link_faults.specs.declared.left.LeftUnit.{LeftUnit}
 use Rattle.link_faults.specs.SeenUnits.{LeavesAlike, unit_seen, name_seen, name_in, body_of, definition_of, is_undefined}
 

@@ -7,8 +7,8 @@ use Rattle.conditional.specs.declared.entries.Guarded.{Guarded}
 use Rattle.cond_formula.specs.Conditions.{value}
 use Rattle.core_meaning.specs.Linking.{Unit, count_whole, is_internal, is_main, defines}
 use Rattle.type_tables.specs.Tables.{FileName}
-use Rattle.cond_units.specs.Seen.{definition_form}
-use Rattle.cond_units.specs.declared.units.Definition.{Definition}
+use Rattle.type_tables.specs.Definitions.{definition_form}
+use Rattle.type_tables.specs.declared.definitions.Definition.{Definition}
 use Rattle.link_faults.specs.declared.several.Several.{Several}
 use Rattle.link_faults.specs.Several.{Count}
 use Rattle.link_faults.specs.SeenUnits.{definition_of}

@@ -5,9 +5,9 @@ use Rattle.std.specs.Str.{bytes_eq}
 use Rattle.conditional.specs.declared.entries.Guarded.{Guarded}
 use Rattle.core_meaning.specs.Linking.{Unit, defines}
 use Rattle.type_tables.specs.declared.entries.CondName.{CondName}
-use Rattle.cond_units.specs.declared.units.Definition.{Definition}
+use Rattle.type_tables.specs.declared.definitions.Definition.{Definition}
 use Rattle.link_faults.specs.declared.left.LeftUnit.{LeftUnit}
-use Rattle.link_faults.specs.declared.left.CondUse.{CondUse}
+use Rattle.cond_bindings.specs.declared.unit_bindings.FileUse.{FileUse}
 
 -- the names, and one more, which counts once
 abbrev pub with_name : List (List ℕ) → List ℕ → List (List ℕ)
@@ -19,8 +19,8 @@ is_declared name names = list_any (λ (n : CondName). bytes_eq name n.name.items
 abbrev pub is_defined : List ℕ → List (Guarded Definition) → Bool
 is_defined name entries = list_any (λ (e : Guarded Definition). bytes_eq name e.what.name.items) entries
 
-abbrev pub is_used : List ℕ → List CondUse → Bool
-is_used name uses = list_any (λ (u : CondUse). bytes_eq name u.name.items) uses
+abbrev pub is_used : List ℕ → List FileUse → Bool
+is_used name uses = list_any (λ (u : FileUse). bytes_eq name u.name.items) uses
 
 -- a unit declares, defines or uses a name somewhere
 abbrev pub is_mentioned : List ℕ → LeftUnit → Bool

@@ -14,9 +14,9 @@ use Rattle.type_tables.specs.Seen.{seen_tables}
 use Rattle.type_tables.specs.declared.entries.CondName.{CondName}
 use Rattle.type_tables.specs.declared.tables.Tables.{Tables}
 use Rattle.type_tables.specs.Follows.{NameFollows, SortIsThere}
-use Rattle.cond_units.specs.Seen.{PlainDefinition, definition_form, plain_definitions}
+use Rattle.type_tables.specs.Definitions.{PlainDefinition, definition_form, plain_definitions}
 use Rattle.link_faults.specs.declared.left.LeftUnit.{LeftUnit}
-use Rattle.link_faults.specs.declared.left.CondUse.{CondUse}
+use Rattle.cond_bindings.specs.declared.unit_bindings.FileUse.{FileUse}
 
 module _ (on : ℕ → Bool) where
   -- what a unit declares a name as
@@ -25,8 +25,8 @@ module _ (on : ℕ → Bool) where
   name_seen (n ∷ rest) name = if bytes_eq name n.name.items then first (seen on (listed file_name_form n.meanings)) else name_seen rest name
 
   -- an expression uses a name
-  abbrev pub is_used : List CondUse → List ℕ → Bool
-  is_used uses name = list_any (λ (u : CondUse). bytes_eq name u.name.items && value on (condition_of u.when)) uses
+  abbrev pub is_used : List FileUse → List ℕ → Bool
+  is_used uses name = list_any (λ (u : FileUse). bytes_eq name u.name.items && value on (condition_of u.when)) uses
 
   abbrev pub is_present : LeftUnit → Bool
   is_present left = value on (condition_of left.when)

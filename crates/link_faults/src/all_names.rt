@@ -4,14 +4,14 @@ ghost use Rattle.std.specs.List.{list_any, IsDistinct};
 ghost use Rattle.std.specs.Str.{bytes_eq};
 ghost use Rattle.link_faults.specs.Mentioned.{with_name, is_declared, is_defined, is_used, is_mentioned};
 
+use crate::LeftUnit;
+use cond_bindings::FileUse;
 use cond_formula::NoMemory;
-use cond_units::Definition;
 use conditional::Guarded;
 use indexmap::IndexSet;
-use crate::{CondUse, LeftUnit};
 use std::alloc::Global;
 use std::marker::Model;
-use type_tables::CondName;
+use type_tables::{CondName, Definition};
 
 /// Names, each once, in the order in which they were noted.
 #[derive(Drop)]
@@ -78,7 +78,7 @@ impl Names {
         Ok(())
     }
 
-    fn note_used(&mut self, uses: &[CondUse]) -> Result<(), NoMemory>
+    fn note_used(&mut self, uses: &[FileUse]) -> Result<(), NoMemory>
         ensures { OnOk result ((name : List ℕ) → list_any (bytes_eq name) self.new ≡ (list_any (bytes_eq name) self.old || is_used name uses.now)) }
     {
         for found in uses {

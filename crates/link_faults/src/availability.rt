@@ -8,9 +8,10 @@ ghost use Rattle.link_faults.specs.Measures.{is_lacking};
 
 use crate::definitions::where_defined;
 use crate::external::{external_definitions, or_built_in};
-use crate::left::{CondUse, LeftUnit};
+use crate::left::LeftUnit;
 use crate::names::where_internal;
 use crate::questions::{Question, where_some};
+use cond_bindings::FileUse;
 use cond_formula::{Formula, NoMemory};
 use reduced_conditions::{both, either, without};
 use std::alloc::Global;
@@ -19,7 +20,7 @@ use type_tables::Tables;
 fn or_used(
     alloc: Global,
     so_far: Formula,
-    found: &CondUse,
+    found: &FileUse,
     name: &[u8],
 ) -> Result<Formula, NoMemory>
     ensures { IfOk result (λ f. (on : ℕ → Bool) → value on (condition_of f) ≡ (value on (condition_of so_far)
@@ -33,7 +34,7 @@ fn or_used(
 }
 
 /// Where an expression uses a name.
-fn where_used(alloc: Global, uses: &[CondUse], name: &[u8]) -> Result<Formula, NoMemory>
+fn where_used(alloc: Global, uses: &[FileUse], name: &[u8]) -> Result<Formula, NoMemory>
     ensures { IfOk result (λ f. (on : ℕ → Bool) → value on (condition_of f) ≡ is_used on uses.now name.now) }
 {
     let mut so_far = Formula::False;

@@ -12,12 +12,12 @@ ghost use Rattle.cond_compatible.specs.SeenTags.{said_alike, Tells};
 ghost use Rattle.link_faults.specs.Apart.{AreSeenApart};
 ghost use Rattle.link_faults.specs.Gathered.{declared_sort, are_apart};
 
+use crate::LeftUnit;
 use crate::gathered::{Declared, external_declarations};
 use choice_variants::may_hold;
 use cond_compatible::{AlikeStructs, where_alike_sorts_agree, where_signatures_agree};
 use cond_formula::{Formula, NoMemory, Oracle};
 use conditional::Guarded;
-use crate::LeftUnit;
 use reduced_conditions::{both, either, without};
 use std::alloc::Global;
 use type_tables::{CondSignature, Sort, Tables};

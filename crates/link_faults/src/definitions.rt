@@ -11,10 +11,10 @@ ghost use Rattle.link_faults.specs.Measures.{whole_in, defined_in};
 use crate::left::LeftUnit;
 use crate::several::{Several, none, one, together};
 use cond_formula::{Formula, NoMemory};
-use cond_units::Definition;
 use conditional::Guarded;
 use reduced_conditions::either;
 use std::alloc::Global;
+use type_tables::Definition;
 
 /// Whether it is a definition of the name that isn't tentative.
 fn is_whole(d: &Definition, name: &[u8]) -> bool

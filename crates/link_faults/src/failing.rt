@@ -10,11 +10,11 @@ ghost use Rattle.cond_compatible.specs.SeenTags.{Tells};
 ghost use Rattle.link_faults.specs.SeenUnits.{LeaveAlike};
 ghost use Rattle.link_faults.specs.Faulty.{StructsFollow, HasFault, FailToLink, SomeHaveFaults};
 
-use crate::comparing::where_incompatible;
 use crate::all_names::names_once;
+use crate::comparing::where_incompatible;
+use crate::{LeftUnit, where_duplicate, where_no_main, where_undefined};
 use cond_compatible::AlikeStructs;
 use cond_formula::{Formula, NoMemory, Oracle};
-use crate::{LeftUnit, where_duplicate, where_no_main, where_undefined};
 use reduced_conditions::either;
 use std::alloc::Global;
 use type_tables::Tables;

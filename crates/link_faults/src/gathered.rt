@@ -11,9 +11,9 @@ ghost use Rattle.link_faults.specs.SeenUnits.{unit_seen, units_seen};
 ghost use Rattle.link_faults.specs.Gathered.{is_sort_so, meaning_so, some_declared};
 
 use crate::built_in::declared_by_header;
+use crate::{LeftUnit, declared};
 use cond_formula::{Formula, NoMemory};
 use conditional::{Guarded, Plain};
-use crate::{LeftUnit, declared};
 use reduced_conditions::both;
 use std::alloc::Global;
 use type_tables::{CondSignature, FileName, Sort};

@@ -1,4 +1,3 @@
-pub mod SameTypes
 pub mod SameOperands
 pub mod Answering
 pub mod Knowledge

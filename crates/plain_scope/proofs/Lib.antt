@@ -1,2 +1,3 @@
+pub mod SameTypes
 pub mod TypeFacts
 pub mod NameLemmas

@@ -1,12 +1,9 @@
 -- Where a configuration has a program, by what its units are and by how they are judged.
-use Rattle.std.proofs.Common.{◌≡◌, ℕ, Bool, true, false, ◌||◌, List, refl, sym, subst, ◌∙◌}
+use Rattle.std.proofs.Common.{◌≡◌, ℕ, Bool, true, false, ◌||◌, List, subst}
 use Rattle.text_edits.specs.Files.{PlainFile}
-use Rattle.cond_formula.specs.Conditions.{condition_of, value}
 use Rattle.c_tree.specs.Trees.{PlainTree}
 use Rattle.choice_trees.specs.declared.trees.Forest.{Forest}
-use Rattle.core_meaning.specs.Checking.{Checked, Binding, fine, refused, broken}
-use Rattle.core_meaning.specs.Program.{PlainProgram}
-use Rattle.core_meaning.specs.Linking.{Units, Links, judged_program, program_of, IsFault, IsElaborated}
+use Rattle.core_meaning.specs.Linking.{IsElaborated}
 use Rattle.bindings.specs.Laws.{AreWritten}
 use Rattle.project_file.specs.declared.projects.Project.{Project}
 use Rattle.project_file.specs.declared.projects.Unit.{Unit}
@@ -14,41 +11,10 @@ use Rattle.project_file.specs.View.{project_view}
 use Rattle.project_program.specs.declared.programs.Stage.TheVariants.{Preprocess, Parse}
 use Rattle.project_program.specs.Programs.{AreTrees}
 use Rattle.project_program.specs.Laws.{ProgramsAreOne}
-use Rattle.link_faults.specs.Faulty.{FailToLink}
-use Rattle.cond_types.specs.declared.typing.CondTypes.{CondTypes}
-use Rattle.cond_types.specs.Typed.{IsLinkable, IsTypedAs}
+use Rattle.cond_types.specs.Elaborated.{TellsElaborated}
 use Rattle.cond_scopes.specs.Units.{present_trees}
 use Rattle.project_check.specs.Parsed.{AreReadUnits}
-use Rattle.project_check.specs.Broken.{TellsElaborated, TellsProgram}
-
--- ---- trees
-
-module _ (on : ℕ → Bool) (trees : List PlainTree) (t : CondTypes) (unlinked : Bool) (fails : (linked : Units) → IsLinkable on linked t → unlinked ≡ true → FailToLink linked) (links : (linked : Units) → IsLinkable on linked t → unlinked ≡ false → Links linked) where
-  not_linked : (linked : Units) (bindings : List Binding) (program : PlainProgram) → judged_program trees ≡ fine linked bindings → FailToLink linked → IsElaborated trees program → ⊥
-  not_linked linked bindings program judged fault is =
-      let both : fine linked bindings ≡ fine is.linked is.bindings = sym judged ∙ is.judged in
-      let same : linked ≡ is.linked = cc in
-      let well = is.links in
-      well.no_fault fault.kind fault.name (subst (λ (l : Units). IsFault l fault.kind fault.name) same fault.fault)
-
-  judged_well : (u : Bool) (linked : Units) (bindings : List Binding) → unlinked ≡ u → judged_program trees ≡ fine linked bindings → IsLinkable on linked t → TellsElaborated u trees
-  judged_well true linked bindings e judged linkable = λ program is. not_linked linked bindings program judged (fails linked linkable e) is
-  judged_well false linked bindings e judged linkable =
-      (program_of trees linked, record { linked = linked; bindings = bindings; judged = judged; links = links linked linkable e; program = refl })
-
-  by_judgement : (j : Checked Units) → judged_program trees ≡ j → IsTypedAs on j t → TellsElaborated (value on (condition_of t.refused) || unlinked) trees
-  by_judgement (fine linked bindings) judged typed = subst (λ b. TellsElaborated (b || unlinked) trees) (sym typed.0) (judged_well unlinked linked bindings refl judged typed.1)
-  by_judgement (refused kind token) judged typed =
-      subst (λ b. TellsElaborated (b || unlinked) trees) (sym typed)
-      (λ program is. let both : refused kind token ≡ fine is.linked is.bindings = sym judged ∙ is.judged in cc)
-  by_judgement broken judged typed =
-      subst (λ b. TellsElaborated (b || unlinked) trees) (sym typed)
-      (λ program is. let both : ◌≡◌ {A = Checked Units} broken (fine is.linked is.bindings) = sym judged ∙ is.judged in cc)
-
-  pub tells_elaborated : IsTypedAs on (judged_program trees) t → TellsElaborated (value on (condition_of t.refused) || unlinked) trees
-  tells_elaborated typed = by_judgement (judged_program trees) refl typed
-
--- ---- projects
+use Rattle.project_check.specs.Broken.{TellsProgram}
 
 -- the same, of units and forests that are these
 pub at_these :

@@ -1,16 +1,9 @@
 -- Where a configuration has no program.
 use Rattle.std.specs.Prelude.{ℕ, Bool, true, false, List}
 use Rattle.text_edits.specs.Files.{PlainFile}
-use Rattle.c_tree.specs.Trees.{PlainTree}
 use Rattle.core_meaning.specs.Program.{PlainProgram}
-use Rattle.core_meaning.specs.Linking.{IsElaborated}
 use Rattle.project_file.specs.Projects.{PlainProject}
 use Rattle.project_program.specs.Programs.{IsProgram}
-
--- trees have no core program, or they have one
-abbrev pub TellsElaborated : Bool → List PlainTree → Type 0
-TellsElaborated true trees = (program : PlainProgram) → IsElaborated trees program → ⊥
-TellsElaborated false trees = (program : PlainProgram) × IsElaborated trees program
 
 -- a configuration has no program, or it has one
 abbrev pub TellsProgram : Bool → PlainProject → List PlainFile → (ℕ → Bool) → Type 0

@@ -3,58 +3,26 @@ ghost use Rattle.std.specs.Prelude.{◌≡◌, ◌<◌, ◌≤◌, List, Bool, l
 ghost use Rattle.text_edits.specs.Files.{plain_files};
 ghost use Rattle.cond_formula.specs.Features.{has};
 ghost use Rattle.cond_formula.specs.Conditions.{condition_of, value};
-ghost use Rattle.bindings.specs.Laws.{AreWritten};
 ghost use Rattle.project_file.specs.View.{project_view};
 ghost use Rattle.project_store.specs.Reads.{names_of};
-ghost use Rattle.cond_scopes.specs.Units.{present_trees};
-ghost use Rattle.project_check.specs.Broken.{TellsElaborated, TellsProgram};
+ghost use Rattle.project_check.specs.Broken.{TellsProgram};
 
-use c_tree::tokens_spell_one_unit;
-use choice_trees::Forest;
-use cond_formula::{Formula, NoMemory, Oracle};
-use cond_types::links;
 use crate::{ParsedUnits, parse_units};
-use cond_scopes::scopes;
-use cond_types::{CondTypes, types};
-use cond_units::FileItems;
+use c_tree::tokens_spell_one_unit;
+use cond_formula::{Formula, NoMemory, Oracle};
+use cond_types::where_not_elaborated;
 use plain_pp::outcomes_are_one;
-use project_file::{Project, Unit};
+use project_file::Project;
 use project_program::programs_are_one;
 use reduced_conditions::either;
 use std::alloc::Global;
 use text_edits::Files;
 use unit_outcomes::tokens_are_spelt;
 
-/// Where the trees of the units that are present have no core program: a type is refused, or they don't link.
-fn where_not_elaborated<F: FileItems, O: Oracle>(
-    alloc: Global,
-    oracle: &mut O,
-    file_items: &F,
-    units: &[Unit],
-    forests: &[Forest],
-) -> Result<Formula, NoMemory>
-    requires { length forests.now ≡ length units.now }
-    ensures kept { O.admits oracle.new ≡ O.admits oracle.old }
-    ensures exact { IfOk result (λ f. (c : List Bool) → IsTrue (value (has c) (O.admits oracle.old)) → AreWritten (present_trees (has c) units.now forests.now)
-        → TellsElaborated (value (has c) (condition_of f)) (present_trees (has c) units.now forests.now)) }
-{
-    let bindings = scopes(alloc, units, forests, oracle)?;
-    let found = types(alloc, oracle, file_items, units, forests, &bindings)?;
-    let linked = links(alloc, oracle, &found)?;
-    let CondTypes {
-        units: _,
-        tables: _,
-        refused: badly_typed,
-    } = found;
-    let f = either(alloc, badly_typed, linked.refused)?;
-    Ok(f)
-}
-
 /// Where the units that are present have no program.
-pub(crate) fn where_broken<F: FileItems, O: Oracle>(
+pub(crate) fn where_broken<O: Oracle>(
     alloc: Global,
     oracle: &mut O,
-    file_items: &F,
     project: &Project,
     files: &Files,
 ) -> Result<Formula, NoMemory>
@@ -70,13 +38,7 @@ pub(crate) fn where_broken<F: FileItems, O: Oracle>(
     tokens_spell_one_unit();
     tokens_are_spelt();
     let parsed = parse_units(alloc, project, files, oracle)?;
-    let badly_made = where_not_elaborated(
-        alloc,
-        oracle,
-        file_items,
-        &project.units,
-        &parsed.forests,
-    )?;
+    let badly_made = where_not_elaborated(alloc, oracle, &project.units, &parsed.forests)?;
     let ParsedUnits {
         forests: _,
         unread,

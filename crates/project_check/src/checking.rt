@@ -17,13 +17,11 @@ ghost use Rattle.project_check.specs.Checked.{IsChecked};
 use crate::broken::where_broken;
 use crate::outcomes::CheckOutcome;
 use cond_formula::{Config, Formula, NoMemory};
-use cond_units::FileItems;
 use feature_ranges::within_features;
 use project_file::Project;
 use project_program::{ProgramError, Stage, program, programs_are_one};
 use std::alloc::{AllocError, Global};
 use text_edits::Files;
-use cond_types::UnitItems;
 use verdict_query::{ModelOracle, Verdict, ask, fewer_features_suffice};
 
 /// The stage that refuses a configuration without a program.
@@ -68,9 +66,8 @@ fn least_of(alloc: Global, project: &Project, f: &Formula) -> Result<Option<Conf
 }
 
 /// Where a project has no program, over its own features: no configuration that it admits has another.
-fn where_products_broken<F: FileItems>(
+fn where_products_broken(
     alloc: Global,
-    file_items: &F,
     project: &Project,
     files: &Files,
 ) -> Result<Formula, NoMemory>
@@ -82,7 +79,7 @@ fn where_products_broken<F: FileItems>(
         → TellsProgram (value (has c) (condition_of f)) (project_view project.now) (plain_files files.now) (has c)) }
 {
     let mut oracle = ModelOracle::new(alloc, &project.model);
-    let anywhere = where_broken(alloc, &mut oracle, file_items, project, files)?;
+    let anywhere = where_broken(alloc, &mut oracle, project, files)?;
     let within = within_features(alloc, &anywhere, project.features.len())?;
     Ok(within)
 }
@@ -98,7 +95,7 @@ pub fn check(alloc: Global, project: &Project, files: &Files) -> Result<CheckOut
     ensures { IfOk result (IsChecked (project_view project.now) (plain_files files.now)) }
 {
     programs_are_one();
-    let broken = where_products_broken(alloc, &UnitItems, project, files)?;
+    let broken = where_products_broken(alloc, project, files)?;
     match least_of(alloc, project, &broken)? {
         None => Ok(CheckOutcome::Accepted),
         Some(c) => {

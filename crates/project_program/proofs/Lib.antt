@@ -1,3 +1,4 @@
 pub mod ListLaws
 pub mod StageLaws
 pub mod OneLaws
+pub mod AlikeProjects

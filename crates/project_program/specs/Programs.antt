@@ -1,5 +1,5 @@
 -- The program of a project in one configuration, or the stage that refuses it (ISO/IEC 9899:2011, 5.1.1.2).
-use Rattle.std.specs.Prelude.{ℕ, ◌+◌, Bool, List, [], ◌∷◌, Contains, if◌then◌else◌, ⊤}
+use Rattle.std.specs.Prelude.{ℕ, ◌+◌, Bool, List, [], ◌∷◌, codes, Contains, if◌then◌else◌, ⊤}
 use Rattle.std.specs.List.{AllZip}
 use Rattle.text_edits.specs.Files.{PlainFile}
 use Rattle.cond_formula.specs.Conditions.{value}
@@ -87,6 +87,13 @@ IsRefusedAt project files on Preprocess = IsNotPreprocessed project files on
 IsRefusedAt project files on Parse = IsNotParsed project files on
 IsRefusedAt project files on Types = IsNotTyped project files on
 IsRefusedAt project files on Link = IsNotLinked project files on
+
+-- the name of a stage of translation
+abbrev pub stage_name : Stage → List ℕ
+stage_name Preprocess = codes "preprocess"
+stage_name Parse = codes "parse"
+stage_name Types = codes "type"
+stage_name Link = codes "link"
 
 -- why there is no program
 abbrev pub WhyNone : PlainProject → List PlainFile → (ℕ → Bool) → ProgramError → Type 0

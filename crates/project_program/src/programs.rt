@@ -39,6 +39,22 @@ pub enum Stage {
     Link,
 }
 
+impl Stage {
+    ghost use Rattle.project_program.specs.Programs.{stage_name};
+
+    /// The word for the stage in what is printed.
+    pub fn name(self) -> &'static str
+        ensures { result.now ≡ stage_name self }
+    {
+        match self {
+            Stage::Preprocess => "preprocess",
+            Stage::Parse => "parse",
+            Stage::Types => "type",
+            Stage::Link => "link",
+        }
+    }
+}
+
 /// Why a configuration has no program.
 #[derive(Clone, Copy, Debug, PartialEq, Eq, Drop)]
 pub enum ProgramError {

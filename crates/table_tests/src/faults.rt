@@ -1,11 +1,11 @@
 use crate::fixtures::{A, NONE, tables, where_a};
+use cond_bindings::FileUse;
 use cond_formula::{Config, Formula, NoMemory};
-use cond_units::Definition;
 use conditional::CondList;
-use link_faults::{CondUse, LeftUnit, where_duplicate, where_no_main, where_undefined};
+use link_faults::{LeftUnit, where_duplicate, where_no_main, where_undefined};
 use std::alloc::Global;
 use std::test::Fail;
-use type_tables::Tables;
+use type_tables::{Definition, Tables};
 
 /// A tentative definition of `x`.
 fn definition(alloc: Global) -> Result<Definition, NoMemory> {
@@ -22,7 +22,7 @@ fn unit(alloc: Global, tables: &mut Tables) -> Result<LeftUnit, NoMemory> {
     defined.push(Formula::True, definition(alloc)?)?;
     let mut uses = Vec::with_capacity(alloc, 1)?;
     let name = Vec::from_slice(alloc, b"f")?;
-    uses.push(CondUse {
+    uses.push(FileUse {
         name,
         when: where_a(),
     })?;

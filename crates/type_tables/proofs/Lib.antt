@@ -10,3 +10,4 @@ pub mod Same
 pub mod StructSteps
 pub mod NameSteps
 pub mod Scalars
+pub mod LocalsAlone

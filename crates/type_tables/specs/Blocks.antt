@@ -13,3 +13,8 @@ pub record IsOutside (before : Tables) (o : Outside) : Type 0 where
 pub record KeepsOutside (before now : Tables) : Type 0 where
   pub since : List LocalName
   pub locals : now.locals.items ≡ before.locals.items ++ since
+
+-- nothing but locals has changed, and what was there before a block is still there
+pub record OnlyLocals (old new : Tables) : Type 0 where
+  pub same : new ≡ record old { locals = new.locals }
+  pub outside : (before : Tables) → KeepsOutside before old → KeepsOutside before new

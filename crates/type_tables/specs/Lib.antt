@@ -7,3 +7,4 @@ pub mod Steps
 pub mod Changes
 pub mod Blocks
 pub mod Questions
+pub mod Definitions

@@ -111,7 +111,7 @@ pub struct FileName {
     pub internal: bool,
 }
 
-#[tactic(auto, using(operand_rules::proofs::SameTypes::same_is))]
+#[tactic(auto, using(plain_scope::proofs::SameTypes::same_is))]
 fn is_equal_type(ty: &CType, other: &CType) -> bool
     ensures { IsTrue result → plain_type ty.now ≡ plain_type other.now }
 {

@@ -2,6 +2,7 @@
 #![tactic(auto)]
 
 mod blocks;
+mod definitions;
 mod entries;
 mod names;
 mod questions;
@@ -9,6 +10,7 @@ mod structs;
 mod tables;
 
 pub use blocks::Outside;
+pub use definitions::Definition;
 pub use entries::{
     CondName, CondSignature, CondStruct, DeclaredType, FileName, LocalName, Member, Sort,
 };

@@ -1,6 +1,6 @@
 use Rattle.std.proofs.Common.{Some, sym, ap, ◌∙◌}
 use Rattle.c_types.specs.Types.{plain_type}
-use Rattle.operand_rules.proofs.SameTypes.{same_is}
+use Rattle.plain_scope.proofs.SameTypes.{same_is}
 use Rattle.cond_initialisers.proofs.Numbered.{type_at}
 use Rattle.cond_initialisers.proofs.places.place_of.Goals as goal
 

@@ -5,7 +5,7 @@ use Rattle.conditional.specs.Entries.{seen}
 use Rattle.c_tree.specs.Trees.{none}
 use Rattle.choice_variants.specs.Variants.{before, variant_before, shown}
 use Rattle.type_tables.specs.Seen.{seen_tables}
-use Rattle.cond_statements.proofs.Locals.{nothing_changed, locals_again}
+use Rattle.type_tables.proofs.LocalsAlone.{nothing_changed, locals_again}
 use Rattle.cond_locals.specs.Declaring.{DeclaresLocals}
 use Rattle.conditional_steps.specs.Here.{Unchanged}
 use Rattle.conditional_steps.proofs.Alternatives.{unchanged, unchanged_beside, Alternates, alternates_begin, alternates_next, alternates_end}

@@ -5,7 +5,7 @@ use Rattle.conditional.specs.Entries.{seen}
 use Rattle.c_tree.specs.Trees.{PlainTrees, none}
 use Rattle.choice_variants.specs.Variants.{variant_before, shown}
 use Rattle.type_tables.specs.Seen.{seen_tables}
-use Rattle.cond_statements.specs.Following.{OnlyLocals}
+use Rattle.type_tables.specs.Blocks.{OnlyLocals}
 use Rattle.cond_locals.specs.Declaring.{DeclaresLocals}
 use Rattle.conditional_steps.specs.Here.{Unchanged}
 use Rattle.conditional_steps.proofs.Alternatives.{Alternates}

@@ -8,7 +8,7 @@ use Rattle.choice_trees.specs.ChoiceTrees.{plain_item, item_at}
 use Rattle.choice_expansions.specs.Expansions.{plain_expansion, expanded}
 use Rattle.core_meaning.specs.Declarations.{one_local}
 use Rattle.type_tables.specs.Seen.{seen_tables}
-use Rattle.cond_statements.proofs.Locals.{nothing_changed, locals_again}
+use Rattle.type_tables.proofs.LocalsAlone.{nothing_changed, locals_again}
 use Rattle.cond_locals.specs.Declaring.{IsInitialiser, Declares}
 use Rattle.conditional_steps.specs.Here.{Unchanged}
 use Rattle.conditional_steps.proofs.Alternatives.{unchanged, unchanged_beside, Alternates, alternates_begin, alternates_next, alternates_end}

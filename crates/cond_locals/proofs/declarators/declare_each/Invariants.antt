@@ -8,7 +8,7 @@ use Rattle.choice_trees.specs.ChoiceTrees.{plain_item, item_at}
 use Rattle.choice_expansions.specs.Expansions.{plain_expansion, expanded}
 use Rattle.core_meaning.specs.Declarations.{one_local}
 use Rattle.type_tables.specs.Seen.{seen_tables}
-use Rattle.cond_statements.specs.Following.{OnlyLocals}
+use Rattle.type_tables.specs.Blocks.{OnlyLocals}
 use Rattle.cond_locals.specs.Declaring.{IsInitialiser, Declares}
 use Rattle.conditional_steps.specs.Here.{Unchanged}
 use Rattle.conditional_steps.proofs.Alternatives.{Alternates}

@@ -10,7 +10,7 @@ use Rattle.declarator_lists.specs.Entries.{declarator_at, listed_at}
 use Rattle.declaration_readings.specs.Readings.{goes_on, goes_through, next_local}
 use Rattle.declaration_readings.proofs.Judged.{locals_read}
 use Rattle.type_tables.specs.Seen.{seen_tables}
-use Rattle.cond_statements.proofs.Locals.{nothing_changed, locals_again}
+use Rattle.type_tables.proofs.LocalsAlone.{nothing_changed, locals_again}
 use Rattle.conditional_steps.specs.Here.{Here}
 use Rattle.cond_locals.specs.Declaring.{IsInitialiser, Declares}
 use Rattle.conditional_steps.proofs.Alternatives.{unchanged, nothing_done}

@@ -15,7 +15,7 @@ use Rattle.declaration_readings.specs.Readings.{goes_through, next_local}
 use Rattle.type_tables.specs.Seen.{seen_tables}
 use Rattle.type_tables.specs.Follows.{IsThere, FollowsInBlock}
 use Rattle.cond_declarators.specs.Types.{ShowsType}
-use Rattle.cond_statements.specs.Following.{OnlyLocals}
+use Rattle.type_tables.specs.Blocks.{OnlyLocals}
 use Rattle.cond_locals.proofs.Walking.{WalksTo}
 use Rattle.cond_locals.proofs.lists.declare_each.Given as goal
 

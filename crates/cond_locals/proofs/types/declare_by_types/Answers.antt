@@ -8,7 +8,7 @@ use Rattle.c_types.specs.Types.{plain_type}
 use Rattle.choice_trees.specs.ChoiceTrees.{plain_item, item_at}
 use Rattle.type_tables.specs.Forms.{declared_type_form}
 use Rattle.type_tables.specs.Seen.{seen_tables}
-use Rattle.cond_statements.proofs.Locals.{nothing_changed, locals_again}
+use Rattle.type_tables.proofs.LocalsAlone.{nothing_changed, locals_again}
 use Rattle.cond_locals.specs.Declaring.{IsDeclared}
 use Rattle.conditional_steps.specs.Here.{Unchanged}
 use Rattle.conditional_steps.proofs.Alternatives.{unchanged, unchanged_beside, SoFar, ahead, nothing_done, next_done, all_done}

@@ -8,7 +8,7 @@ use Rattle.c_types.specs.Types.{PlainType}
 use Rattle.choice_trees.specs.ChoiceTrees.{plain_item, item_at}
 use Rattle.type_tables.specs.Forms.{declared_type_form}
 use Rattle.type_tables.specs.Seen.{seen_tables}
-use Rattle.cond_statements.specs.Following.{OnlyLocals}
+use Rattle.type_tables.specs.Blocks.{OnlyLocals}
 use Rattle.cond_locals.specs.Declaring.{IsDeclared}
 use Rattle.conditional_steps.specs.Here.{Unchanged}
 use Rattle.conditional_steps.proofs.Alternatives.{SoFar}

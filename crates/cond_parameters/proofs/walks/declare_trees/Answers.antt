@@ -8,7 +8,7 @@ use Rattle.type_tables.specs.Forms.{declared_type_form}
 use Rattle.type_tables.specs.Seen.{seen_tables}
 use Rattle.cond_parameters.specs.Parameters.{Declares}
 use Rattle.cond_parameters.specs.Readings.{Reading, nothing_read, goes_on}
-use Rattle.cond_statements.proofs.Locals.{nothing_changed, locals_again}
+use Rattle.type_tables.proofs.LocalsAlone.{nothing_changed, locals_again}
 use Rattle.cond_parameters.proofs.Seeing.{same_state, next_unseen}
 use Rattle.cond_parameters.proofs.Steps.{nothing_shown}
 use Rattle.cond_parameters.proofs.walks.declare_trees.Goals as goal

@@ -9,7 +9,7 @@ use Rattle.core_meaning.specs.Declarations.{with_block}
 use Rattle.core_meaning.specs.Entities.{Scope}
 use Rattle.type_tables.specs.Seen.{seen_tables}
 use Rattle.type_tables.specs.Numbers.{FollowsInBlockBy}
-use Rattle.cond_statements.specs.Following.{OnlyLocals}
+use Rattle.type_tables.specs.Blocks.{OnlyLocals}
 use Rattle.cond_parameters.specs.Readings.{Reading, nothing_read, goes_on}
 use Rattle.cond_parameters.specs.Walks.{state_of, IsStateOf}
 use Rattle.cond_parameters.proofs.Seeing.{a_state, UnseenFrom}

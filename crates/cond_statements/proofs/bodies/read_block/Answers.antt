@@ -7,7 +7,8 @@ use Rattle.statement_readings.specs.Laws.{starting}
 use Rattle.type_tables.specs.Seen.{seen_tables}
 use Rattle.cond_statements.specs.Ready.{Ready}
 use Rattle.cond_statements.specs.Readings.{Stand}
-use Rattle.cond_statements.proofs.Locals.{seen_same, body_closed}
+use Rattle.cond_statements.proofs.Locals.{body_closed}
+use Rattle.type_tables.proofs.LocalsAlone.{seen_same}
 use Rattle.cond_statements.proofs.DerivedParts.{block_ready}
 use Rattle.cond_statements.proofs.bodies.read_block.Goals as goal
 

@@ -23,7 +23,8 @@ use Rattle.cond_statements.specs.declared.roles.Role.TheVariants.{LeftOut, Decla
 use Rattle.cond_statements.specs.Ready.{IsExpression}
 use Rattle.cond_statements.specs.Readings.{turned_behind, Reads, ReadsBlock, Walks}
 use Rattle.cond_statements.proofs.Answering.{ok_two, ok_on, on_two}
-use Rattle.cond_statements.proofs.Locals.{nothing_changed, locals_again, seen_entered, seen_same, block_closed, closed_only}
+use Rattle.cond_statements.proofs.Locals.{seen_entered, block_closed, closed_only}
+use Rattle.type_tables.proofs.LocalsAlone.{nothing_changed, locals_again, seen_same}
 use Rattle.cond_statements.proofs.Judged.{same_absence}
 use Rattle.cond_statements.proofs.KindsOfNodes.{Plays, plays_role}
 use Rattle.cond_statements.proofs.Nodes.{declaration_read, absence_read, jump_read, is_expression_read, partwise_read, scoped_read}

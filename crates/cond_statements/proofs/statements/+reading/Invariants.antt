@@ -7,7 +7,7 @@ use Rattle.choice_trees.specs.ChoiceTrees.{plain_item, plain_branches, plain_cho
 use Rattle.choice_trees.specs.Depths.{depth, branches_depth, choices_depth}
 use Rattle.type_tables.specs.Forms.{declared_type_form}
 use Rattle.type_tables.specs.Seen.{seen_tables}
-use Rattle.cond_statements.specs.Following.{OnlyLocals}
+use Rattle.type_tables.specs.Blocks.{OnlyLocals}
 use Rattle.cond_statements.proofs.Choices.{ChoiceSoFar, PartsSoFar}
 use Rattle.cond_statements.proofs.statements.+reading.Given as goal
 

@@ -8,7 +8,8 @@ use Rattle.choice_trees.specs.ChoiceTrees.{plain_item, item_at}
 use Rattle.plain_objects.specs.PlainStates.{plain_storage}
 use Rattle.type_tables.specs.Seen.{seen_tables}
 use Rattle.cond_units.specs.Definitions.{definitions_of}
-use Rattle.cond_units.specs.Seen.{definition_form, seen_unit, initialiser_at}
+use Rattle.cond_units.specs.Seen.{seen_unit, initialiser_at}
+use Rattle.type_tables.specs.Definitions.{definition_form}
 use Rattle.cond_units.specs.Declaring.{Names}
 use Rattle.cond_units.proofs.Given.{still_given}
 use Rattle.cond_units.proofs.OneObject.{object_here}

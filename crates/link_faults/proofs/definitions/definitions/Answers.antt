@@ -1,6 +1,6 @@
 use Rattle.std.proofs.Common.{List, refl, subst}
 use Rattle.conditional.specs.declared.entries.Guarded.{Guarded}
-use Rattle.cond_units.specs.declared.units.Definition.{Definition}
+use Rattle.type_tables.specs.declared.definitions.Definition.{Definition}
 use Rattle.link_faults.specs.Several.{Count}
 use Rattle.link_faults.specs.SeenUnits.{unit_seen}
 use Rattle.link_faults.specs.Measures.{whole_in}

@@ -11,12 +11,12 @@ use Rattle.project_check.specs.Broken.{TellsProgram}
 use Rattle.project_check.proofs.checking.where_products_broken.Goals as goal
 
 pub returns-clause-below : goal.returns-clause-below
-returns-clause-below g c =
+returns-clause-below c =
     let many : c.len.result ≡ length c.args.project.now.features.items = search rules in
     subst (λ n. VarsBelow n (condition_of c.in_ok-within.within)) many c.in_ok-within.ensures.below
 
 pub returns-clause-tells : goal.returns-clause-tells
-returns-clause-tells g c = λ c' is.
+returns-clause-tells c = λ c' is.
     let many : c.len.result ≡ length c.args.project.now.features.items = search rules in
     let view = project_view c.args.project.now in
     let there : IsTrue (value (has c') (admitted c.new-oracle.result.model.now)) = ap (value (has c')) c.new-oracle.ensures ∙ is.admitted in

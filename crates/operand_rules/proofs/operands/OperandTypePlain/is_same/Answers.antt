@@ -2,7 +2,7 @@ use Rattle.std.proofs.Common.{rules, ◌≡◌, IsTrue, true}
 use Rattle.c_types.specs.Types.{plain_type}
 use Rattle.core_meaning.specs.Typing.{same_type}
 use Rattle.operand_rules.specs.PlainOperandTypes.{plain_category}
-use Rattle.operand_rules.proofs.SameTypes.{same_is}
+use Rattle.plain_scope.proofs.SameTypes.{same_is}
 use Rattle.operand_rules.proofs.SameOperands.{same_operands}
 use Rattle.operand_rules.proofs.operands.OperandTypePlain.is_same.Goals as goal
 

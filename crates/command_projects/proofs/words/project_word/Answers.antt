@@ -1,7 +1,7 @@
 use Rattle.std.proofs.Common.{◌∙◌, ap, map}
 use Rattle.std.specs.String.{string_bytes}
 use Rattle.command_promises.proofs.Items.{one_item}
-use Rattle.command_admit.proofs.words.project_word.Goals as goal
+use Rattle.command_projects.proofs.words.project_word.Goals as goal
 
 pub returns-in-len1 : goal.returns-in-len1
 returns-in-len1 c =

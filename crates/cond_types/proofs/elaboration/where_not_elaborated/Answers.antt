@@ -2,9 +2,9 @@ use Rattle.std.proofs.Common.{IsTrue, sym, ap, subst, ◌∙◌}
 use Rattle.cond_formula.specs.Features.{has}
 use Rattle.cond_formula.specs.Conditions.{condition_of, value}
 use Rattle.cond_scopes.specs.Units.{present_trees}
-use Rattle.project_check.specs.Broken.{TellsElaborated}
-use Rattle.project_check.proofs.BrokenLemmas.{tells_elaborated}
-use Rattle.project_check.proofs.broken.where_not_elaborated.Goals as goal
+use Rattle.cond_types.specs.Elaborated.{TellsElaborated}
+use Rattle.cond_types.proofs.NotElaborated.{tells_elaborated}
+use Rattle.cond_types.proofs.elaboration.where_not_elaborated.Goals as goal
 
 pub returns-clause-exact : goal.returns-clause-exact
 returns-clause-exact g c = λ c' admitted written.

@@ -1,8 +1,8 @@
 ghost use Rattle.std.specs.Prelude.{◌≡◌, ◌≢◌, MatchOption, map, ℕ, List, [], ◌∷◌};
 ghost use Rattle.std.specs.String.{string_bytes};
-ghost use Rattle.command_admit.specs.Admit as spec;
+ghost use Rattle.command_projects.specs.Names.{AsksProject};
 
-use command_projects::is_project_name;
+use crate::names::is_project_name;
 
 /// The further word, whatever it is.
 fn project_word(words: &[String]) -> Option<&str>
@@ -16,11 +16,11 @@ fn project_word(words: &[String]) -> Option<&str>
     }
 }
 
-/// The project file whose least configuration the further words ask for, if they ask for one.
-pub(crate) fn asked_project(words: &[String]) -> Option<&str>
+/// The project file that the further words ask for, if they are one word that can name it.
+pub fn asked_project(words: &[String]) -> Option<&str>
     ensures { MatchOption result
-        ((project : List ℕ) → spec.Asks (map string_bytes words.now) project → ⊥)
-        (λ project. spec.Asks (map string_bytes words.now) project.now) }
+        ((project : List ℕ) → AsksProject (map string_bytes words.now) project → ⊥)
+        (λ project. AsksProject (map string_bytes words.now) project.now) }
 {
     let project = project_word(words)?;
     if is_project_name(project.as_bytes()) {
