@@ -1,0 +1,9 @@
+pub mod SeamLemmas
+pub mod SpanLemmas
+pub mod TextLemmas
+pub mod OrderLemmas
+pub mod LongestLemmas
+pub mod ImageLemmas
+pub mod PieceLemmas
+pub mod LineLemmas
+pub mod RenameLemmas
