@@ -1,0 +1,5 @@
+mod Machines
+mod Heights
+mod Terminals
+mod Renamed
+mod Refused
