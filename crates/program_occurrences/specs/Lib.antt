@@ -1,0 +1,5 @@
+pub mod Occurrences
+pub mod Links
+pub mod Classes
+pub mod Laws
+pub mod Rows
