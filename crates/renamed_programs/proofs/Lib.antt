@@ -1,0 +1,17 @@
+pub mod Alike
+pub mod Tokens
+pub mod Scopes
+pub mod Operators
+pub mod Expressions
+pub mod Constants
+pub mod Declarators
+pub mod Locals
+pub mod Parameters
+pub mod Statements
+pub mod Units
+pub mod Items
+pub mod Texts
+pub mod Linking
+pub mod Listed
+pub mod Programs
+pub mod Examples

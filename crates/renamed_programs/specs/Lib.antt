@@ -1,0 +1,4 @@
+pub mod Trees
+pub mod Entities
+pub mod Laws
+pub mod Rows
