@@ -1,0 +1,14 @@
+pub mod Moves
+pub mod Words
+pub mod Operators
+pub mod Expressions
+pub mod Constants
+pub mod Declarators
+pub mod Locals
+pub mod Statements
+pub mod Units
+pub mod Items
+pub mod Programs
+pub mod Tokens
+pub mod Places
+pub mod Moved
