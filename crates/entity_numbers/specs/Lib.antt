@@ -1,0 +1,4 @@
+pub mod Numbered
+pub mod Firsts
+pub mod Slots
+pub mod Laws
