@@ -1,0 +1,5 @@
+mod Alike
+mod Over
+mod ReadTokens
+mod Places
+mod Products
