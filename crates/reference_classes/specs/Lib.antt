@@ -1,0 +1,4 @@
+pub mod Products
+pub mod Renamed
+pub mod Preconditions
+pub mod Laws
