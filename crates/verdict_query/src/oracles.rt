@@ -1,13 +1,91 @@
 //! The oracle of a model.
 
-ghost use Rattle.std.specs.Prelude.{◌≡◌};
+ghost use Rattle.std.specs.Prelude.{◌≡◌, ◌≤◌, ℕ, Bool, IsTrue, IfSome};
+ghost use Rattle.cond_formula.specs.Conditions.{condition_of, value, VarsBelow};
+ghost use Rattle.sat_core.specs.Models.{HasNoModel};
 ghost use Rattle.feature_model.specs.ModelView.{admitted};
+ghost use Rattle.verdict_query.specs.Verdicts.{where_admitted};
 
-use crate::questions::{Verdict, ask};
-use crate::ranges::is_in_range;
-use cond_formula::{Formula, May, Oracle};
+use crate::questions::where_both;
+use crate::ranges::is_within;
+use cond_formula::{Config, Formula, May, Oracle};
 use feature_model::Model;
+use sat_core::{Answer, solve};
 use std::alloc::Global;
+
+/// A number of features beyond which the formula names none, if a project may have so many. The solver decides each feature that
+/// it is asked over, so few are better; more than twice as many as are named is never answered from 8 on.
+fn features_of(f: &Formula) -> Option<u8>
+    ensures few { IfSome result (λ features. features ≤ 128) }
+    ensures below { IfSome result (λ features. VarsBelow features (condition_of f.now)) }
+{
+    if is_within(f, 4) {
+        return Some(4);
+    }
+    if is_within(f, 8) {
+        return Some(8);
+    }
+    if is_within(f, 16) {
+        return Some(16);
+    }
+    if is_within(f, 32) {
+        return Some(32);
+    }
+    if is_within(f, 64) {
+        return Some(64);
+    }
+    if is_within(f, 128) {
+        return Some(128);
+    }
+    None
+}
+
+/// Sets of features in which many formulas are true that are true anywhere: none, all, and every other one, pair or four.
+const TRIED: [u128; 8] = [
+    0,
+    u128::MAX,
+    0x5555_5555_5555_5555_5555_5555_5555_5555,
+    0xaaaa_aaaa_aaaa_aaaa_aaaa_aaaa_aaaa_aaaa,
+    0x3333_3333_3333_3333_3333_3333_3333_3333,
+    0xcccc_cccc_cccc_cccc_cccc_cccc_cccc_cccc,
+    0x0f0f_0f0f_0f0f_0f0f_0f0f_0f0f_0f0f_0f0f,
+    0xf0f0_f0f0_f0f0_f0f0_f0f0_f0f0_f0f0_f0f0,
+];
+
+/// Whether the formula is true in one of the sets that are tried, which saves the solver most questions.
+fn is_found_true(f: &Formula) -> bool
+    ensures { IsTrue result → (on : ℕ → Bool) × IsTrue (value on (condition_of f.now)) }
+{
+    for bits in TRIED {
+        if f.value(Config { bits }) {
+            return true;
+        }
+    }
+    false
+}
+
+/// Whether the solver has a refutation of the formula.
+fn is_refuted(alloc: Global, f: &Formula) -> bool
+    ensures { IsTrue result → HasNoModel (condition_of f.now) }
+{
+    if is_found_true(f) {
+        return false;
+    }
+    match features_of(f) {
+        Some(features) => matches!(solve(alloc, f, features), Answer::Unsat(_)),
+        None => false,
+    }
+}
+
+/// Whether it is refuted that the formula is true in a configuration that the model admits.
+fn is_never(alloc: Global, model: &Model, f: &Formula) -> bool
+    ensures { IsTrue result → HasNoModel (where_admitted (admitted model.now) (condition_of f.now)) }
+{
+    match where_both(alloc, model, f) {
+        Ok(both) => is_refuted(alloc, &both),
+        Err(_) => false,
+    }
+}
 
 /// The oracle that admits the configurations of a model. It says `No` only where it has a refutation; where memory ends, or a
 /// formula names what is no feature, it says `Maybe`.
@@ -30,12 +108,10 @@ impl Oracle for ModelOracle<'_> {
     ghost admits = { λ oracle. admitted oracle.model.now };
 
     fn may(&mut self, f: &Formula) -> May {
-        if !is_in_range(self.model.formula()) || !is_in_range(f) {
-            return May::Maybe;
-        }
-        match ask(self.alloc, self.model, f) {
-            Verdict::Never(_) => May::No,
-            Verdict::Least(_) | Verdict::Memory => May::Maybe,
+        if is_never(self.alloc, self.model, f) {
+            May::No
+        } else {
+            May::Maybe
         }
     }
 }

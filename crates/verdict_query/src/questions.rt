@@ -28,7 +28,7 @@ pub enum Verdict {
 
 /// The formula that is true in the configurations that the model admits and in which the other is true.
 #[tactic(auto, using(cond_formula::specs::ConditionLaws::formula_kinds))]
-fn where_both(alloc: Global, model: &Model, when: &Formula) -> Result<Formula, NoMemory>
+pub(crate) fn where_both(alloc: Global, model: &Model, when: &Formula) -> Result<Formula, NoMemory>
     ensures { IfOk result (λ f. condition_of f ≡ where_admitted (admitted model.now) (condition_of when.now)) }
 {
     let admitted = model.formula().try_clone(alloc)?;

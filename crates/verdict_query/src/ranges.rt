@@ -5,26 +5,26 @@ ghost use Rattle.cond_formula.specs.Conditions.{condition_of, conditions_of, Var
 
 use cond_formula::Formula;
 
-/// Whether each variable is one of the features that a project may have.
+/// Whether the formula names no feature but the first so many.
 #[cycle(ranges)]
 #[tactic(auto, using(cond_formula::specs::ConditionLaws::formula_kinds))]
-pub(crate) fn is_in_range(f: &Formula) -> bool
-    ensures { IsTrue result → VarsBelow 128 (condition_of f.now) }
+pub(crate) fn is_within(f: &Formula, features: u8) -> bool
+    ensures { IsTrue result → VarsBelow features (condition_of f.now) }
 {
     match f {
         Formula::True | Formula::False => true,
-        Formula::Var(feature) => *feature < 128,
-        Formula::Not(inner) => is_in_range(inner),
-        Formula::And(parts) | Formula::Or(parts) => are_in_range(parts),
+        Formula::Var(feature) => *feature < features,
+        Formula::Not(inner) => is_within(inner, features),
+        Formula::And(parts) | Formula::Or(parts) => are_within(parts, features),
     }
 }
 
 #[cycle(ranges)]
-fn are_in_range(parts: &[Formula]) -> bool
-    ensures { IsTrue result → AllVarsBelow 128 (conditions_of parts.now) }
+fn are_within(parts: &[Formula], features: u8) -> bool
+    ensures { IsTrue result → AllVarsBelow features (conditions_of parts.now) }
 {
     for part in parts {
-        if !is_in_range(part) {
+        if !is_within(part, features) {
             return false;
         }
     }
