@@ -20,6 +20,7 @@ use cond_formula::{Config, Formula, NoMemory};
 use feature_ranges::within_features;
 use project_file::Project;
 use project_program::{ProgramError, Stage, program, programs_are_one};
+use refuted_parts::without_refuted;
 use std::alloc::{AllocError, Global};
 use text_edits::Files;
 use verdict_query::{ModelOracle, Verdict, ask, fewer_features_suffice};
@@ -80,7 +81,8 @@ fn where_products_broken(
 {
     let mut oracle = ModelOracle::new(alloc, &project.model);
     let anywhere = where_broken(alloc, &mut oracle, project, files)?;
-    let within = within_features(alloc, &anywhere, project.features.len())?;
+    let live = without_refuted(alloc, &mut oracle, &anywhere)?;
+    let within = within_features(alloc, &live, project.features.len())?;
     Ok(within)
 }
 

@@ -21,4 +21,4 @@ returns-clause-tells c = λ c' is.
     let view = project_view c.args.project.now in
     let there : IsTrue (value (has c') (admitted c.new-oracle.result.model.now)) = ap (value (has c')) c.new-oracle.ensures ∙ is.admitted in
     let off : IsOffFrom c.len.result (has c') = λ feature h. is.within feature (omega (arith, h, many, length-map c.args.project.now.features.items string_bytes)) in
-    subst (λ b. TellsProgram b view (plain_files c.args.files.now) (has c')) (sym (c.in_ok-within.ensures.same (has c') off)) (c.in_ok-anywhere.ensures.exact c' there)
+    subst (λ b. TellsProgram b view (plain_files c.args.files.now) (has c')) (sym (c.in_ok-within.ensures.same (has c') off ∙ c.in_ok-live.ensures.same c' (ap (value (has c')) c.in_ok-anywhere.ensures.kept ∙ there))) (c.in_ok-anywhere.ensures.exact c' there)
