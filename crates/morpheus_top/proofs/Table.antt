@@ -16,8 +16,9 @@ use Rattle.command_quick.specs.Quick.{quick}
 use Rattle.command_admit.specs.Admit.{admit}
 use Rattle.command_tokens.specs.Tokens.{tokens}
 use Rattle.command_run.specs.Run.{run}
+use Rattle.command_check.specs.Check.{check}
 use Rattle.morpheus_top.specs.declared.commands.Which.{Which}
-use Rattle.morpheus_top.specs.declared.commands.Which.TheVariants.{Quick, Admit, Tokens, Run}
+use Rattle.morpheus_top.specs.declared.commands.Which.TheVariants.{Quick, Admit, Tokens, Run, Check}
 use Rattle.morpheus_top.specs.Commands.{commands, program}
 
 -- the command with the word
@@ -26,13 +27,15 @@ with_word word =
     if bytes_eq word (codes "quick") then Some Quick
     else (if bytes_eq word (codes "admit") then Some Admit
     else (if bytes_eq word (codes "tokens") then Some Tokens
-    else (if bytes_eq word (codes "run") then Some Run else None)))
+    else (if bytes_eq word (codes "run") then Some Run
+    else (if bytes_eq word (codes "check") then Some Check else None))))
 
 is_with : (which : Which) → with_word (commands which).word ≡ Some which
 is_with Quick = refl
 is_with Admit = refl
 is_with Tokens = refl
 is_with Run = refl
+is_with Check = refl
 
 same : (a b : Which) → ◌≡◌ {A = Option Which} (Some a) (Some b) → a ≡ b
 same a b e = cc
@@ -42,42 +45,48 @@ apart a b e = same a b (sym (is_with a) ∙ (ap with_word e ∙ is_with b))
 
 pub listed : (which : Which) (n : ℕ) → Contains (commands which).statuses n → Contains program.statuses n
 listed Quick n (zero, less, e) = (0, omega arith, e)
-listed Quick n (suc zero, less, e) = (6, omega arith, e)
+listed Quick n (suc zero, less, e) = (7, omega arith, e)
 listed Quick n (suc (suc k), less, e) = absurd (omega (arith, less))
 listed Admit n (zero, less, e) = (0, omega arith, e)
-listed Admit n (suc zero, less, e) = (2, omega arith, e)
+listed Admit n (suc zero, less, e) = (3, omega arith, e)
 listed Admit n (suc (suc k), less, e) = absurd (omega (arith, less))
 listed Tokens n (zero, less, e) = (0, omega arith, e)
-listed Tokens n (suc zero, less, e) = (1, omega arith, e)
-listed Tokens n (suc (suc zero), less, e) = (2, omega arith, e)
-listed Tokens n (suc (suc (suc zero)), less, e) = (3, omega arith, e)
+listed Tokens n (suc zero, less, e) = (2, omega arith, e)
+listed Tokens n (suc (suc zero), less, e) = (3, omega arith, e)
+listed Tokens n (suc (suc (suc zero)), less, e) = (4, omega arith, e)
 listed Tokens n (suc (suc (suc (suc k))), less, e) = absurd (omega (arith, less))
 listed Run n (zero, less, e) = (0, omega arith, e)
-listed Run n (suc zero, less, e) = (1, omega arith, e)
-listed Run n (suc (suc zero), less, e) = (2, omega arith, e)
-listed Run n (suc (suc (suc zero)), less, e) = (3, omega arith, e)
-listed Run n (suc (suc (suc (suc zero))), less, e) = (4, omega arith, e)
-listed Run n (suc (suc (suc (suc (suc zero)))), less, e) = (5, omega arith, e)
+listed Run n (suc zero, less, e) = (2, omega arith, e)
+listed Run n (suc (suc zero), less, e) = (3, omega arith, e)
+listed Run n (suc (suc (suc zero)), less, e) = (4, omega arith, e)
+listed Run n (suc (suc (suc (suc zero))), less, e) = (5, omega arith, e)
+listed Run n (suc (suc (suc (suc (suc zero)))), less, e) = (6, omega arith, e)
 listed Run n (suc (suc (suc (suc (suc (suc k))))), less, e) = absurd (omega (arith, less))
+listed Check n (zero, less, e) = (0, omega arith, e)
+listed Check n (suc zero, less, e) = (1, omega arith, e)
+listed Check n (suc (suc zero), less, e) = (3, omega arith, e)
+listed Check n (suc (suc (suc k)), less, e) = absurd (omega (arith, less))
 
-pub all_decided : IsDecidedCommand quick → IsDecidedCommand admit → IsDecidedCommand tokens → IsDecidedCommand run → (which : Which) → IsDecidedCommand (commands which)
-all_decided a b c d Quick = a
-all_decided a b c d Admit = b
-all_decided a b c d Tokens = c
-all_decided a b c d Run = d
+pub all_decided : IsDecidedCommand quick → IsDecidedCommand admit → IsDecidedCommand tokens → IsDecidedCommand run → IsDecidedCommand check → (which : Which) → IsDecidedCommand (commands which)
+all_decided a b c d e Quick = a
+all_decided a b c d e Admit = b
+all_decided a b c d e Tokens = c
+all_decided a b c d e Run = d
+all_decided a b c d e Check = e
 
 -- a word that is that of none
-pub none_named : (word : List ℕ) → word ≢ codes "quick" → word ≢ codes "admit" → word ≢ codes "tokens" → word ≢ codes "run" → (which : Which) → word ≢ (commands which).word
-none_named word a b c d Quick = a
-none_named word a b c d Admit = b
-none_named word a b c d Tokens = c
-none_named word a b c d Run = d
+pub none_named : (word : List ℕ) → word ≢ codes "quick" → word ≢ codes "admit" → word ≢ codes "tokens" → word ≢ codes "run" → word ≢ codes "check" → (which : Which) → word ≢ (commands which).word
+none_named word a b c d e Quick = a
+none_named word a b c d e Admit = b
+none_named word a b c d e Tokens = c
+none_named word a b c d e Run = d
+none_named word a b c d e Check = e
 
 -- what holds of every call
 pub whole : (before after : StoreState) (sink sink' : SinkState) (status : ℕ) (words : List (List ℕ)) → ((which : Which) → IsDecidedCommand (commands which)) → Answers (CourseOf commands words) before after sink sink' status
     → Promises program words before after sink sink' status
 whole before after sink sink' status words decided answer =
-    promised program (decided_all commands decided apart program.statuses listed (1, omega arith, refl)) words before after sink sink' status answer
+    promised program (decided_all commands decided apart program.statuses listed (2, omega arith, refl)) words before after sink sink' status answer
 
 -- the renamed file that `quick` wrote
 pub behaves : RenamingKeepsBehaviour → (words : List (List ℕ)) (r : Renaming) → Asked quick words r → (before after : StoreState) (sink sink' : SinkState) (status : ℕ) → before.tells → status ≡ 0

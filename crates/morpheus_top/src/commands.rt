@@ -12,6 +12,8 @@ pub enum Which {
     Tokens,
     /// The run of one product.
     Run,
+    /// Whether all products of a project are accepted.
+    Check,
 }
 
 /// The command that the word names.
@@ -31,6 +33,9 @@ pub(crate) fn named(word: &str) -> Option<Which>
     }
     if word == "run" {
         return Some(Which::Run);
+    }
+    if word == "check" {
+        return Some(Which::Check);
     }
     None
 }

@@ -1,6 +1,7 @@
 //! A law of all commands, with no code.
 ghost use Rattle.morpheus_top.specs.Laws.{CallsConclude};
 
+use command_check::check_concludes;
 use command_outcomes::{admit_concludes, quick_concludes, tokens_conclude};
 use run_outcomes::run_concludes;
 
@@ -12,4 +13,5 @@ pub fn calls_conclude()
     admit_concludes();
     tokens_conclude();
     run_concludes();
+    check_concludes();
 }

@@ -15,11 +15,13 @@ ghost use Rattle.command_tokens.specs.Words.{UnitQuery};
 ghost use Rattle.command_tokens.specs.Tokens as tokens;
 ghost use Rattle.command_run.specs.Words.{RunQuery};
 ghost use Rattle.command_run.specs.Run as run;
+ghost use Rattle.command_check.specs.Check as check;
 ghost use Rattle.morpheus_top.specs.Commands.{commands, program, IsUsage};
 
 use crate::commands::{Which, named};
 use crate::laws::calls_conclude;
 use command_admit::{admit, admit_is_decided};
+use command_check::{check, check_is_decided};
 use command_promises::{Said, Stop, finish, usage};
 use command_quick::{quick, quick_is_decided};
 use command_run::{run, run_is_decided};
@@ -44,6 +46,7 @@ fn carried_out<S: Store>(
         Which::Admit => admit(alloc, further, store),
         Which::Tokens => tokens(alloc, further, store),
         Which::Run => run(alloc, further, store),
+        Which::Check => check(alloc, further, store),
     }
 }
 
@@ -92,7 +95,7 @@ fn serve<S: Store, K: Sink>(alloc: Global, words: &[String], store: &mut S, out:
 
 /// Carries out a command over a store, gives its report to a sink, and answers the exit status.
 ///
-/// `words` are those after the program's name. The statuses are 0 where the command succeeded,
+/// `words` are those after the program's name. The statuses are 0 where the command succeeded, 1 `broken STAGE at NAMES`,
 /// 2 `usage`, 3 `read fault`, 4 `write fault`, 5 `bad project: FAULT`, 6 where the sink failed, 7 `want of memory`,
 /// 9 `not admitted`, `not present` or `not accepted STAGE`, 10 `undefined` and 11 `running` behind what a run put out, and
 /// 12 `not quick at OFFSET`. Only want of memory may come at any time before the first write.
@@ -120,6 +123,8 @@ pub fn morpheus<S: Store, K: Sink>(
         → Promises tokens.tokens q (S.state store.old) (S.state store.new) (K.state out.old) (K.state out.new) result }
     ensures run { (q : RunQuery) → Asked run.run (map string_bytes words.now) q
         → Promises run.run q (S.state store.old) (S.state store.new) (K.state out.old) (K.state out.new) result }
+    ensures check { (project : List ℕ) → Asked check.check (map string_bytes words.now) project
+        → Promises check.check project (S.state store.old) (S.state store.new) (K.state out.old) (K.state out.new) result }
 
     // Every product of the file that `quick` writes behaves as that of the file that was read.
     ensures behaviour { result ≡ 0 → (S.state store.old).tells → (r : Renaming) → Asked quick.quick (map string_bytes words.now) r
@@ -130,6 +135,7 @@ pub fn morpheus<S: Store, K: Sink>(
     admit_is_decided();
     tokens_are_decided();
     run_is_decided();
+    check_is_decided();
     renaming_keeps_behaviour();
     calls_conclude();
     serve(alloc, words, store, out)

@@ -9,6 +9,8 @@ use text_edits::{Files, SourceFile};
 pub enum Output {
     /// The bytes of `OUT/FILE`, where the status is 0.
     Written,
+    /// How many files it writes, and their names and bytes.
+    Files,
     /// Nothing: the command writes no file.
     Nothing,
 }
@@ -20,10 +22,10 @@ pub struct Case {
     pub words: Vec<String>,
     pub status: u8,
     pub printed: Vec<u8>,
-    /// The name under which the command may write.
+    /// The name under which `quick` may write.
     pub target: Option<String>,
-    /// What is written there, if anything is.
-    pub written: Option<Vec<u8>>,
+    /// What is written.
+    pub written: Files,
     pub label: String,
 }
 
@@ -37,11 +39,14 @@ impl Case {
         let printed = fields.bytes(alloc)?;
         let target = match output {
             Output::Written => target_name(alloc, &words)?,
-            Output::Nothing => None,
+            Output::Files | Output::Nothing => None,
         };
         let written = match output {
-            Output::Written => Some(fields.bytes(alloc)?).filter(|_| status == 0),
-            Output::Nothing => None,
+            Output::Written => read_target(alloc, &mut fields, &target, status)?,
+            Output::Files => read_files(alloc, &mut fields)?,
+            Output::Nothing => Files {
+                list: Vec::new(alloc),
+            },
         };
         let label = fields.text(alloc)?;
         fields.end()?;
@@ -56,24 +61,10 @@ impl Case {
         })
     }
 
-    /// Whether the command writes under the name.
-    fn writes(&self, name: &str) -> bool {
-        match &self.target {
-            Some(target) => target.as_str() == name && self.written.is_some(),
-            None => false,
-        }
-    }
-
     /// What is wanted under the name after the command, if anything.
     pub fn wanted_at(&self, name: &str) -> Option<&[u8]> {
-        if self.writes(name) {
-            return self.written.as_ref().map(|bytes| bytes.as_slice());
-        }
-        let file = self
-            .files
-            .list
-            .iter()
-            .find(|file| file.name.as_str() == name)?;
+        let mut files = self.written.list.iter().chain(self.files.list.iter());
+        let file = files.find(|file| file.name.as_str() == name)?;
         Some(file.bytes.as_slice())
     }
 }
@@ -106,6 +97,24 @@ fn target_name(alloc: Global, words: &[String]) -> Result<Option<String>, AllocE
         (Some(file), Some(out)) => Ok(Some(format!(in alloc; "{out}/{file}")?)),
         _ => Ok(None),
     }
+}
+
+/// What `quick` writes: one file, where the status is 0.
+fn read_target(
+    alloc: Global,
+    fields: &mut Fields<'_>,
+    target: &Option<String>,
+    status: u8,
+) -> Result<Files, LineError> {
+    let bytes = fields.bytes(alloc)?;
+    let mut list = Vec::new(alloc);
+    if let Some(name) = target
+        && status == 0
+    {
+        let name = name.clone()?;
+        list.push(SourceFile { name, bytes })?;
+    }
+    Ok(Files { list })
 }
 
 /// A second copy of the files.

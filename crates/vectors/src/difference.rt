@@ -63,14 +63,13 @@ fn file_difference(
     }))
 }
 
-/// How the store differs under the names that it had, and then under the one where the command
-/// may write.
+/// How the store differs under the names that it had, under those that are written, and then under the one where `quick` may write.
 fn store_difference(
     alloc: Global,
     case: &Case,
     answer: &Answer,
 ) -> Result<Option<Difference>, AllocError> {
-    for file in &case.files.list {
+    for file in case.files.list.iter().chain(case.written.list.iter()) {
         let difference = file_difference(alloc, case, answer, file.name.as_str())?;
         if difference.is_some() {
             return Ok(difference);

@@ -16,7 +16,7 @@ pub(crate) struct Suite {
 }
 
 /// All vectors.
-pub(crate) const SUITES: [Suite; 4] = [
+pub(crate) const SUITES: [Suite; 6] = [
     Suite {
         command: "quick",
         file: "quick.tsv",
@@ -36,6 +36,16 @@ pub(crate) const SUITES: [Suite; 4] = [
         command: "run",
         file: "run.tsv",
         output: Output::Nothing,
+    },
+    Suite {
+        command: "check",
+        file: "check.tsv",
+        output: Output::Files,
+    },
+    Suite {
+        command: "worked rows of check",
+        file: "check_rows.tsv",
+        output: Output::Files,
     },
 ];
 

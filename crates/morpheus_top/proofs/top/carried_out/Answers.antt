@@ -21,3 +21,7 @@ returns-in-Tokens-clause-came g c =
 pub returns-in-Run-clause-came : goal.returns-in-Run-clause-came
 returns-in-Run-clause-came g c =
     subst (λ (which : Which). CameTo (CourseFor (commands which) (map string_bytes c.args.further.now)) (g.S.Store.state c.args.store.now) c.run.result) (sym c.in-Run.is) c.run.ensures.came
+
+pub returns-in-Check-clause-came : goal.returns-in-Check-clause-came
+returns-in-Check-clause-came g c =
+    subst (λ (which : Which). CameTo (CourseFor (commands which) (map string_bytes c.args.further.now)) (g.S.Store.state c.args.store.now) c.check.result) (sym c.in-Check.is) c.check.ensures.came
