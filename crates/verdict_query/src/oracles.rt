@@ -14,7 +14,7 @@ use sat_core::{Answer, solve};
 use std::alloc::Global;
 
 /// A number of features beyond which the formula names none, if a project may have so many. The solver decides each feature that
-/// it is asked over, so few are better; more than twice as many as are named is never answered from 8 on.
+/// it is asked over, so few are better: from 4 on it is the least power of two above the number of each feature that is named.
 fn features_of(f: &Formula) -> Option<u8>
     ensures few { IfSome result (λ features. features ≤ 128) }
     ensures below { IfSome result (λ features. VarsBelow features (condition_of f.now)) }
