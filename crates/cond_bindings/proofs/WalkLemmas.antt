@@ -50,7 +50,7 @@ none_of_both : (a b : Option ℕ) → is_none (or_else a b) ≡ (is_none a && is
 none_of_both None b = refl
 none_of_both (Some n) b = refl
 
-innermost_is_none : (on : ℕ → Bool) (vs : List Visible) → is_none (innermost on vs) ≡ none_there on vs
+pub innermost_is_none : (on : ℕ → Bool) (vs : List Visible) → is_none (innermost on vs) ≡ none_there on vs
 innermost_is_none on [] = refl
 innermost_is_none on (v ∷ outer) = one (value on v.when) (innermost on outer) ∙ ap (λ b. not (value on v.when) && b) (innermost_is_none on outer)
   where
