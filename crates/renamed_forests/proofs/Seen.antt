@@ -28,7 +28,7 @@ module _ (class : List FileToken) (name : List ℕ) (on : ℕ → Bool) where
     branches_seen false no_branch parts others same = same
     branches_seen needed (branch when item rest) parts others same =
         elim (value on when) as (λ holds. with_part needed (if holds then Some (item_at on (renamed_item class name item)) else branch_at on (renamed_branches class name rest)) others
-            ≡ renamed_trees class name (with_part needed (if holds then Some (item_at on item) else branch_at on rest) parts)) [
+        ≡ renamed_trees class name (with_part needed (if holds then Some (item_at on item) else branch_at on rest) parts)) [
           | true ↦ ap (λ t. more t others) (item_seen item) ∙ ap (more (renamed_tree class name (item_at on item))) same
           | false ↦ branches_seen needed rest parts others same
         ]
@@ -52,7 +52,7 @@ module _ (class : List FileToken) (name : List ℕ) (on : ℕ → Bool) where
     branches_told false no_branch leaves others same = same
     branches_told needed (branch when item rest) leaves others same =
         elim (value on when) as (λ holds. (if holds then item_leaves on (renamed_item class name item) others else branch_leaves on needed (renamed_branches class name rest) others)
-            ≡ all (if holds then item_leaves on item leaves else branch_leaves on needed rest leaves)) [
+        ≡ all (if holds then item_leaves on item leaves else branch_leaves on needed rest leaves)) [
           | true ↦ ap (item_leaves on (renamed_item class name item)) same ∙ item_told item leaves
           | false ↦ branches_told needed rest leaves others same
         ]
