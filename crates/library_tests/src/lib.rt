@@ -12,6 +12,8 @@ mod paths;
 #[cfg(test)]
 mod refutations;
 #[cfg(test)]
+mod renamings;
+#[cfg(test)]
 mod spans;
 #[cfg(test)]
 mod states;

@@ -3,8 +3,9 @@
 use anyhow::Result;
 use choice_parser::parse_all;
 use choice_trees::Forest;
-use cond_bindings::{CondBindings, Identifier, Meaning, UnitBindings};
+use cond_bindings::{CondBindings, Identifier, UnitBindings};
 use cond_formula::{Config, PlainOracle};
+use cond_pairings::{CondPairing, pairings};
 use cond_scopes::scopes;
 use cond_tokens::CondStream;
 use project_store::Project;
@@ -22,54 +23,20 @@ fn forests_of(alloc: Global, streams: &[CondStream]) -> Result<Vec<Forest>, Allo
     Ok(forests)
 }
 
-/// The declarations from one on that the configuration sees, the latest first.
-fn visible(
-    alloc: Global,
-    unit: &UnitBindings,
-    latest: Option<u32>,
-    c: Config,
-) -> Result<Vec<u32>, AllocError> {
-    let mut numbers = Vec::new(alloc);
-    let mut place = latest;
-    for _ in 0..unit.declarations.len() {
-        let Some(found) = place else {
-            break;
-        };
-        let Some(declaration) = unit.declarations.get(found as usize) else {
-            break;
-        };
-        if declaration.when.value(c) {
-            numbers.push(declaration.number)?;
-        }
-        place = declaration.hides;
-    }
-    Ok(numbers)
-}
-
-/// The number of the token that declares an identifier, if it is declared.
-fn declared_by(
-    alloc: Global,
-    unit: &UnitBindings,
-    identifier: &Identifier,
-    c: Config,
-) -> Result<Option<u32>, AllocError> {
-    match identifier.meaning {
-        Meaning::Use(block, file) => {
-            let innermost = visible(alloc, unit, block, c)?.first().copied();
-            let first = visible(alloc, unit, file, c)?.last().copied();
-            Ok(innermost.or(first))
-        }
-        Meaning::Declares(earlier) => {
-            let first = visible(alloc, unit, earlier, c)?.last().copied();
-            Ok(Some(first.unwrap_or(identifier.number)))
+/// The number of the token that declares an identifier in the configuration, if it is declared there.
+fn declared_by(pairs: &[CondPairing], identifier: &Identifier, c: Config) -> Option<u32> {
+    for pair in pairs {
+        if pair.identifier == identifier.number && pair.when.value(c) {
+            return Some(pair.declared_by);
         }
     }
+    None
 }
 
 /// Prints an identifier with the numbers of its token and of the token that declares it.
 fn show_identifier<R: Print + AllocGlobal>(
     rt: &R,
-    unit: &UnitBindings,
+    pairs: &[CondPairing],
     identifier: &Identifier,
     stream: &CondStream,
     c: Config,
@@ -80,7 +47,7 @@ fn show_identifier<R: Print + AllocGlobal>(
         let text = String::from_utf8_lossy(alloc, &entry.token.text)?;
         print!(rt; " {text}@{number}")?;
     }
-    match declared_by(alloc, unit, identifier, c)? {
+    match declared_by(pairs, identifier, c) {
         Some(by) => print!(rt; ":{by}")?,
         None => print!(rt; ":undeclared")?,
     }
@@ -94,9 +61,11 @@ fn show_unit<R: Print + AllocGlobal>(
     stream: &CondStream,
     c: Config,
 ) -> Result<()> {
+    let alloc: Global = rt.alloc();
+    let pairs = pairings(alloc, unit)?;
     for identifier in &unit.identifiers {
         if identifier.when.value(c) {
-            show_identifier(rt, unit, identifier, stream, c)?;
+            show_identifier(rt, &pairs, identifier, stream, c)?;
         }
     }
     Ok(())
