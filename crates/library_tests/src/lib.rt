@@ -8,11 +8,11 @@ mod formulas;
 #[cfg(test)]
 mod heights;
 #[cfg(test)]
+mod new_names;
+#[cfg(test)]
 mod paths;
 #[cfg(test)]
 mod refutations;
-#[cfg(test)]
-mod renamings;
 #[cfg(test)]
 mod spans;
 #[cfg(test)]
