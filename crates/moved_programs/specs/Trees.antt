@@ -3,7 +3,9 @@ use Rattle.std.specs.Prelude.{◌≡◌, List, []}
 use Rattle.std.specs.List.{Contains}
 use Rattle.c_text.specs.Token.{PlainToken}
 use Rattle.c_tree.specs.Trees.{PlainTree, PlainTrees, leaf, node, none, more, trees, all_written}
+use Rattle.core_meaning.specs.declared.refusals.TypeKind.{TypeKind}
 use Rattle.core_meaning.specs.Constancy.{same_place}
+use Rattle.core_meaning.specs.Linking.{IsBadlyTyped}
 
 -- a tree with each token put elsewhere
 abbrev mutual
@@ -24,3 +26,9 @@ pub record OnlyMoves (f : PlainToken → PlainToken) (tokens : List PlainToken) 
   pub kinds : (a : PlainToken) → Contains tokens a → (f a).kind ≡ a.kind
   pub texts : (a : PlainToken) → Contains tokens a → (f a).text ≡ a.text
   pub places : (a b : PlainToken) → Contains tokens a → Contains tokens b → same_place (f a) (f b) ≡ same_place a b
+
+-- a type of the units was refused at the token that stands here now
+pub record WasBadlyTyped (f : PlainToken → PlainToken) (units : List PlainTree) (kind : TypeKind) (token : PlainToken) : Type 0 where
+  pub before : PlainToken
+  pub refused : IsBadlyTyped units kind before
+  pub moved : token ≡ f before
