@@ -1,0 +1,5 @@
+mod Replacing
+mod Reading
+mod Copied
+mod Read
+mod Texts

@@ -1,0 +1,20 @@
+//! Names of occurrences (ISO/IEC 9899:2011, 6.2.1 to 6.2.3): the definitions (in `specs/`) and the law, the contract of a function without a
+//! body of its own.
+#![tactic(auto)]
+
+ghost use Rattle.occurrence_names.specs.Laws.{OccurrencesKeepNames};
+
+use bound_names::identifiers_keep_names;
+use program_occurrences::{
+    declarations_are_occurrences, identifiers_are_bound, occurrences_are_bound,
+};
+
+/// In a unit that is judged well, each occurrence has the name of what declares it.
+pub fn occurrences_keep_names()
+    ensures { OccurrencesKeepNames }
+{
+    declarations_are_occurrences();
+    identifiers_are_bound();
+    occurrences_are_bound();
+    identifiers_keep_names();
+}

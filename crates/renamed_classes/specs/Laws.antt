@@ -1,0 +1,67 @@
+-- LAWS, each the contract of a function of this crate.
+use Rattle.std.specs.Prelude.{◌≡◌, ◌↔◌, ◌<◌, ℕ, Bool, List, length, All}
+use Rattle.text_edits.specs.Files.{PlainFile}
+use Rattle.cond_formula.specs.Features.{has}
+use Rattle.c_text.specs.declared.token.TokenKind.TheVariants.{Name}
+use Rattle.c_text.specs.Token.{PlainToken}
+use Rattle.c_text.specs.Preprocessing.{file_at}
+use Rattle.core_meaning.specs.Program.{PlainProgram}
+use Rattle.project_file.specs.Projects.{PlainProject}
+use Rattle.plain_pp.specs.Units.{sources_of}
+use Rattle.project_program.specs.Programs.{IsProgram}
+use Rattle.command_projects.specs.Least.{IsAdmitted, Nowhere, Somewhere}
+use Rattle.renamings.specs.Renamings.{Renaming, renamed_files, FitsFiles}
+use Rattle.renamed_units.specs.Laws.{AreNoMacros}
+use Rattle.program_occurrences.specs.Occurrences.{UnitNames}
+use Rattle.program_occurrences.specs.Classes.{PlainFileToken, copied_by}
+use Rattle.program_occurrences.specs.Links.{AreBoundAlike}
+use Rattle.reference_classes.specs.Products.{InClass}
+use Rattle.reference_classes.specs.Preconditions.{IsFound, IsTouched, in_macro_body, macro_name, Breaks}
+use Rattle.reference_classes.specs.Renamed.{RenamesClass}
+use Rattle.copied_tokens.specs.Copies.{IsOnTextLine}
+use Rattle.renamed_sources.specs.Projects.{HasItsFiles, present_files}
+use Rattle.renamed_classes.specs.Renaming.{MayBeMade, BindingsTellNames}
+
+-- a name that is a copy of a token of a file, on a text line there
+pub record IsTextName (project : PlainProject) (files : List PlainFile) (on : ℕ → Bool) (token : PlainFileToken) : Type 0 where
+  pub copy : PlainToken
+  pub is_name : copy.kind ≡ Name
+  pub copies : copied_by copy ≡ token
+  pub on_line : IsOnTextLine token.file (file_at (sources_of project files on) token.file).bytes copy
+
+-- the same in some configuration
+pub record IsTextNameSomewhere (project : PlainProject) (files : List PlainFile) (token : PlainFileToken) : Type 0 where
+  pub configuration : List Bool
+  pub there : IsTextName project files (has configuration) token
+
+-- Where something is found at a place, and nothing of its class comes out of the body of a macro, the tokens of the class in the project's
+-- files are names on text lines.
+abbrev pub ClassesStandOnTextLines : Type 0
+ClassesStandOnTextLines =
+    (project : PlainProject) (files : List PlainFile) (place : PlainFileToken) (r : Renaming) → HasItsFiles project files
+    → Somewhere project (IsFound project files place) → Nowhere project (Breaks project files place r in_macro_body)
+    → (token : PlainFileToken) → token.file < length files → InClass project files place token → IsTextNameSomewhere project files token
+
+-- A renaming of a class that may be made fits the project's files.
+abbrev pub ClassesFitFiles : Type 0
+ClassesFitFiles =
+    (project : PlainProject) (files : List PlainFile) (place : PlainFileToken) (new : List ℕ) (r : Renaming) → MayBeMade project files place new r
+    → FitsFiles r files
+
+-- Where no admitted configuration breaks MacroName, neither name is a macro where a renamed token is read in one.
+abbrev pub NamesAreNoMacros : Type 0
+NamesAreNoMacros =
+    (project : PlainProject) (files : List PlainFile) (place : PlainFileToken) (new : List ℕ) (r : Renaming) (c : List Bool)
+    → RenamesClass project files place new r → Nowhere project (Breaks project files place r macro_name) → IsAdmitted project c
+    → All (AreNoMacros r (sources_of project files (has c))) (present_files project (has c))
+
+-- What can't be bound and linked otherwise is bound and linked alike.
+abbrev pub BoundAlikeOrNot : Type 0
+BoundAlikeOrNot = (before after : List UnitNames) → ((AreBoundAlike before after → ⊥) → ⊥) → AreBoundAlike before after
+
+-- In an admitted configuration that the class touches, a project that is renamed as it may be has the program that it had, and no other.
+abbrev pub TouchedClassesKeepPrograms : Type 0
+TouchedClassesKeepPrograms =
+    (project : PlainProject) (files : List PlainFile) (place : PlainFileToken) (new : List ℕ) (r : Renaming) (c : List Bool) (p : PlainProgram)
+    → MayBeMade project files place new r → IsAdmitted project c → IsTouched project files place c → BindingsTellNames project files r c
+    → IsProgram project files (has c) p ↔ IsProgram project (renamed_files r 0 files) (has c) p

@@ -1,0 +1,53 @@
+//! The renaming of a reference class (ISO/IEC 9899:2011, 5.1.1.2): what is asked of it, and that it keeps what products do. Here are the
+//! definitions (in `specs/`) and the laws, each the contract of a function without a body of its own.
+#![tactic(auto)]
+
+ghost use Rattle.renamed_classes.specs.Laws.{ClassesStandOnTextLines, ClassesFitFiles, NamesAreNoMacros, BoundAlikeOrNot, TouchedClassesKeepPrograms};
+
+use c_lexer::lines_are_one;
+use copied_tokens::{names_are_read, places_tell_tokens, tokens_are_copied};
+use product_programs::programs_are_found;
+use program_occurrences::declarations_are_occurrences;
+use renamed_projects::touched_projects_run_alike;
+use renamed_sources::sources_are_renamed;
+
+/// Where nothing of a class comes out of the body of a macro, its tokens are names on text lines.
+pub fn classes_stand_on_text_lines()
+    ensures { ClassesStandOnTextLines }
+{
+    declarations_are_occurrences();
+    sources_are_renamed();
+    tokens_are_copied();
+    names_are_read();
+}
+
+/// A renaming of a class that may be made fits the project's files.
+pub fn classes_fit_files()
+    ensures { ClassesFitFiles }
+{
+    lines_are_one();
+    places_tell_tokens();
+    classes_stand_on_text_lines();
+}
+
+/// Where MacroName isn't broken, neither name is a macro where a renamed token is read.
+pub fn names_are_no_macros()
+    ensures { NamesAreNoMacros }
+{}
+
+/// What can't be bound and linked otherwise is bound and linked alike.
+pub fn bound_alike_or_not()
+    ensures { BoundAlikeOrNot }
+{}
+
+/// In a configuration that the class touches, a renaming that may be made keeps the program.
+pub fn touched_classes_keep_programs()
+    ensures { TouchedClassesKeepPrograms }
+{
+    sources_are_renamed();
+    classes_fit_files();
+    names_are_no_macros();
+    bound_alike_or_not();
+    programs_are_found();
+    touched_projects_run_alike();
+}
