@@ -1,8 +1,8 @@
 -- What sizes, initialisers and the types of declarators bind: what is visible to them, and nothing else. This holds of all trees.
-use Rattle.std.proofs.Common.{ℕ, ◌+◌, Bool, List, [], length}
+use Rattle.std.proofs.Common.{ℕ, zero, suc, ◌+◌, Bool, List, [], length}
 use Rattle.std.specs.Prelude.{Option, Some, None, nat_le, if◌then◌else◌}
 use Rattle.c_text.specs.Token.{PlainToken}
-use Rattle.c_types.specs.Types.{PlainType, array_of}
+use Rattle.c_types.specs.Types.{PlainType, pointer_to, array_of}
 use Rattle.c_types.specs.Integers.{is_integer}
 use Rattle.c_tree.specs.declared.kinds.Kind.{Kind}
 use Rattle.c_tree.specs.declared.kinds.Kind.TheVariants as k
@@ -10,18 +10,28 @@ use Rattle.c_tree.specs.declared.terminals.Terminal.TheVariants as t
 use Rattle.c_tree.specs.Trees.{PlainTree, PlainTrees, node, none, more}
 use Rattle.core_meaning.specs.declared.refusals.TypeKind.TheVariants.{BadOperand, BadConstant, Incomplete}
 use Rattle.core_meaning.specs.Values.{Path}
-use Rattle.core_meaning.specs.Checking.{Entity}
-use Rattle.core_meaning.specs.Entities.{Scope}
+use Rattle.c_tree.specs.Heights.{count_stars}
+use Rattle.core_meaning.specs.Checking.{Entity, ◌>>=◌, give, unless_so}
+use Rattle.core_meaning.specs.Entities.{Table, Scope}
 use Rattle.core_meaning.specs.Typing.{is_complete, fits_into}
 use Rattle.core_meaning.specs.Expressions.{valued, first_token, text_bytes}
 use Rattle.core_meaning.specs.Constancy.{judged_count, count_of_value, value_if_constant, is_small, part_for, path_for, is_character_type, text_initial, part_or_excess, is_allowed, value_initial, whole_initial, text_or_whole, initial, initial_entries, count_by_initialiser, most_elements}
-use Rattle.core_meaning.specs.Declarations.{starred, count_of_size, is_left_out, count_or_one, count_without_size, element_count, object_type, behind_word, size_of_parameter, parameter_type, judged_object, local_initial, may_be_parameter, judged_parameter}
-use Rattle.entity_numbers.proofs.Uses.{Binds, Allows, then_binds, if_binds, some_then, found_then, unless_then, unless_binds, found_binds, valued_binds}
+use Rattle.core_meaning.specs.Declarations.{pointers, starred, count_of_size, is_left_out, count_or_one, count_without_size, element_count, object_type, behind_word, size_of_parameter, parameter_type, judged_object, local_initial, may_be_parameter, judged_parameter}
+use Rattle.bindings.proofs.Types.{Made}
+use Rattle.bindings.proofs.Operators.{Anything}
+use Rattle.entity_numbers.proofs.Uses.{Gives, gives_then, binds_give, Binds, Allows, then_binds, if_binds, some_then, found_then, unless_then, unless_binds, found_binds, valued_binds}
 
-module _ (K : Entity → Type 0) (s : Scope) (h : Allows K s) where
+pub made_pointers : (tags : Table ℕ) (n : ℕ) (ty : PlainType) → Made tags ty → Made tags (pointers n ty)
+made_pointers tags zero ty h = h
+made_pointers tags (suc n) ty h = made_pointers tags n ty h
+
+pub made_starred : (tags : Table ℕ) (parts : PlainTrees) (ty : PlainType) → Made tags ty → Made tags (starred parts ty)
+made_starred tags parts ty h = made_pointers tags (count_stars parts) ty h
+
+module _ (K : Entity → Type 0) (tags : Table ℕ) (s : Scope) (h : Allows K tags s) where
   pub count_binds : (tree : PlainTree) (behind : PlainToken) → Binds K (judged_count s tree behind)
   count_binds tree behind =
-      then_binds K (valued s tree) _ (valued_binds K s h tree)
+      then_binds K (valued s tree) _ (valued_binds K tags s h tree)
       (λ x. found_binds K (if is_integer x.ty then count_of_value (value_if_constant x.core) else None) BadConstant (first_token tree behind))
 
   -- ---- initialisers
@@ -36,11 +46,11 @@ module _ (K : Entity → Type 0) (s : Scope) (h : Allows K s) where
 
     value_binds : (ty : PlainType) (path : Path) (tree : PlainTree) (first : PlainToken) → Binds K (value_initial s globals ty path tree first)
     value_binds ty path tree first =
-        then_binds K (valued s tree) _ (valued_binds K s h tree)
+        then_binds K (valued s tree) _ (valued_binds K tags s h tree)
         (λ x. found_then K (fits_into ty x) BadOperand first _ (λ core. unless_then K (is_allowed s globals core) BadConstant first _ (λ y. record { all = tt })))
 
     whole_binds : (ty : PlainType) (path : Path) (tree : PlainTree) (first : PlainToken) → Binds K (whole_initial s globals ty path tree first)
-    whole_binds (array_of element count) path tree first = then_binds K (valued s tree) _ (valued_binds K s h tree) (λ x. record { all = tt })
+    whole_binds (array_of element count) path tree first = then_binds K (valued s tree) _ (valued_binds K tags s h tree) (λ x. record { all = tt })
     whole_binds ty path tree first = value_binds ty path tree first
 
     texts_bind : (ty : PlainType) (path : Path) (parts : PlainTrees) (first : PlainToken) → Binds K (text_or_whole s globals ty path parts first)
@@ -74,21 +84,25 @@ module _ (K : Entity → Type 0) (s : Scope) (h : Allows K s) where
   no_size_binds element name None = record { all = tt }
   no_size_binds element name (Some value) = unless_then K (nat_le (count_or_one (count_by_initialiser element value)) most_elements) BadConstant name _ (λ x. record { all = tt })
 
-  pub object_binds : (ty : PlainType) (kind : Kind) (parts : PlainTrees) (name : PlainToken) (o : Option PlainTree) → Binds K (object_type s ty kind parts name o)
-  object_binds ty k.ArrayDeclarator parts name o =
-      unless_then K (is_complete s.structs (starred parts ty)) Incomplete name _
-      (λ x. then_binds K (element_count s (starred parts ty) name (behind_word t.OpenBracket parts) o) _
-      (if_binds K (is_left_out (behind_word t.OpenBracket parts)) _ _ (no_size_binds (starred parts ty) name o) (size_binds name (behind_word t.OpenBracket parts))) (λ count. record { all = tt }))
-  object_binds ty k.Declarator parts name o = record { all = tt }
-  object_binds ty _ parts name o = record { all = tt }
+  pub object_gives : (ty : PlainType) (kind : Kind) (parts : PlainTrees) (name : PlainToken) (o : Option PlainTree) → Made tags ty → Gives K (Made tags) (object_type s ty kind parts name o)
+  object_gives ty k.ArrayDeclarator parts name o made =
+      gives_then K Anything (Made tags) (unless_so (is_complete s.structs (starred parts ty)) Incomplete name) (λ complete. element_count s (starred parts ty) name (behind_word t.OpenBracket parts) o >>= (λ count. give (array_of (starred parts ty) count)))
+      (binds_give K (unless_so (is_complete s.structs (starred parts ty)) Incomplete name) (unless_binds K (is_complete s.structs (starred parts ty)) Incomplete name))
+      (λ x u. gives_then K Anything (Made tags) (element_count s (starred parts ty) name (behind_word t.OpenBracket parts) o) (λ count. give (array_of (starred parts ty) count))
+      (binds_give K (element_count s (starred parts ty) name (behind_word t.OpenBracket parts) o)
+      (if_binds K (is_left_out (behind_word t.OpenBracket parts)) _ _ (no_size_binds (starred parts ty) name o) (size_binds name (behind_word t.OpenBracket parts)))) (λ count v. record { given_ = (tt, made_starred tags parts ty made) }))
+  object_gives ty k.Declarator parts name o made = record { given_ = (tt, made_starred tags parts ty made) }
+  object_gives ty _ parts name o made = record { given_ = tt }
 
-  pub parameter_binds : (ty : PlainType) (kind : Kind) (parts : PlainTrees) (name : PlainToken) → Binds K (parameter_type s ty kind parts name)
-  parameter_binds ty k.ArrayDeclarator parts name =
-      unless_then K (is_complete s.structs (starred parts ty)) Incomplete name _
-      (λ x. then_binds K (size_of_parameter s name (behind_word t.OpenBracket parts)) _
-      (if_binds K (is_left_out (behind_word t.OpenBracket parts)) _ _ (record { all = tt }) (size_binds name (behind_word t.OpenBracket parts))) (λ count. record { all = tt }))
-  parameter_binds ty k.Declarator parts name = record { all = tt }
-  parameter_binds ty _ parts name = record { all = tt }
+  pub parameter_gives : (ty : PlainType) (kind : Kind) (parts : PlainTrees) (name : PlainToken) → Made tags ty → Gives K (Made tags) (parameter_type s ty kind parts name)
+  parameter_gives ty k.ArrayDeclarator parts name made =
+      gives_then K Anything (Made tags) (unless_so (is_complete s.structs (starred parts ty)) Incomplete name) (λ complete. size_of_parameter s name (behind_word t.OpenBracket parts) >>= (λ count. give (pointer_to (starred parts ty))))
+      (binds_give K (unless_so (is_complete s.structs (starred parts ty)) Incomplete name) (unless_binds K (is_complete s.structs (starred parts ty)) Incomplete name))
+      (λ x u. gives_then K Anything (Made tags) (size_of_parameter s name (behind_word t.OpenBracket parts)) (λ count. give (pointer_to (starred parts ty)))
+      (binds_give K (size_of_parameter s name (behind_word t.OpenBracket parts))
+      (if_binds K (is_left_out (behind_word t.OpenBracket parts)) _ _ (record { all = tt }) (size_binds name (behind_word t.OpenBracket parts)))) (λ count v. record { given_ = (tt, made_starred tags parts ty made) }))
+  parameter_gives ty k.Declarator parts name made = record { given_ = (tt, made_starred tags parts ty made) }
+  parameter_gives ty _ parts name made = record { given_ = tt }
 
   pub whole_object_binds : (ty : PlainType) (name : PlainToken) → Binds K (judged_object s ty name)
   whole_object_binds ty name = unless_then K (is_complete s.structs ty) Incomplete name _ (λ x. unless_binds K (is_small s.structs ty) BadConstant name)

@@ -1,10 +1,12 @@
--- What expressions bind: what is visible to them, and nothing else. This holds of all trees.
-use Rattle.std.proofs.Common.{◌≡◌, ℕ, Bool, true, false, List, [], ◌∷◌, ◌++◌, refl, length}
-use Rattle.std.specs.Prelude.{Option, Some, None, slice_get, codes, ◌==◌, ◌&&◌, ◌||◌, if◌then◌else◌}
+-- What expressions bind: what is visible to them, and nothing else; and their types name visible structs alone. This holds of all trees.
+use Rattle.std.proofs.Common.{◌≡◌, ℕ, ◌+◌, Bool, true, false, List, [], ◌∷◌, ◌++◌, refl, sym, subst, length}
+use Rattle.std.specs.Prelude.{Option, Some, None, is_some, slice_get, codes, pos, ◌==◌, ◌||◌, if◌then◌else◌}
 use Rattle.std.specs.Str.{bytes_eq}
+use Rattle.std.proofs.lemmas.Bool.{false≢true}
+use Rattle.std.proofs.lemmas.Option.{same_Some, none-some}
 use Rattle.c_text.specs.Token.{PlainToken}
-use Rattle.c_types.specs.Types.{PlainType, void, pointer_to, array_of, structure}
-use Rattle.c_types.specs.Integers.{is_integer}
+use Rattle.c_text.specs.Constants.{quoted_values, is_unsigned, digits_of, number_value}
+use Rattle.c_types.specs.Types.{PlainType, char, int, pointer_to, array_of, structure}
 use Rattle.c_types.specs.Tags.{PlainMember}
 use Rattle.c_tree.specs.declared.kinds.Kind.{Kind}
 use Rattle.c_tree.specs.declared.kinds.Kind.TheVariants as k
@@ -15,13 +17,14 @@ use Rattle.c_tree.specs.Trees.{PlainTree, PlainTrees, leaf, node, none, more}
 use Rattle.core_meaning.specs.declared.refusals.TypeKind.{TypeKind}
 use Rattle.core_meaning.specs.declared.refusals.TypeKind.TheVariants.{BadOperand, Incomplete, NoMember, ArgumentCount}
 use Rattle.core_meaning.specs.declared.expressions.Change.{Change}
-use Rattle.core_meaning.specs.Program.{PlainExpression, PlainPlace, PlainArguments, update, update_after, logical_and, logical_or, read, target, binary}
-use Rattle.core_meaning.specs.declared.expressions.Operation.TheVariants as operation
+use Rattle.core_meaning.specs.Program.{PlainExpression, PlainPlace, PlainArguments, no_argument, argument, update, update_after, target, assign, constant, literal}
 use Rattle.core_meaning.specs.Checking.{Entity, local_entity, file_entity, member_entity, Binding, Checked, fine, refused, broken, with_bindings, ◌>>=◌, give, unless_so, found_or, or_broken, uses}
-use Rattle.core_meaning.specs.Entities.{Struct, Local, Signature, Sort, variable, function, FileName, Scope, local_in}
-use Rattle.core_meaning.specs.Typing.{Designation, value, object, Operand, Typed, typed, loaded, loaded_from, is_complete, fits_into, is_scalar_type, is_pointer, is_struct, same_type, is_pointer}
-use Rattle.core_meaning.specs.Expressions.{judged, judged_arguments, valued, judged_condition, single_operand, name_operand, file_name_operand, file_operand, character_value, may_be_assigned, place_in, assigned_place, is_plain_assignment, written_place, left_value, updated, one, stepped, assignment, operation_on, change_by, compound_operator, combined, pointed_at, dereferenced, signed, negated, prefixed, cast_to, arithmetic_words, element_target, indexed, member_operand, member_in, member_of, member_of_target, selected, struct_place, is_free, is_void, chosen, Callee, callee, count_entries, may_be_called, result_of_call, passed, combined_by, operator_named, condition_value, first_token, text_bytes, first_text}
-use Rattle.c_text.specs.Constants.{quoted_values}
+use Rattle.core_meaning.specs.Entities.{Table, Struct, Local, Signature, Sort, variable, function, FileName, Scope, local_in, entity_number}
+use Rattle.core_meaning.specs.Typing.{Operand, Typed, of_value, of_object, loaded, is_complete, fits_into}
+use Rattle.core_meaning.specs.Expressions.{judged, judged_arguments, valued, judged_condition, single_operand, name_operand, file_name_operand, file_operand, number_operand, number_types, has_long, character_value, written_place, left_value, updated, one, stepped, assignment, operation_on, change_by, compound_operator, combined, prefixed, cast_to, arithmetic_words, indexed, member_operand, member_in, member_of, member_of_target, selected, struct_place, is_free, is_void, chosen, Callee, callee, callee_of_sort, callee_of_name, callee_unless_local, count_entries, may_be_called, result_of_call, passed, combined_by, operator_named, condition_value, first_token, text_bytes, first_text}
+use Rattle.bindings.proofs.Follows.{Yields}
+use Rattle.bindings.proofs.Types.{Tagged as TagOf, Made, AllMade, MadeSort, made_number, made_words}
+use Rattle.bindings.proofs.Operators.{Anything, loads, written_yields, stepped_yields, assignment_yields, prefixed_yields, cast_yields, indexed_yields, logical_and_yields, logical_or_yields, combined_yields, chosen_yields, passed_yields, condition_yields}
 
 -- ---- all that is bound
 
@@ -41,12 +44,27 @@ AllOf K broken = Unit {0}
 pub record Binds {A : Type 0} (K : Entity → Type 0) (c : Checked A) : Type 0 where
   pub all : AllOf K c
 
--- what is visible may be bound
-pub record Allows (K : Entity → Type 0) (s : Scope) : Type 0 where
-  pub locals : (name : List ℕ) (l : Local) → local_in s.blocks name ≡ Some l → K (local_entity l.slot)
-  pub files : (name : List ℕ) → K (file_entity name)
+-- with what holds of the result
+abbrev pub GivenOf : {A : Type 0} → (Entity → Type 0) → (A → Type 0) → Checked A → Type 0
+GivenOf K P (fine x js) = All K js × P x
+GivenOf K P (refused kind token) = Unit {0}
+GivenOf K P broken = Unit {0}
+
+pub record Gives {A : Type 0} (K : Entity → Type 0) (P : A → Type 0) (c : Checked A) : Type 0 where
+  pub given_ : GivenOf K P c
+
+-- what is said of entities, and tags of the structs that types may name
+pub record Sense : Type 1 where
+  pub knows : Entity → Type 0
+  pub tags : Table ℕ
+
+-- what is visible may be bound, and its types name the structs of these tags
+pub record Allows (K : Entity → Type 0) (tags : Table ℕ) (s : Scope) : Type 0 where
+  pub locals : (name : List ℕ) (l : Local) → local_in s.blocks name ≡ Some l → K (local_entity l.slot) × Made tags l.ty
+  pub files : (name : List ℕ) (n : FileName) → s.file_names name ≡ Some n → K (file_entity name) × MadeSort tags n.sort
   pub members :
-      (number n : ℕ) (found : Struct) (m : PlainMember) → slice_get s.structs number ≡ Some found → slice_get found.members n ≡ Some m → K (member_entity number n)
+      (number n : ℕ) (found : Struct) (m : PlainMember) → TagOf tags number → slice_get s.structs number ≡ Some found → slice_get found.members n ≡ Some m
+      → K (member_entity number n) × Made tags m.ty
 
 module _ (K : Entity → Type 0) where
   with_all : {B : Type 0} (js : List Binding) (c : Checked B) → All K js → AllOf K c → AllOf K (with_bindings js c)
@@ -90,221 +108,265 @@ module _ (K : Entity → Type 0) where
   pub unless_then : {B : Type 0} (b : Bool) (kind : TypeKind) (token : PlainToken) (f : Unit {0} → Checked B) → ((x : Unit {0}) → Binds K (f x)) → Binds K (unless_so b kind token >>= f)
   unless_then b kind token f g = then_binds (unless_so b kind token) f (unless_binds b kind token) g
 
-  -- ---- operators bind nothing
+  -- ---- what holds of results
 
-  loads_from : (structs : List Struct) (o : Operand) (ty : PlainType) (d : Designation) → Binds K (loaded_from structs o ty d)
-  loads_from structs o ty (value core) = record { all = tt }
-  loads_from structs o (array_of element count) (object place free) = record { all = tt }
-  loads_from structs o void (object place free) = record { all = tt }
-  loads_from structs o ty (object place free) = if_binds (is_complete structs ty) (give (typed ty (read place))) (refused Incomplete o.stands_at) (record { all = tt }) (record { all = tt })
+  pub gives_then : {A B : Type 0} (P : A → Type 0) (Q : B → Type 0) (c : Checked A) (f : A → Checked B) → Gives K P c → ((x : A) → P x → Gives K Q (f x)) → Gives K Q (c >>= f)
+  gives_then P Q (fine x js) f h g = record { given_ = behind Q js (f x) h.given_.0 (g x h.given_.1).given_ }
+    where
+      behind : {B : Type 0} (Q : B → Type 0) (js : List Binding) (c : Checked B) → All K js → GivenOf K Q c → GivenOf K Q (with_bindings js c)
+      behind Q js (fine y ks) f g = (all_append K js ks f g.0, g.1)
+      behind Q js (refused kind token) f g = tt
+      behind Q js broken f g = tt
+  gives_then P Q (refused kind token) f h g = record { given_ = tt }
+  gives_then P Q broken f h g = record { given_ = tt }
 
-  pub loads : (s : Scope) (o : Operand) → Binds K (loaded s o)
-  loads s o = loads_from s.structs o o.ty o.designates
+  pub gives_binds : {A : Type 0} (P : A → Type 0) (c : Checked A) → Gives K P c → Binds K c
+  gives_binds P (fine x js) h = record { all = h.given_.0 }
+  gives_binds P (refused kind token) h = record { all = tt }
+  gives_binds P broken h = record { all = tt }
 
-  pub load_then : {B : Type 0} (s : Scope) (o : Operand) (f : Typed → Checked B) → ((x : Typed) → Binds K (f x)) → Binds K (loaded s o >>= f)
-  load_then s o f g = then_binds (loaded s o) f (loads s o) g
+  pub binds_give : {A : Type 0} (c : Checked A) → Binds K c → Gives K (Anything {A = A}) c
+  binds_give (fine x js) h = record { given_ = (h.all, tt) }
+  binds_give (refused kind token) h = record { given_ = tt }
+  binds_give broken h = record { given_ = tt }
 
-  place_binds : (o : Operand) (sign : PlainToken) (d : Designation) → Binds K (place_in o sign d)
-  place_binds o sign (object place true) = if_binds (may_be_assigned o.ty) _ _ (record { all = tt }) (record { all = tt })
-  place_binds o sign (object place false) = record { all = tt }
-  place_binds o sign (value core) = record { all = tt }
+  pub gives_if : {A : Type 0} (P : A → Type 0) (b : Bool) (c d : Checked A) → Gives K P c → Gives K P d → Gives K P (if b then c else d)
+  gives_if P true c d f g = f
+  gives_if P false c d f g = g
 
-  written_binds : (s : Scope) (sign : PlainToken) (o : Operand) → Binds K (written_place s sign o)
-  written_binds s sign o =
-      then_binds (assigned_place o sign) _ (place_binds o sign o.designates)
-      (λ place. unless_then (is_plain_assignment sign || is_complete s.structs o.ty) Incomplete o.stands_at _ (λ x. gives place))
+  quietly : {A : Type 0} (P : A → Type 0) (c : Checked A) → Yields P c → Gives K P c
+  quietly P (fine x js) h = record { given_ = (subst (All K) (sym h.none) tt, h.value) }
+  quietly P (refused kind token) h = record { given_ = tt }
+  quietly P broken h = record { given_ = tt }
 
-  updated_binds :
-      (s : Scope) (make : Change → PlainPlace → PlainExpression → PlainExpression) (sign : PlainToken) (left : Operand) (place : PlainPlace) (right : Typed)
-      → Binds K (updated s make sign left place right)
-  updated_binds s make sign left place right =
-      some_then (compound_operator sign.text) _ (λ op. found_then (change_by left.ty (operation_on s.structs op (left_value left place) right)) BadOperand sign _ (λ c. record { all = tt }))
+  pub some_gives : {A B : Type 0} (P : B → Type 0) (o : Option A) (f : A → Checked B) → ((x : A) → Gives K P (f x)) → Gives K P (or_broken o >>= f)
+  some_gives P o f g = gives_then Anything P (or_broken o) f (binds_give (or_broken o) (some_binds o)) (λ x y. g x)
 
-  stepped_binds : (s : Scope) (make : Change → PlainPlace → PlainExpression → PlainExpression) (sign : PlainToken) (o : Operand) → Binds K (stepped s make sign o)
-  stepped_binds s make sign o = then_binds (written_place s sign o) _ (written_binds s sign o) (λ place. updated_binds s make sign o place one)
+  none_gives : {A B : Type 0} (P : B → Type 0) (o : Option A) (f : A → Checked B) → is_some o ≡ false → Gives K P (or_broken o >>= f)
+  none_gives P None f e = record { given_ = tt }
+  none_gives P (Some x) f e = absurd (false≢true (sym e))
 
-  assignment_binds : (s : Scope) (sign : PlainToken) (left : Operand) (place : PlainPlace) (right : Typed) → Binds K (assignment s sign left place right)
-  assignment_binds s sign left place right =
-      if_binds (is_plain_assignment sign) _ _ (found_then (fits_into left.ty right) BadOperand sign _ (λ core. record { all = tt })) (updated_binds s update sign left place right)
+  module _ (tags : Table ℕ) where
+    abbrev pub Operands : Operand → Type 0
+    Operands o = Made tags o.ty
 
-  pointed_binds : (sign : PlainToken) (ty : PlainType) (d : Designation) → Binds K (pointed_at sign ty d)
-  pointed_binds sign ty (object place true) = record { all = tt }
-  pointed_binds sign ty (object place false) = record { all = tt }
-  pointed_binds sign ty (value core) = record { all = tt }
+    abbrev pub Values : Typed → Type 0
+    Values x = Made tags x.ty
 
-  dereferenced_binds : (sign : PlainToken) (x : Typed) (ty : PlainType) → Binds K (dereferenced sign x ty)
-  dereferenced_binds sign x (pointer_to ty) = record { all = tt }
-  dereferenced_binds sign x _ = record { all = tt }
+    -- ---- operators bind nothing
 
-  prefixed_binds : (s : Scope) (sign : PlainToken) (o : Operand) → Binds K (prefixed s sign o)
-  prefixed_binds s sign o =
-      if_binds (bytes_eq sign.text (codes "&")) _ _ (pointed_binds sign o.ty o.designates)
-      (if_binds (bytes_eq sign.text (codes "*")) _ _ (load_then s o (λ x. dereferenced sign x x.ty) (λ x. dereferenced_binds sign x x.ty))
-      (if_binds (bytes_eq sign.text (codes "!")) _ _ (load_then s o (negated sign) (λ x. if_binds (is_scalar_type x.ty) _ _ (record { all = tt }) (record { all = tt })))
-      (load_then s o (signed sign) (λ x. if_binds (is_integer x.ty) _ _ (record { all = tt }) (record { all = tt })))))
+    pub load_gives : {B : Type 0} (P : B → Type 0) (s : Scope) (o : Operand) (f : Typed → Checked B) → Operands o → ((x : Typed) → Values x → Gives K P (f x)) → Gives K P (loaded s o >>= f)
+    load_gives P s o f h g = gives_then Values P (loaded s o) f (quietly Values (loaded s o) (loads tags s o h)) g
 
-  cast_binds : (sign : PlainToken) (x : Typed) (ty : PlainType) → Binds K (cast_to sign x ty)
-  cast_binds sign x void = record { all = tt }
-  cast_binds sign x ty = if_binds (is_integer x.ty) _ _ (record { all = tt }) (record { all = tt })
+    stepped_gives : (s : Scope) (make : Change → PlainPlace → PlainExpression → PlainExpression) (sign : PlainToken) (o : Operand) → Operands o → Gives K Operands (stepped s make sign o)
+    stepped_gives s make sign o h = by (is_some (compound_operator sign.text)) refl
+      where
+        by : (b : Bool) → is_some (compound_operator sign.text) ≡ b → Gives K Operands (stepped s make sign o)
+        by true e = quietly Operands (stepped s make sign o) (stepped_yields tags s make sign o e h)
+        by false e =
+            gives_then Anything Operands (written_place s sign o) (λ place. updated s make sign o place one) (quietly Anything (written_place s sign o) (written_yields tags s sign o))
+            (λ place x. none_gives Operands (compound_operator sign.text) (λ op. found_or (change_by o.ty (operation_on s.structs op (left_value o place) one)) BadOperand sign >>= (λ c. give (of_value sign o.ty (make c place one.core)))) e)
 
-  element_binds : (s : Scope) (sign : PlainToken) (ty : PlainType) (core : PlainExpression) → Binds K (element_target s sign ty core)
-  element_binds s sign (pointer_to ty) core = if_binds (is_complete s.structs ty) _ _ (record { all = tt }) (record { all = tt })
-  element_binds s sign _ core = record { all = tt }
+    assignment_gives : (s : Scope) (sign : PlainToken) (left : Operand) (place : PlainPlace) (right : Typed) → Operands left → Gives K Operands (assignment s sign left place right)
+    assignment_gives s sign left place right h = by (bytes_eq sign.text (codes "=") || is_some (compound_operator sign.text)) refl
+      where
+        neither : (a b : Bool) → (a || b) ≡ false → (a ≡ false) × (b ≡ false)
+        neither true b e = absurd (false≢true (sym e))
+        neither false b e = (refl, e)
 
-  indexed_binds : (s : Scope) (sign : PlainToken) (a b : Typed) → Binds K (indexed s sign a b)
-  indexed_binds s sign a b =
-      if_binds (is_pointer a.ty && is_integer b.ty) _ _ (element_binds s sign a.ty (binary operation.Forward a.core b.core))
-      (if_binds (is_integer a.ty && is_pointer b.ty) _ _ (element_binds s sign b.ty (binary operation.ForwardBy a.core b.core)) (record { all = tt }))
+        by : (b : Bool) → (bytes_eq sign.text (codes "=") || is_some (compound_operator sign.text)) ≡ b → Gives K Operands (assignment s sign left place right)
+        by true e = quietly Operands (assignment s sign left place right) (assignment_yields tags s sign left place right e h)
+        by false e =
+            let both = neither (bytes_eq sign.text (codes "=")) (is_some (compound_operator sign.text)) e in
+            subst (λ (b : Bool). Gives K Operands (if b then found_or (fits_into left.ty right) BadOperand sign >>= (λ core. give (of_value sign left.ty (assign place core))) else updated s update sign left place right)) (sym both.0)
+            (none_gives Operands (compound_operator sign.text) (λ op. found_or (change_by left.ty (operation_on s.structs op (left_value left place) right)) BadOperand sign >>= (λ c. give (of_value sign left.ty (update c place right.core)))) both.1)
 
-  chosen_binds : (sign : PlainToken) (condition : PlainExpression) (a b : Typed) → Binds K (chosen sign condition a b)
-  chosen_binds sign condition a b =
-      if_binds (is_integer a.ty && is_integer b.ty) _ _ (record { all = tt })
-      (if_binds (is_void a.ty && is_void b.ty) _ _ (record { all = tt })
-      (if_binds ((is_struct a.ty || is_pointer a.ty) && same_type a.ty b.ty) _ _ (record { all = tt })
-      (if_binds (is_pointer a.ty && b.is_null) _ _ (record { all = tt })
-      (if_binds (a.is_null && is_pointer b.ty) _ _ (record { all = tt }) (record { all = tt })))))
+    named_gives : (s : Scope) (sign : PlainToken) (a b : Typed) → Values a → Values b → Gives K Operands (or_broken (operator_named sign.text) >>= combined s sign a b)
+    named_gives s sign a b f g = by (is_some (operator_named sign.text)) refl
+      where
+        by : (c : Bool) → is_some (operator_named sign.text) ≡ c → Gives K Operands (or_broken (operator_named sign.text) >>= combined s sign a b)
+        by true e = quietly Operands (or_broken (operator_named sign.text) >>= combined s sign a b) (combined_yields tags s sign a b e f g)
+        by false e = none_gives Operands (operator_named sign.text) (combined s sign a b) e
 
-  callable_binds : (s : Scope) (f : Signature) (count : ℕ) (bracket : PlainToken) → Binds K (may_be_called s f count bracket)
-  callable_binds s f count bracket =
-      unless_then (is_void f.result || is_complete s.structs f.result) Incomplete bracket _ (λ x. unless_binds (count == length f.parameters) ArgumentCount bracket)
+    combined_gives : (s : Scope) (kind : Kind) (sign : PlainToken) (a b : Typed) → Values a → Values b → Gives K Operands (combined_by s kind sign a b)
+    combined_gives s k.LogicalAnd sign a b f g = quietly Operands (combined_by s k.LogicalAnd sign a b) (logical_and_yields tags s sign a b)
+    combined_gives s k.LogicalOr sign a b f g = quietly Operands (combined_by s k.LogicalOr sign a b) (logical_or_yields tags s sign a b)
+    combined_gives s _ sign a b f g = named_gives s sign a b f g
 
-  pub passed_binds : (s : Scope) (ty : PlainType) (o : Operand) (first : PlainToken) → Binds K (passed s ty o first)
-  passed_binds s ty o first = load_then s o _ (λ x. found_binds (fits_into ty x) BadOperand first)
+    pub passed_gives : (s : Scope) (ty : PlainType) (o : Operand) (first : PlainToken) → Operands o → Gives K (Anything {A = PlainExpression}) (passed s ty o first)
+    passed_gives s ty o first h = quietly Anything (passed s ty o first) (passed_yields tags s ty o first h)
 
-  named_binds : (s : Scope) (sign : PlainToken) (a b : Typed) → Binds K (or_broken (operator_named sign.text) >>= combined s sign a b)
-  named_binds s sign a b = some_then (operator_named sign.text) _ (λ op. found_then (operation_on s.structs op a b) BadOperand sign _ (λ o. record { all = tt }))
+    pub condition_gives : (s : Scope) (first : PlainToken) (o : Operand) → Operands o → Gives K (Anything {A = PlainExpression}) (condition_value s first o)
+    condition_gives s first o h = quietly Anything (condition_value s first o) (condition_yields tags s first o h)
 
-  combined_binds : (s : Scope) (kind : Kind) (sign : PlainToken) (a b : Typed) → Binds K (combined_by s kind sign a b)
-  combined_binds s k.LogicalAnd sign a b = if_binds (is_scalar_type a.ty && is_scalar_type b.ty) _ _ (record { all = tt }) (record { all = tt })
-  combined_binds s k.LogicalOr sign a b = if_binds (is_scalar_type a.ty && is_scalar_type b.ty) _ _ (record { all = tt }) (record { all = tt })
-  combined_binds s _ sign a b = named_binds s sign a b
+    -- ---- names and members
 
-  pub condition_binds : (s : Scope) (first : PlainToken) (o : Operand) → Binds K (condition_value s first o)
-  condition_binds s first o = load_then s o _ (λ x. if_binds (is_scalar_type x.ty) _ _ (record { all = tt }) (record { all = tt }))
+    module _ (s : Scope) (h : Allows K tags s) where
+      file_gives : (token : PlainToken) (sort : Sort) → K (file_entity token.text) → MadeSort tags sort → Gives K Operands (file_operand s token sort)
+      file_gives token (variable ty) known made = record { given_ = ((known, tt), made) }
+      file_gives token (function signature) known made = record { given_ = tt }
 
-  used : (entity : Entity) → K entity → Binds K (uses entity)
-  used entity h = record { all = (h, tt) }
+      file_name_gives : (token : PlainToken) (n : Option FileName) → s.file_names token.text ≡ n → Gives K Operands (file_name_operand s token n)
+      file_name_gives token None e = record { given_ = tt }
+      file_name_gives token (Some n) e = let f = h.files token.text n e in file_gives token n.sort f.0 f.1
 
-  -- ---- names and members
+      name_gives : (token : PlainToken) (l : Option Local) → local_in s.blocks token.text ≡ l → Gives K Operands (name_operand s token l)
+      name_gives token (Some l) e = let f = h.locals token.text l e in record { given_ = ((f.0, tt), f.1) }
+      name_gives token None e = file_name_gives token (s.file_names token.text) refl
 
-  module _ (s : Scope) (h : Allows K s) where
-    file_binds : (token : PlainToken) (sort : Sort) → Binds K (file_operand s token sort)
-    file_binds token (variable ty) = record { all = (h.files token.text, tt) }
-    file_binds token (function signature) = record { all = tt }
+      number_made : (token : PlainToken) → Operands (number_operand token)
+      number_made token =
+          made_number tags (number_types (is_unsigned token.text) (has_long token.text) ((digits_of token.text).base == 10)) (pos (number_value token.text)) (is_unsigned token.text) (has_long token.text) ((digits_of token.text).base == 10) refl
 
-    file_name_binds : (token : PlainToken) (n : Option FileName) → Binds K (file_name_operand s token n)
-    file_name_binds token None = record { all = tt }
-    file_name_binds token (Some n) = file_binds token n.sort
+      single_gives : (token : PlainToken) (kind : Terminal) → Gives K Operands (single_operand s token kind)
+      single_gives token t.Name = name_gives token (local_in s.blocks token.text) refl
+      single_gives token t.Number = record { given_ = (tt, number_made token) }
+      single_gives token t.Character = some_gives Operands (character_value (quoted_values token.text)) (λ z. give (of_value token int (constant z))) (λ z. record { given_ = (tt, tt) })
+      single_gives token _ = record { given_ = tt }
 
-    name_binds : (token : PlainToken) (l : Option Local) → local_in s.blocks token.text ≡ l → Binds K (name_operand s token l)
-    name_binds token (Some l) e = record { all = (h.locals token.text l e, tt) }
-    name_binds token None e = file_name_binds token (s.file_names token.text)
+      member_gives :
+          (name : PlainToken) (place : PlainPlace) (free : Bool) (number : ℕ) (found : Struct) (n : ℕ) → TagOf tags number → slice_get s.structs number ≡ Some found → (o : Option PlainMember) → slice_get found.members n ≡ o
+          → Gives K Operands (member_operand name place free number o n)
+      member_gives name place free number found n tag e None f = record { given_ = tt }
+      member_gives name place free number found n tag e (Some m) f = let g = h.members number n found m tag e f in record { given_ = ((g.0, tt), g.1) }
 
-    single_binds : (token : PlainToken) (kind : Terminal) → Binds K (single_operand s token kind)
-    single_binds token t.Name = name_binds token (local_in s.blocks token.text) refl
-    single_binds token t.Number = record { all = tt }
-    single_binds token t.Character = some_then (character_value (quoted_values token.text)) _ (λ z. record { all = tt })
-    single_binds token _ = record { all = tt }
+      struct_gives :
+          (sign name : PlainToken) (place : PlainPlace) (free : Bool) (number : ℕ) (o : Option Struct) → TagOf tags number → slice_get s.structs number ≡ o → Gives K Operands (member_in sign name place free number o)
+      struct_gives sign name place free number None tag e = record { given_ = tt }
+      struct_gives sign name place free number (Some found) tag e =
+          gives_then Anything Operands (unless_so found.complete Incomplete sign) (λ x. found_or (found.numbers name.text) NoMember name >>= (λ n. member_operand name place free number (slice_get found.members n) n)) (binds_give (unless_so found.complete Incomplete sign) (unless_binds found.complete Incomplete sign))
+          (λ x y. gives_then Anything Operands (found_or (found.numbers name.text) NoMember name) (λ n. member_operand name place free number (slice_get found.members n) n) (binds_give (found_or (found.numbers name.text) NoMember name) (found_binds (found.numbers name.text) NoMember name))
+          (λ n z. member_gives name place free number found n tag e (slice_get found.members n) refl))
 
-    member_binds :
-        (name : PlainToken) (place : PlainPlace) (free : Bool) (number : ℕ) (found : Struct) (n : ℕ) → slice_get s.structs number ≡ Some found → (o : Option PlainMember) → slice_get found.members n ≡ o
-        → Binds K (member_operand name place free number o n)
-    member_binds name place free number found n e None f = record { all = tt }
-    member_binds name place free number found n e (Some m) f = record { all = (h.members number n found m e f, tt) }
+      of_gives : (sign name : PlainToken) (ty : PlainType) (place : PlainPlace) (free : Bool) → Made tags ty → Gives K Operands (member_of s sign name ty place free)
+      of_gives sign name (structure number) place free made = struct_gives sign name place free number (slice_get s.structs number) made refl
+      of_gives sign name _ place free made = record { given_ = tt }
 
-    struct_binds :
-        (sign name : PlainToken) (place : PlainPlace) (free : Bool) (number : ℕ) (o : Option Struct) → slice_get s.structs number ≡ o → Binds K (member_in sign name place free number o)
-    struct_binds sign name place free number None e = record { all = tt }
-    struct_binds sign name place free number (Some found) e =
-        unless_then found.complete Incomplete sign _
-        (λ x. found_then (found.numbers name.text) NoMember name _ (λ n. member_binds name place free number found n e (slice_get found.members n) refl))
+      target_gives : (sign name : PlainToken) (x : Typed) (ty : PlainType) → Made tags ty → Gives K Operands (member_of_target s sign name x ty)
+      target_gives sign name x (pointer_to ty) made = of_gives sign name ty (target x.core) true made
+      target_gives sign name x _ made = record { given_ = tt }
 
-    of_binds : (sign name : PlainToken) (ty : PlainType) (place : PlainPlace) (free : Bool) → Binds K (member_of s sign name ty place free)
-    of_binds sign name (structure number) place free = struct_binds sign name place free number (slice_get s.structs number) refl
-    of_binds sign name _ place free = record { all = tt }
+      selected_gives : (sign name : PlainToken) (o : Operand) → Operands o → Gives K Operands (selected s sign name o)
+      selected_gives sign name o made =
+          gives_if Operands (bytes_eq sign.text (codes ".")) _ _ (of_gives sign name o.ty (struct_place o.ty o.designates) (is_free o.designates) made)
+          (load_gives Operands s o (λ x. member_of_target s sign name x x.ty) made (λ x m. target_gives sign name x x.ty m))
 
-    target_binds : (sign name : PlainToken) (x : Typed) (ty : PlainType) → Binds K (member_of_target s sign name x ty)
-    target_binds sign name x (pointer_to ty) = of_binds sign name ty (target x.core) true
-    target_binds sign name x _ = record { all = tt }
+      -- ---- expressions
 
-    selected_binds : (sign name : PlainToken) (o : Operand) → Binds K (selected s sign name o)
-    selected_binds sign name o =
-        if_binds (bytes_eq sign.text (codes ".")) _ _ (of_binds sign name o.ty (struct_place o.ty o.designates) (is_free o.designates))
-        (load_then s o (λ x. member_of_target s sign name x x.ty) (λ x. target_binds sign name x x.ty))
+      two_give :
+          {B : Type 0} (P : B → Type 0) (first second : Checked Operand) (next : Typed → Typed → Checked B) → Gives K Operands first → Gives K Operands second
+          → ((a b : Typed) → Values a → Values b → Gives K P (next a b))
+          → Gives K P (first >>= (λ left. loaded s left >>= (λ a. second >>= (λ right. loaded s right >>= (λ b. next a b)))))
+      two_give P first second next f g n =
+          gives_then Operands P first (λ left. loaded s left >>= (λ a. second >>= (λ right. loaded s right >>= (λ b. next a b)))) f
+          (λ left l. load_gives P s left (λ a. second >>= (λ right. loaded s right >>= (λ b. next a b))) l
+          (λ a x. gives_then Operands P second (λ right. loaded s right >>= (λ b. next a b)) g (λ right r. load_gives P s right (λ b. next a b) r (λ b y. n a b x y))))
 
-    -- ---- expressions
+      no_call : (first : Checked Operand) (bracket : PlainToken) → Gives K Operands first → Gives K Operands (first >>= (λ operand. loaded s operand >>= (λ x. refused BadOperand bracket)))
+      no_call first bracket f = gives_then Operands Operands first (λ operand. loaded s operand >>= (λ x. refused BadOperand bracket)) f (λ o m. load_gives Operands s o (λ x. refused BadOperand bracket) m (λ x y. record { given_ = tt }))
 
-    two_binds :
-        {B : Type 0} (first second : Checked Operand) (next : Typed → Typed → Checked B) → Binds K first → Binds K second → ((a b : Typed) → Binds K (next a b))
-        → Binds K (first >>= (λ left. loaded s left >>= (λ a. second >>= (λ right. loaded s right >>= (λ b. next a b)))))
-    two_binds first second next f g n = then_binds first _ f (λ left. load_then s left _ (λ a. then_binds second _ g (λ right. load_then s right _ (λ b. n a b))))
+      -- a function that is called is visible
+      record Called (f : Callee) : Type 0 where
+        known : K (file_entity f.name.text)
+        made : MadeSort tags (function f.signature)
 
-    no_call : (first : Checked Operand) (bracket : PlainToken) → Binds K first → Binds {A = Operand} K (first >>= (λ operand. loaded s operand >>= (λ x. refused BadOperand bracket)))
-    no_call first bracket f = then_binds first _ f (λ o. load_then s o _ (λ x. record { all = tt }))
+      sort_called : (token : PlainToken) (sort : Sort) (f : Callee) → K (file_entity token.text) → MadeSort tags sort → callee_of_sort token sort ≡ Some f → Called f
+      sort_called token (variable ty) f known made e = absurd (none-some f e)
+      sort_called token (function signature) f known made e = subst Called (same_Some (record { name = token; signature = signature }) f e) (record { known = known; made = made })
 
-    call_binds :
-        (first : PlainTree) (bracket : PlainToken) (count : Callee → ℕ) (given_ : Callee → Checked PlainArguments) (o : Option Callee) → Binds K (judged s first) → ((f : Callee) → Binds K (given_ f))
-        → Binds K (elim o as (λ x. Checked Operand) [
-          | Some f ↦ uses (file_entity f.name.text) >>= (λ bound. may_be_called s f.signature (count f) bracket >>= (λ callable. given_ f >>= (λ arguments. give (result_of_call s f bracket arguments))))
-          | None ↦ judged s first >>= (λ operand. loaded s operand >>= (λ x. refused BadOperand bracket))
-        ])
-    call_binds first bracket count given_ (Some f) a g =
-        then_binds (uses (file_entity f.name.text)) (λ bound. may_be_called s f.signature (count f) bracket >>= (λ callable. given_ f >>= (λ arguments. give (result_of_call s f bracket arguments)))) (used (file_entity f.name.text) (h.files f.name.text))
-        (λ x. then_binds (may_be_called s f.signature (count f) bracket) _ (callable_binds s f.signature (count f) bracket) (λ y. then_binds (given_ f) _ (g f) (λ z. record { all = tt })))
-    call_binds first bracket count given_ None a g = no_call (judged s first) bracket a
+      name_called : (token : PlainToken) (n : Option FileName) → s.file_names token.text ≡ n → (f : Callee) → callee_of_name token n ≡ Some f → Called f
+      name_called token None i f e = absurd (none-some f e)
+      name_called token (Some n) i f e = let g = h.files token.text n i in sort_called token n.sort f g.0 g.1 e
 
-    empty_call :
-        (first : PlainTree) (bracket : PlainToken) (o : Option Callee) → Binds K (judged s first)
-        → Binds K (elim o as (λ x. Checked Operand) [
-          | Some f ↦ uses (file_entity f.name.text) >>= (λ bound. may_be_called s f.signature 0 bracket >>= (λ callable. give (result_of_call s f bracket Rattle.core_meaning.specs.Program.no_argument)))
-          | None ↦ judged s first >>= (λ operand. loaded s operand >>= (λ x. refused BadOperand bracket))
-        ])
-    empty_call first bracket (Some f) a =
-        then_binds (uses (file_entity f.name.text)) (λ bound. may_be_called s f.signature 0 bracket >>= (λ callable. give (result_of_call s f bracket Rattle.core_meaning.specs.Program.no_argument))) (used (file_entity f.name.text) (h.files f.name.text))
-        (λ x. then_binds (may_be_called s f.signature 0 bracket) _ (callable_binds s f.signature 0 bracket) (λ y. record { all = tt }))
-    empty_call first bracket None a = no_call (judged s first) bracket a
+      local_called : (token : PlainToken) (l : Option Local) (f : Callee) → callee_unless_local s token l ≡ Some f → Called f
+      local_called token (Some l) f e = absurd (none-some f e)
+      local_called token None f e = name_called token (s.file_names token.text) refl f e
 
-    mutual
-      pub judged_binds : (tree : PlainTree) → Binds K (judged s tree)
-      judged_binds (leaf token) = single_binds token (terminal token)
-      judged_binds (node k.Texts parts) = some_then (text_bytes parts) _ (λ bytes. some_then (first_text parts) _ (λ first. record { all = tt }))
-      judged_binds (node k.Parenthesized (more bracket (more inner (more close none)))) = judged_binds inner
-      judged_binds (node k.PostfixStep (more inner (more (leaf sign) none))) = then_binds (judged s inner) (stepped s update_after sign) (judged_binds inner) (λ o. stepped_binds s update_after sign o)
-      judged_binds (node k.PrefixStep (more (leaf sign) (more inner none))) = then_binds (judged s inner) (stepped s update sign) (judged_binds inner) (λ o. stepped_binds s update sign o)
-      judged_binds (node k.Prefix (more (leaf sign) (more inner none))) = then_binds (judged s inner) (prefixed s sign) (judged_binds inner) (λ o. prefixed_binds s sign o)
-      judged_binds (node k.Cast (more (leaf bracket) (more (node words_kind words) (more close (more inner none))))) =
-          then_binds (judged s inner) _ (judged_binds inner) (λ o. load_then s o _ (λ x. cast_binds bracket x (arithmetic_words words)))
-      judged_binds (node k.Selection (more first (more (leaf sign) (more (leaf name) none)))) = then_binds (judged s first) (selected s sign name) (judged_binds first) (λ o. selected_binds sign name o)
-      judged_binds (node k.Index (more first (more (leaf bracket) (more second (more close none))))) =
-          two_binds (judged s first) (judged s second) (indexed s bracket) (judged_binds first) (judged_binds second) (λ a b. indexed_binds s bracket a b)
-      judged_binds (node k.Call (more first (more (leaf bracket) (more (node k.Arguments parts) (more close none))))) =
-          call_binds first bracket (λ f. count_entries parts) (λ f. judged_arguments s f.signature.parameters parts bracket) (callee s first) (judged_binds first) (λ f. arguments_bind f.signature.parameters parts bracket)
-      judged_binds (node k.Call (more first (more (leaf bracket) (more (node k.Absent none) (more close none))))) = empty_call first bracket (callee s first) (judged_binds first)
-      judged_binds (node k.Assignment (more first (more (leaf sign) (more second none)))) =
-          then_binds (judged s first) _ (judged_binds first)
-          (λ left. then_binds (written_place s sign left) _ (written_binds s sign left)
-          (λ place. then_binds (judged s second) _ (judged_binds second) (λ o. load_then s o _ (λ right. assignment_binds s sign left place right))))
-      judged_binds (node k.Conditional (more first (more (leaf question) (more second (more colon (more third none)))))) =
-          then_binds (judged s first >>= condition_value s (first_token first question)) _ (then_binds (judged s first) (condition_value s (first_token first question)) (judged_binds first) (λ o. condition_binds s (first_token first question) o))
-          (λ condition. two_binds (judged s second) (judged s third) (chosen question condition) (judged_binds second) (judged_binds third) (λ a b. chosen_binds question condition a b))
-      judged_binds (node kind (more first (more (leaf sign) (more second none)))) =
-          two_binds (judged s first) (judged s second) (combined_by s kind sign) (judged_binds first) (judged_binds second) (λ a b. combined_binds s kind sign a b)
-      judged_binds (node kind parts) = record { all = tt }
+      called : (tree : PlainTree) (f : Callee) → callee s tree ≡ Some f → Called f
+      called (leaf token) f e = local_called token (local_in s.blocks token.text) f e
+      called (node k.Parenthesized (more bracket (more inner (more close none)))) f e = called inner f e
+      called _ f e = absurd (none-some f e)
 
-      pub arguments_bind : (types : List PlainType) (parts : PlainTrees) (bracket : PlainToken) → Binds K (judged_arguments s types parts bracket)
-      arguments_bind (ty ∷ types) (more tree none) bracket =
-          then_binds (judged s tree) _ (judged_binds tree) (λ o. then_binds (passed s ty o (first_token tree bracket)) _ (passed_binds s ty o (first_token tree bracket)) (λ core. record { all = tt }))
-      arguments_bind (ty ∷ types) (more tree (more comma rest)) bracket =
-          then_binds (judged s tree) _ (judged_binds tree)
-          (λ o. then_binds (passed s ty o (first_token tree bracket)) _ (passed_binds s ty o (first_token tree bracket))
-          (λ core. then_binds (judged_arguments s types rest bracket) _ (arguments_bind types rest bracket) (λ others. record { all = tt })))
-      arguments_bind (ty ∷ types) none bracket = record { all = tt }
-      arguments_bind [] none bracket = record { all = tt }
-      arguments_bind [] (more tree none) bracket = record { all = tt }
-      arguments_bind [] (more tree (more comma rest)) bracket = record { all = tt }
+      callable_gives : (f : Signature) (count : ℕ) (bracket : PlainToken) → Gives K (Anything {A = Unit {0}}) (may_be_called s f count bracket)
+      callable_gives f count bracket = binds_give (may_be_called s f count bracket) (unless_then (is_void f.result || is_complete s.structs f.result) Incomplete bracket (λ complete. unless_so (count == length f.parameters) ArgumentCount bracket) (λ x. unless_binds (count == length f.parameters) ArgumentCount bracket))
 
-    pub valued_binds : (tree : PlainTree) → Binds K (valued s tree)
-    valued_binds tree = then_binds (judged s tree) _ (judged_binds tree) (λ o. loads s o)
+      call_gives :
+          (first : PlainTree) (bracket : PlainToken) (count : Callee → ℕ) (arguments_ : Callee → Checked PlainArguments) (o : Option Callee) → callee s first ≡ o → Gives K Operands (judged s first)
+          → ((f : Callee) → AllMade tags f.signature.parameters → Gives K (Anything {A = PlainArguments}) (arguments_ f))
+          → Gives K Operands (elim o as (λ x. Checked Operand) [
+            | Some f ↦ uses (file_entity f.name.text) >>= (λ bound. may_be_called s f.signature (count f) bracket >>= (λ callable. arguments_ f >>= (λ arguments. give (result_of_call s f bracket arguments))))
+            | None ↦ judged s first >>= (λ operand. loaded s operand >>= (λ x. refused BadOperand bracket))
+          ])
+      call_gives first bracket count arguments_ (Some f) e a g =
+          let c = called first f e in
+          gives_then Anything Operands (uses (file_entity f.name.text)) (λ bound. may_be_called s f.signature (count f) bracket >>= (λ callable. arguments_ f >>= (λ arguments. give (result_of_call s f bracket arguments)))) (record { given_ = ((c.known, tt), tt) })
+          (λ x u. gives_then Anything Operands (may_be_called s f.signature (count f) bracket) (λ callable. arguments_ f >>= (λ arguments. give (result_of_call s f bracket arguments))) (callable_gives f.signature (count f) bracket)
+          (λ y v. gives_then Anything Operands (arguments_ f) (λ arguments. give (result_of_call s f bracket arguments)) (g f c.made.1) (λ z w. record { given_ = (tt, c.made.0) })))
+      call_gives first bracket count arguments_ None e a g = no_call (judged s first) bracket a
 
-    pub judged_condition_binds : (tree : PlainTree) (behind : PlainToken) → Binds K (judged_condition s tree behind)
-    judged_condition_binds tree behind = then_binds (judged s tree) _ (judged_binds tree) (λ o. condition_binds s (first_token tree behind) o)
+      empty_call :
+          (first : PlainTree) (bracket : PlainToken) (o : Option Callee) → callee s first ≡ o → Gives K Operands (judged s first)
+          → Gives K Operands (elim o as (λ x. Checked Operand) [
+            | Some f ↦ uses (file_entity f.name.text) >>= (λ bound. may_be_called s f.signature 0 bracket >>= (λ callable. give (result_of_call s f bracket no_argument)))
+            | None ↦ judged s first >>= (λ operand. loaded s operand >>= (λ x. refused BadOperand bracket))
+          ])
+      empty_call first bracket (Some f) e a =
+          let c = called first f e in
+          gives_then Anything Operands (uses (file_entity f.name.text)) (λ bound. may_be_called s f.signature 0 bracket >>= (λ callable. give (result_of_call s f bracket no_argument))) (record { given_ = ((c.known, tt), tt) })
+          (λ x u. gives_then Anything Operands (may_be_called s f.signature 0 bracket) (λ callable. give (result_of_call s f bracket no_argument)) (callable_gives f.signature 0 bracket) (λ y v. record { given_ = (tt, c.made.0) }))
+      empty_call first bracket None e a = no_call (judged s first) bracket a
+
+      mutual
+        pub judged_gives : (tree : PlainTree) → Gives K Operands (judged s tree)
+        judged_gives (leaf token) = single_gives token (terminal token)
+        judged_gives (node k.Texts parts) =
+            some_gives Operands (text_bytes parts) (λ bytes. or_broken (first_text parts) >>= (λ first. give (of_object first (array_of char (length bytes + 1)) (literal (entity_number s.numbers.literals bytes)) true)))
+            (λ bytes. some_gives Operands (first_text parts) (λ first. give (of_object first (array_of char (length bytes + 1)) (literal (entity_number s.numbers.literals bytes)) true)) (λ first. record { given_ = (tt, tt) }))
+        judged_gives (node k.Parenthesized (more bracket (more inner (more close none)))) = judged_gives inner
+        judged_gives (node k.PostfixStep (more inner (more (leaf sign) none))) = gives_then Operands Operands (judged s inner) (stepped s update_after sign) (judged_gives inner) (λ o m. stepped_gives s update_after sign o m)
+        judged_gives (node k.PrefixStep (more (leaf sign) (more inner none))) = gives_then Operands Operands (judged s inner) (stepped s update sign) (judged_gives inner) (λ o m. stepped_gives s update sign o m)
+        judged_gives (node k.Prefix (more (leaf sign) (more inner none))) = gives_then Operands Operands (judged s inner) (prefixed s sign) (judged_gives inner) (λ o m. quietly Operands (prefixed s sign o) (prefixed_yields tags s sign o m))
+        judged_gives (node k.Cast (more (leaf bracket) (more (node words_kind words) (more close (more inner none))))) =
+            gives_then Operands Operands (judged s inner) (λ o. loaded s o >>= (λ x. cast_to bracket x (arithmetic_words words))) (judged_gives inner)
+            (λ o m. load_gives Operands s o (λ x. cast_to bracket x (arithmetic_words words)) m (λ x y. quietly Operands (cast_to bracket x (arithmetic_words words)) (cast_yields tags bracket x (arithmetic_words words) (made_words tags words))))
+        judged_gives (node k.Selection (more first (more (leaf sign) (more (leaf name) none)))) = gives_then Operands Operands (judged s first) (selected s sign name) (judged_gives first) (λ o m. selected_gives sign name o m)
+        judged_gives (node k.Index (more first (more (leaf bracket) (more second (more close none))))) =
+            two_give Operands (judged s first) (judged s second) (indexed s bracket) (judged_gives first) (judged_gives second) (λ a b x y. quietly Operands (indexed s bracket a b) (indexed_yields tags s bracket a b x y))
+        judged_gives (node k.Call (more first (more (leaf bracket) (more (node k.Arguments parts) (more close none))))) =
+            call_gives first bracket (λ f. count_entries parts) (λ f. judged_arguments s f.signature.parameters parts bracket) (callee s first) refl (judged_gives first) (λ f made. arguments_give f.signature.parameters parts bracket)
+        judged_gives (node k.Call (more first (more (leaf bracket) (more (node k.Absent none) (more close none))))) = empty_call first bracket (callee s first) refl (judged_gives first)
+        judged_gives (node k.Assignment (more first (more (leaf sign) (more second none)))) =
+            gives_then Operands Operands (judged s first) (λ left. written_place s sign left >>= (λ place. judged s second >>= (λ o. loaded s o >>= (λ right. assignment s sign left place right)))) (judged_gives first)
+            (λ left m. gives_then Anything Operands (written_place s sign left) (λ place. judged s second >>= (λ o. loaded s o >>= (λ right. assignment s sign left place right))) (quietly Anything (written_place s sign left) (written_yields tags s sign left))
+            (λ place x. gives_then Operands Operands (judged s second) (λ o. loaded s o >>= (λ right. assignment s sign left place right)) (judged_gives second)
+            (λ o y. load_gives Operands s o (λ right. assignment s sign left place right) y (λ right z. assignment_gives s sign left place right m))))
+        judged_gives (node k.Conditional (more first (more (leaf question) (more second (more colon (more third none)))))) =
+            gives_then Anything Operands (judged s first >>= condition_value s (first_token first question)) (λ condition. judged s second >>= (λ left. loaded s left >>= (λ a. judged s third >>= (λ right. loaded s right >>= (λ b. chosen question condition a b)))))
+            (gives_then Operands Anything (judged s first) (condition_value s (first_token first question)) (judged_gives first) (λ o m. condition_gives s (first_token first question) o m))
+            (λ condition u. two_give Operands (judged s second) (judged s third) (chosen question condition) (judged_gives second) (judged_gives third) (λ a b x y. quietly Operands (chosen question condition a b) (chosen_yields tags question condition a b x y)))
+        judged_gives (node kind (more first (more (leaf sign) (more second none)))) =
+            two_give Operands (judged s first) (judged s second) (combined_by s kind sign) (judged_gives first) (judged_gives second) (λ a b x y. combined_gives s kind sign a b x y)
+        judged_gives (node kind parts) = record { given_ = tt }
+
+        pub arguments_give : (types : List PlainType) (parts : PlainTrees) (bracket : PlainToken) → Gives K (Anything {A = PlainArguments}) (judged_arguments s types parts bracket)
+        arguments_give (ty ∷ types) (more tree none) bracket =
+            gives_then Operands Anything (judged s tree) (λ o. passed s ty o (first_token tree bracket) >>= (λ core. give (argument core no_argument))) (judged_gives tree)
+            (λ o m. gives_then Anything Anything (passed s ty o (first_token tree bracket)) (λ core. give (argument core no_argument)) (passed_gives s ty o (first_token tree bracket) m) (λ core x. record { given_ = (tt, tt) }))
+        arguments_give (ty ∷ types) (more tree (more comma rest)) bracket =
+            gives_then Operands Anything (judged s tree) (λ o. passed s ty o (first_token tree bracket) >>= (λ core. judged_arguments s types rest bracket >>= (λ others. give (argument core others)))) (judged_gives tree)
+            (λ o m. gives_then Anything Anything (passed s ty o (first_token tree bracket)) (λ core. judged_arguments s types rest bracket >>= (λ others. give (argument core others))) (passed_gives s ty o (first_token tree bracket) m)
+            (λ core x. gives_then Anything Anything (judged_arguments s types rest bracket) (λ others. give (argument core others)) (arguments_give types rest bracket) (λ others y. record { given_ = (tt, tt) })))
+        arguments_give (ty ∷ types) none bracket = record { given_ = (tt, tt) }
+        arguments_give [] none bracket = record { given_ = (tt, tt) }
+        arguments_give [] (more tree none) bracket = record { given_ = tt }
+        arguments_give [] (more tree (more comma rest)) bracket = record { given_ = tt }
+
+      pub valued_gives : (tree : PlainTree) → Gives K Values (valued s tree)
+      valued_gives tree = gives_then Operands Values (judged s tree) (loaded s) (judged_gives tree) (λ o m. quietly Values (loaded s o) (loads tags s o m))
+
+      pub valued_binds : (tree : PlainTree) → Binds K (valued s tree)
+      valued_binds tree = gives_binds Values (valued s tree) (valued_gives tree)
+
+      pub judged_condition_binds : (tree : PlainTree) (behind : PlainToken) → Binds K (judged_condition s tree behind)
+      judged_condition_binds tree behind =
+          gives_binds Anything (judged_condition s tree behind) (gives_then Operands Anything (judged s tree) (condition_value s (first_token tree behind)) (judged_gives tree) (λ o m. condition_gives s (first_token tree behind) o m))

@@ -1,6 +1,6 @@
 //! How the entities of a unit are numbered (ISO/IEC 9899:2011, 6.2.1 to 6.2.3): in the order in which the identifiers of the text are first
-//! bound to them. Bindings that are numbered so and have the same firsts correspond, and functions number their slots so; of structs and
-//! members that isn't shown. Here are the definitions (in `specs/`) and the laws, the contracts of functions without a body.
+//! bound to them. Bindings that are numbered so and have the same firsts correspond, and functions number their slots so (of whole units
+//! `unit_numbers` tells it). Here are the definitions (in `specs/`) and the laws, the contracts of functions without a body.
 #![tactic(auto)]
 
 ghost use Rattle.entity_numbers.specs.Laws.{NumberedAreBoundAlike, FirstsAreBoundAlike, BlocksTakeSlotsInTurn, FunctionsTakeSlotsInTurn, UnitsNameParameters};

@@ -1,0 +1,6 @@
+pub mod Runs
+pub mod Fitting
+pub mod Structs
+pub mod Names
+pub mod Items
+pub mod Alike

@@ -1,0 +1,33 @@
+//! The entities of a whole unit are numbered in the order of its text (ISO/IEC 9899:2011, 6.2.1 to 6.2.3). Here are the definitions (in
+//! `specs/`) and the laws, the contracts of functions without a body.
+#![tactic(auto)]
+
+ghost use Rattle.unit_numbers.specs.Laws.{UnitsAreNumbered, UnitsBindAlike};
+ghost use Rattle.unit_numbers.specs.Rows.{EntitiesAreNumbered, NumbersGoOn, NoneIsLeftOut};
+
+/// In a unit of the grammar that is judged well, each entity has the next number of its kind where an identifier is first bound to it:
+/// structs behind those of the units before, members from the first of their struct on, slots from the first of their function on.
+pub fn units_are_numbered()
+    ensures { UnitsAreNumbered }
+{
+    tree_derivations::units_are_derived();
+    entity_numbers::units_name_parameters();
+}
+
+/// So two units bind their identifiers alike, where these have the same numbers, are declared by identifiers with the same numbers,
+/// and stand for entities of one kind.
+pub fn units_bind_alike()
+    ensures { UnitsBindAlike }
+{
+    units_are_numbered();
+    entity_numbers::firsts_are_bound_alike();
+    bindings::judgements_bind_alike();
+    program_occurrences::identifiers_are_bound();
+}
+
+/// What identifiers of units by hand are bound to.
+pub fn worked_rows()
+    ensures numbered { EntitiesAreNumbered }
+    ensures further { NumbersGoOn }
+    ensures none { NoneIsLeftOut }
+{}
