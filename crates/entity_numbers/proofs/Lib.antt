@@ -1,6 +1,7 @@
 pub mod Matched
 pub mod Places
 pub mod Uses
+pub mod Operators
 pub mod Initialisers
 pub mod Slots
 pub mod Blocks

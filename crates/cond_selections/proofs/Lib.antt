@@ -1,0 +1,4 @@
+pub mod Noting
+pub mod Choosing
+pub mod Parts
+pub mod Behind

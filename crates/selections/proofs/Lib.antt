@@ -1,0 +1,4 @@
+pub mod Judgings
+pub mod Identifiers
+pub mod Expressions
+pub mod Initialisers

@@ -1,0 +1,3 @@
+pub mod Selections
+pub mod Laws
+pub mod Rows
