@@ -1,12 +1,16 @@
-use crate::fixtures::{A, A_AND_B, B, NONE, is_of, operand_at, pointer_to, tables, where_b};
+use crate::fixtures::{
+    A, A_AND_B, B, NONE, is_of, operand_at, pointer_to, tables, where_a, where_b,
+};
 use crate::items::{leaf, when};
 use c_text::TokenKind;
 use c_tree::Kind;
 use c_types::CType;
 use choice_trees::{Choice, Item};
-use cond_formula::{Formula, NoMemory, PlainOracle};
+use cond_formula::{Config, Formula, NoMemory, PlainOracle};
 use cond_operands::Operands;
+use cond_selections::{Selection, push_selections};
 use cond_typing::read_expression;
+use conditional::CondList;
 use known_tables::Visible;
 use std::alloc::Global;
 use std::test::Fail;
@@ -68,6 +72,39 @@ fn a_member_is_selected_where_its_struct_is_complete(rt: HostRuntime) -> Result<
     assert!(rt; is_of(operand_at(&all, A), &CType::Int));
     assert!(rt; is_of(operand_at(&all, A_AND_B), &CType::Char));
     assert!(rt; operand_at(&all, NONE).is_none());
+    Ok(())
+}
+
+/// The struct in which the first selection of a configuration selects.
+fn structure_at(log: &CondList<Selection>, bits: u128) -> Option<u32> {
+    for entry in &log.entries {
+        if entry.when.value(Config { bits }) {
+            return Some(entry.what.structure);
+        }
+    }
+    None
+}
+
+fn is_number(found: Option<u32>, number: u32) -> bool {
+    match found {
+        Some(n) => n == number,
+        None => false,
+    }
+}
+
+#[test]
+fn a_selection_is_noted_with_its_struct(rt: HostRuntime) -> Result<(), Fail> {
+    let alloc = rt.alloc();
+    let mut tables = tables(alloc)?;
+    tables.enter()?;
+    tables.declare_local(alloc, b"s", where_b(), CType::Struct(1))?;
+    let known = Visible { tables: &tables };
+    let mut log = CondList::empty(alloc);
+    let item = selection(alloc)?;
+    push_selections(alloc, &known, &mut PlainOracle, &where_a(), &item, &mut log)?;
+    assert!(rt; is_number(structure_at(&log, A), 0));
+    assert!(rt; is_number(structure_at(&log, A_AND_B), 1));
+    assert!(rt; structure_at(&log, B).is_none());
     Ok(())
 }
 
