@@ -14,7 +14,7 @@ use Rattle.conditional.specs.Judgements.{Shows, JudgesUnder}
 use Rattle.operand_rules.specs.declared.operands.Refused.{Refused}
 use Rattle.operand_rules.specs.PlainOperandTypes.{reason}
 use Rattle.operand_types.specs.Operators.{loaded_type}
-use Rattle.cond_selections.specs.declared.selections.Structure.{Structure}
+use Rattle.cond_selections.specs.declared.entries.Structure.{Structure}
 use Rattle.cond_selections.specs.Selected.{structure_number}
 use Rattle.c_types.specs.Types.{PlainType}
 use Rattle.c_tree.specs.declared.kinds.Kind.{Kind}

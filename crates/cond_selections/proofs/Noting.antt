@@ -12,7 +12,7 @@ use Rattle.conditional.proofs.ListLaws.{item_of}
 use Rattle.cond_typing.proofs.VariantsPlaced.{seen_first}
 use Rattle.operand_rules.specs.declared.operands.Refused.{Refused}
 use Rattle.operand_rules.specs.PlainOperandTypes.{reason}
-use Rattle.cond_selections.specs.declared.selections.Structure.{Structure}
+use Rattle.cond_selections.specs.declared.entries.Structure.{Structure}
 use Rattle.bindings.specs.Bindings.{is_name}
 use Rattle.selections.specs.Selections.{structure_named, with_identifier}
 use Rattle.cond_selections.specs.Selected.{structure_number, PlainSelection, identifiers, selecting}

@@ -10,7 +10,7 @@ use Rattle.operand_rules.specs.declared.operands.Refused.{Refused}
 use Rattle.operand_rules.specs.PlainOperandTypes.{reason}
 use Rattle.expression_types.specs.Known.{Known}
 use Rattle.selections.specs.Selections.{turns, selected_in}
-use Rattle.cond_selections.specs.declared.selections.Structure.{Structure}
+use Rattle.cond_selections.specs.declared.entries.Structure.{Structure}
 use Rattle.cond_selections.specs.Selected.{structure_number, PlainSelection, identifiers, selecting}
 
 -- ---- structs

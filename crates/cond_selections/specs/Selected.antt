@@ -5,8 +5,8 @@ use Rattle.choice_trees.specs.Leaves.{Leaf, item_leaves}
 use Rattle.bindings.specs.Bindings.{is_name}
 use Rattle.expression_types.specs.Known.{Known}
 use Rattle.selections.specs.Selections.{structures_selected}
-use Rattle.cond_selections.specs.declared.selections.Structure.{Structure}
-use Rattle.cond_selections.specs.declared.selections.Selection.{Selection}
+use Rattle.cond_selections.specs.declared.entries.Structure.{Structure}
+use Rattle.cond_selections.specs.declared.entries.Selection.{Selection}
 
 abbrev pub structure_number : Structure → ℕ
 structure_number s = s.number

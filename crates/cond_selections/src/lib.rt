@@ -1,10 +1,10 @@
 //! In which structs the expressions of a forest select members, in all configurations at once.
 #![tactic(auto)]
 
+mod entries;
 mod names;
-mod selections;
 mod structures;
 mod walks;
 
-pub use selections::{Selection, Structure};
+pub use entries::{Selection, Structure};
 pub use walks::push_selections;

@@ -9,7 +9,7 @@ ghost use Rattle.selections.specs.Selections.{structure_named, with_identifier};
 ghost use Rattle.cond_selections.specs.Selected.{structure_number, plain_selection};
 ghost use Rattle.cond_selections.specs.Progress.{ShowsStructure, one_selection, Logs};
 
-use crate::selections::{Selection, Structure};
+use crate::entries::{Selection, Structure};
 use crate::structures::Structures;
 use c_text::Token;
 use c_tree::{Terminal, terminal};

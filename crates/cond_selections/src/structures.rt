@@ -17,7 +17,7 @@ ghost use Rattle.cond_selections.specs.Selected.{structure_number};
 ghost use Rattle.cond_selections.specs.Progress as progress;
 ghost use Rattle.cond_selections.specs.Progress.{or_refused, ShowsStructure};
 
-use crate::selections::Structure;
+use crate::entries::Structure;
 use c_text::Token;
 use c_tree::Kind;
 use c_types::CType;

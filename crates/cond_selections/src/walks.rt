@@ -12,8 +12,8 @@ ghost use Rattle.selections.specs.Selections.{selected_in, selected_in_parts};
 ghost use Rattle.cond_selections.specs.Selected.{plain_selection, selections_at};
 ghost use Rattle.cond_selections.specs.Progress.{ShowsStructure, Logs, turns_if_any, selected_if_any};
 
+use crate::entries::Selection;
 use crate::names::push_token;
-use crate::selections::Selection;
 use crate::structures::{Structures, no_structure, structure_of_node};
 use c_tree::{Kind, Terminal, terminal};
 use choice_trees::{Choice, Item};
