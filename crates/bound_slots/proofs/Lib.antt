@@ -1,0 +1,3 @@
+mod Constants
+mod Sizes
+mod Units
