@@ -7,15 +7,17 @@ use Rattle.c_text.specs.Token.{PlainToken}
 use Rattle.c_tree.specs.Trees.{PlainTree, spelled}
 use Rattle.core_meaning.specs.Checking.{Entity, local_entity, local_of_function, file_entity, struct_entity, member_entity, own_entity, Binding, fine}
 use Rattle.core_meaning.specs.Entities.{Struct}
+use Rattle.core_meaning.specs.Linking.{no_numbers}
 use Rattle.core_meaning.specs.UnitNames.{UnitState}
 use Rattle.bindings.specs.Visible.{bound_to, undeclared, member_use, Binding as Bound, Occurrence as BoundIdentifier}
 use Rattle.bindings.specs.Bindings.{is_name, bindings_of}
 use Rattle.bindings.specs.Judged.{Identified}
 use Rattle.bindings.specs.Laws.{IsWritten}
-use Rattle.program_occurrences.specs.Occurrences.{Identifier, identifiers_from, UnitNames, names_of_unit, judged_behind, Occurrence, occurrences_of}
+use Rattle.program_occurrences.specs.Occurrences.{Identifier, identifiers_from, with_entities, UnitNames, judged_bindings, names_of_unit, judged_behind, Occurrence, occurrence_among, occurrences_of}
 use Rattle.program_occurrences.specs.Laws.{DeclarationsAreOccurrences, identifier_of, IdentifiersAreBound, IsBoundTo, IsBoundBy, IsOccurrenceOf, OccurrencesAreBound}
 use Rattle.bound_names.specs.Laws.{IsNamed, IsBoundToName, IdentifiersKeepNames}
-use Rattle.occurrence_names.specs.Laws.{IsNoSlotOfDeclaration, KeepsName, OccurrencesKeepNames}
+use Rattle.bound_slots.specs.Laws.{IsNoFreeSlot, SlotsAreOfFunctions}
+use Rattle.occurrence_names.specs.Laws.{KeepsName, OccurrencesKeepNames}
 
 abbrev In : {X : Type 0} → X → List X → Type 0
 In x [] = ⊥
@@ -79,8 +81,8 @@ at P x [] a i = absurd i
 at P x (y ∷ xs) a (inl e) = subst P (sym e) a.0
 at P x (y ∷ xs) a (inr i) = at P x xs a.1 i
 
--- what is no slot of a declaration is bound to what declares it
-bound-by : (all : List Identified) (b : Bound) (o : Occurrence) (e : Entity) → IsNoSlotOfDeclaration e → IsBoundBy all b o e → IsBoundTo all b o
+-- what is no free slot is bound to what declares it
+bound-by : (all : List Identified) (b : Bound) (o : Occurrence) (e : Entity) → IsNoFreeSlot e → IsBoundBy all b o e → IsBoundTo all b o
 bound-by all b o (local_entity slot) plain is = absurd plain
 bound-by all b o (local_of_function f slot) plain is = is
 bound-by all b o (file_entity name) plain is = is
@@ -93,7 +95,19 @@ named-by all bs name (bound_to by) o is named = subst (IsNamed bs name) is named
 named-by all bs name undeclared o is named = absurd is
 named-by all bs name (member_use which) o is named = named is.tag.token.text o.declared_by.number is.bound
 
-module _ (declared : DeclarationsAreOccurrences) (identified : IdentifiersAreBound) (bound : OccurrencesAreBound) (kept : IdentifiersKeepNames) (tree : PlainTree) (written : IsWritten tree) (structs : List Struct) (state : UnitState) (js : List Binding) (judged : judged_behind structs tree ≡ fine state js) where
+-- no occurrence stands for a free slot where no identifier is bound to one
+identified-free : (is : List Identifier) (js : List Binding) (i : Identified) → AllByRecursion (λ b. IsNoFreeSlot b.entity) js → In i (with_entities is js) → IsNoFreeSlot i.entity
+identified-free [] js i free among = absurd among
+identified-free (first ∷ is) [] i free among = absurd among
+identified-free (first ∷ is) (j ∷ js) i free (inl e) = subst (λ (x : Identified). IsNoFreeSlot x.entity) (sym e) free.0
+identified-free (first ∷ is) (j ∷ js) i free (inr more) = identified-free is js i free.1 more
+
+occurrence-free : (all is : List Identified) (o : Occurrence) → ((i : Identified) → In i is → IsNoFreeSlot i.entity) → In o (map (occurrence_among all) is) → IsNoFreeSlot o.identifier.entity
+occurrence-free all [] o free among = absurd among
+occurrence-free all (i ∷ is) o free (inl e) = subst (λ (x : Occurrence). IsNoFreeSlot x.identifier.entity) (sym e) (free i (inl refl))
+occurrence-free all (i ∷ is) o free (inr more) = occurrence-free all is o (λ x among. free x (inr among)) more
+
+module _ (declared : DeclarationsAreOccurrences) (identified : IdentifiersAreBound) (bound : OccurrencesAreBound) (kept : IdentifiersKeepNames) (slots : SlotsAreOfFunctions) (tree : PlainTree) (written : IsWritten tree) (structs : List Struct) (state : UnitState) (js : List Binding) (judged : judged_behind structs tree ≡ fine state js) where
   abbrev unit : UnitNames
   unit = names_of_unit tree (judged_behind structs tree)
 
@@ -111,12 +125,19 @@ module _ (declared : DeclarationsAreOccurrences) (identified : IdentifiersAreBou
       (one-number 0 (spelled tree) (identifier_of a) (identifier_of b) e
       (subst (In (identifier_of a)) all (in-map identifier_of a (bindings_of tree) i)) (subst (In (identifier_of b)) all (in-map identifier_of b (bindings_of tree) j)))
 
+  free : (o : Occurrence) → In o (occurrences_of unit) → IsNoFreeSlot o.identifier.entity
+  free o i =
+      occurrence-free unit.identified unit.identified o
+      (λ x among. identified-free (identifiers_from 0 (spelled tree)) (judged_bindings (judged_behind structs tree)) x
+      (subst (λ c. AllByRecursion (λ b. IsNoFreeSlot b.entity) (judged_bindings c)) (sym judged)
+      (recursion_from_All (λ b. IsNoFreeSlot b.entity) js (slots 0 structs (no_numbers 0) tree state js judged))) among) i
+
   keeps : (o : Occurrence) → In o (occurrences_of unit) → Contains (occurrences_of unit) o → KeepsName o
-  keeps o i c plain =
+  keeps o i c =
       let own = pair o i in
       let named : IsNamed (bindings_of tree) own.bound.token.text o.declared_by.number =
       named-by unit.identified (bindings_of tree) own.bound.token.text own.bound.binding o
-      (bound-by unit.identified own.bound.binding o o.identifier.entity plain own.is.bound)
+      (bound-by unit.identified own.bound.binding o o.identifier.entity (free o i) own.is.bound)
       (at (λ b. IsBoundToName (bindings_of tree) b.token.text b.binding) own.bound (bindings_of tree)
       (recursion_from_All (λ b. IsBoundToName (bindings_of tree) b.token.text b.binding) (bindings_of tree) (kept tree)) own.among) in
       let d = declared unit o c in
@@ -138,8 +159,8 @@ contains-of x [] i = absurd i
 contains-of x (y ∷ xs) (inl e) = (0, omega arith, sym e)
 contains-of x (y ∷ xs) (inr i) = let c = contains-of x xs i in (suc c.0, omega (arith, c.1), c.2)
 
-pub names-kept : DeclarationsAreOccurrences → IdentifiersAreBound → OccurrencesAreBound → IdentifiersKeepNames → OccurrencesKeepNames
-names-kept declared identified bound kept tree written structs state js judged =
+pub names-kept : DeclarationsAreOccurrences → IdentifiersAreBound → OccurrencesAreBound → IdentifiersKeepNames → SlotsAreOfFunctions → OccurrencesKeepNames
+names-kept declared identified bound kept slots tree written structs state js judged =
     All-from_recursion KeepsName (occurrences_of (names_of_unit tree (judged_behind structs tree)))
-    (each declared identified bound kept tree written structs state js judged (occurrences_of (names_of_unit tree (judged_behind structs tree)))
+    (each declared identified bound kept slots tree written structs state js judged (occurrences_of (names_of_unit tree (judged_behind structs tree)))
     (λ o i. i) (λ o i. contains-of o (occurrences_of (names_of_unit tree (judged_behind structs tree))) i))

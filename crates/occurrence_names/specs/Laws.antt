@@ -1,22 +1,17 @@
 -- LAWS, each the contract of a function of this crate.
 use Rattle.std.specs.Prelude.{◌≡◌, List, All}
 use Rattle.c_tree.specs.Trees.{PlainTree}
-use Rattle.core_meaning.specs.Checking.{Entity, local_entity, Binding, fine}
+use Rattle.core_meaning.specs.Checking.{Binding, fine}
 use Rattle.core_meaning.specs.Entities.{Struct}
 use Rattle.core_meaning.specs.UnitNames.{UnitState}
 use Rattle.bindings.specs.Laws.{IsWritten}
 use Rattle.program_occurrences.specs.Occurrences.{names_of_unit, judged_behind, Occurrence, occurrences_of}
 
--- It isn't a slot that is no function's, that of a parameter of a declaration, which a judgement tells apart no further.
-abbrev pub IsNoSlotOfDeclaration : Entity → Type 0
-IsNoSlotOfDeclaration (local_entity slot) = ⊥
-IsNoSlotOfDeclaration other = Unit {0}
-
 -- the identifier has the name of the one that declares it
 abbrev pub KeepsName : Occurrence → Type 0
-KeepsName o = IsNoSlotOfDeclaration o.identifier.entity → o.identifier.token.text ≡ o.declared_by.token.text
+KeepsName o = o.identifier.token.text ≡ o.declared_by.token.text
 
--- In a unit that is judged well, each occurrence has the name of what declares it; of a slot that is no function's nothing is said.
+-- In a unit that is judged well, each occurrence has the name of what declares it.
 abbrev pub OccurrencesKeepNames : Type 0
 OccurrencesKeepNames =
     (tree : PlainTree) → IsWritten tree → (structs : List Struct) (state : UnitState) (js : List Binding) → judged_behind structs tree ≡ fine state js

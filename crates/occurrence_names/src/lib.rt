@@ -5,6 +5,7 @@
 ghost use Rattle.occurrence_names.specs.Laws.{OccurrencesKeepNames};
 
 use bound_names::identifiers_keep_names;
+use bound_slots::slots_are_of_functions;
 use program_occurrences::{
     declarations_are_occurrences, identifiers_are_bound, occurrences_are_bound,
 };
@@ -17,4 +18,5 @@ pub fn occurrences_keep_names()
     identifiers_are_bound();
     occurrences_are_bound();
     identifiers_keep_names();
+    slots_are_of_functions();
 }
