@@ -1,2 +1,2 @@
-mod Steps
-mod Readings
+pub mod Steps
+pub mod Readings

@@ -152,7 +152,8 @@ items-go (more tree rest) r = goes-on (item-goes tree r) (items-go rest (read_it
 named-start : IsNamedSo start
 named-start = record { file = tt; blocks = tt; found = tt }
 
-unit-named : (tree : PlainTree) → IsNamedSo (read_unit tree)
+-- visible names are those of the identifiers that declare them, at the end of a unit too
+pub unit-named : (tree : PlainTree) → IsNamedSo (read_unit tree)
 unit-named (node k.Unit items) = let g = items-go items start in g.keeps named-start
 unit-named other = named-start
 

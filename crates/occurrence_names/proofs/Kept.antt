@@ -19,7 +19,7 @@ use Rattle.bound_names.specs.Laws.{IsNamed, IsBoundToName, IdentifiersKeepNames}
 use Rattle.bound_slots.specs.Laws.{IsNoFreeSlot, SlotsAreOfFunctions}
 use Rattle.occurrence_names.specs.Laws.{KeepsName, OccurrencesKeepNames}
 
-abbrev In : {X : Type 0} → X → List X → Type 0
+abbrev pub In : {X : Type 0} → X → List X → Type 0
 In x [] = ⊥
 In x (y ∷ ys) = (x ≡ y) ⊎ In x ys
 
@@ -28,10 +28,10 @@ in-at x [] k h e = absurd (omega (arith, h))
 in-at x (y ∷ xs) zero h e = inl (sym e)
 in-at x (y ∷ xs) (suc k) h e = inr (in-at x xs k (omega (arith, h)) e)
 
-in-of : {X : Type 0} (x : X) (xs : List X) → Contains xs x → In x xs
+pub in-of : {X : Type 0} (x : X) (xs : List X) → Contains xs x → In x xs
 in-of x xs c = in-at x xs c.0 c.1 c.2
 
-in-map : {X Y : Type 0} (f : X → Y) (x : X) (xs : List X) → In x xs → In (f x) (map f xs)
+pub in-map : {X Y : Type 0} (f : X → Y) (x : X) (xs : List X) → In x xs → In (f x) (map f xs)
 in-map f x [] i = absurd i
 in-map f x (y ∷ xs) (inl e) = inl (ap f e)
 in-map f x (y ∷ xs) (inr i) = inr (in-map f x xs i)
@@ -58,7 +58,7 @@ one-by n first rest i j true e later (inr a) (inl c) =
 one-by n first rest i j true e later (inr a) (inr c) = later a c
 one-by n first rest i j false e later a c = later a c
 
-one-number : (n : ℕ) (tokens : List PlainToken) (i j : Identifier) → i.number ≡ j.number → In i (identifiers_from n tokens) → In j (identifiers_from n tokens) → i ≡ j
+pub one-number : (n : ℕ) (tokens : List PlainToken) (i j : Identifier) → i.number ≡ j.number → In i (identifiers_from n tokens) → In j (identifiers_from n tokens) → i ≡ j
 one-number n [] i j e a c = absurd a
 one-number n (first ∷ rest) i j e a c = one-by n first rest i j (is_name first) e (one-number (n + 1) rest i j e) a c
 
@@ -76,7 +76,7 @@ paired all (b ∷ bs) [] o z i = absurd z
 paired all (b ∷ bs) (p ∷ os) o z (inl e) = record { bound = b; among = inl refl; is = subst (IsOccurrenceOf all b) (sym e) z.0 }
 paired all (b ∷ bs) (p ∷ os) o z (inr i) = let l = paired all bs os o z.1 i in record { bound = l.bound; among = inr l.among; is = l.is }
 
-at : {X : Type 0} (P : X → Type 0) (x : X) (xs : List X) → AllByRecursion P xs → In x xs → P x
+pub at : {X : Type 0} (P : X → Type 0) (x : X) (xs : List X) → AllByRecursion P xs → In x xs → P x
 at P x [] a i = absurd i
 at P x (y ∷ xs) a (inl e) = subst P (sym e) a.0
 at P x (y ∷ xs) a (inr i) = at P x xs a.1 i

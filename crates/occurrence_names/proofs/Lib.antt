@@ -1,1 +1,3 @@
-mod Kept
+pub mod Kept
+mod Units
+pub mod FileNames
