@@ -8,7 +8,7 @@ use Rattle.c_text.specs.Lines.{PlainLine, AreItsLines}
 use Rattle.c_text.specs.Directives.{in_body}
 use Rattle.c_text.specs.Macros.{Item, in_call, brought, feature}
 use Rattle.c_text.specs.Trees.{Part, finish, breaks, text_lines, directive_line, group, broken_group, Branches, no_branch, branch, lines_in, lines_of_branches, IsText, IsFormed, AreFormed, are_some, IsRead, whole_file, open_at_end, broken_at}
-use Rattle.c_text.specs.Preprocessing.{Refusal, Reading, Flow, on, refused, tokens_of_lines, Source, project_file, stdio, stdlib, Sources, Syntax, IsSyntaxOf, file_at, source_name, built_in_file, built_in_text, setting, read_source, most_nested, at_start, feature_token, gives, is_refused, outcome_of, preprocessed}
+use Rattle.c_text.specs.Preprocessing.{Reading, tokens_of_lines, Source, project_file, stdio, stdlib, Sources, Syntax, IsSyntaxOf, file_at, source_name, built_in_file, built_in_text, setting, read_source, most_nested, at_start, feature_token, preprocessed}
 use Rattle.plain_pp.specs.Laws.{ProjectsHaveSyntax}
 use Rattle.active_tokens.proofs.Everywhere.{each-append, each-left, each-right, by-choice}
 use Rattle.renamed_units.proofs.Tokens.{In, each-of, entry, entries, entry-of, entries-rise, own-in}
@@ -18,7 +18,7 @@ use Rattle.renamed_units.proofs.Sources.{IsThere, found-there}
 use Rattle.copied_tokens.specs.Copies.{IsOnTextLine, IsCopied, from_file, from_header, from_body}
 use Rattle.copied_tokens.specs.Laws.{TokensAreCopied}
 use Rattle.copied_tokens.proofs.Replacing.{Tokens, GoodFound}
-use Rattle.copied_tokens.proofs.Reading.{GoodReading, GoodFlow, GoodTexts, GoodBranches, part-good}
+use Rattle.copied_tokens.proofs.Reading.{GoodReading, GoodFlow, flow-gives, GoodTexts, GoodBranches, part-good}
 
 -- ---- a copy of a copy is one
 
@@ -72,7 +72,7 @@ module _ (s : Sources) where
     texts-of whole finish f a = tt
     texts-of whole breaks f a = tt
     texts-of whole (text_lines lines rest) f a =
-        (run-of lines (recursion_from_All IsText lines f.1) (each-left GoodLine lines (lines_in rest) a), texts-of whole rest f.3 (each-right GoodLine lines (lines_in rest) a))
+        (λ fine. run-of lines (recursion_from_All IsText lines f.1) (each-left GoodLine lines (lines_in rest) a), texts-of whole rest f.3 (each-right GoodLine lines (lines_in rest) a))
     texts-of whole (directive_line line rest) f a = texts-of whole rest f.1 a.1
     texts-of whole (group first body others last rest) f a =
         let before : GoodLines (lines_in body ++ lines_of_branches others) = each-left GoodLine (lines_in body ++ lines_of_branches others) (last ∷ lines_in rest) a.1 in
@@ -149,19 +149,9 @@ module _ (s : Sources) where
     tokens = tt;
   }
 
-  flow-gives : (flow : Flow) (tokens : List PlainToken) → GoodFlow (IsCopied s) brings bodies flow → outcome_of flow ≡ gives tokens → Good tokens
-  flow-gives (on r) tokens g e = let same : r.tokens ≡ tokens = gives-same r.tokens tokens e in subst Good same g.tokens
-    where
-      gives-same : (a b : List PlainToken) → gives a ≡ gives b → a ≡ b
-      gives-same a b e = cc
-  flow-gives (refused why) tokens g e = absurd (refused-gives why tokens e)
-    where
-      refused-gives : (why : Refusal) (b : List PlainToken) → is_refused why ≡ gives b → ⊥
-      refused-gives why b e = cc
-
 pub all-copied : ProjectsHaveSyntax → TokensAreCopied
 all-copied have s number tokens unit is =
     let x : Syntax = (have s).0 in
     let are : IsSyntaxOf s x = (have s).1 in
     All-from_recursion (IsCopied s) tokens
-    (flow-gives s (preprocessed s x number) tokens (source-good s x are unit.headers most_nested (project_file number) unit.unit (at_start s) (start-good s)) (is x are))
+    (flow-gives (IsCopied s) (brings s) (bodies s) (preprocessed s x number) tokens (source-good s x are unit.headers most_nested (project_file number) unit.unit (at_start s) (start-good s)) (is x are))

@@ -3,3 +3,4 @@ mod Reading
 mod Copied
 mod Read
 mod Texts
+mod Predefined

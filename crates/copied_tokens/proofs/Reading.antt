@@ -1,5 +1,5 @@
--- What a file gives has each property that the tokens of its text lines, and those of the bodies of macros, have.
-use Rattle.std.proofs.Common.{◌≡◌, ℕ, Bool, true, false, ◌||◌, ◌&&◌, List, [], ◌∷◌, map, drop, Option, Some, None, codes, refl}
+-- What a file gives has each property that the tokens of its text lines have where none of them is refused, and those of the bodies of macros.
+use Rattle.std.proofs.Common.{◌≡◌, ℕ, Bool, true, false, ◌||◌, ◌&&◌, List, [], ◌∷◌, map, drop, Option, Some, None, codes, refl, subst}
 use Rattle.std.specs.Prelude.{⊤}
 use Rattle.std.specs.List.{list_any}
 use Rattle.std.specs.Str.{bytes_eq}
@@ -8,7 +8,7 @@ use Rattle.c_text.specs.Lines.{PlainLine}
 use Rattle.c_text.specs.Directives.{PlainMacro, PlainDirective, if_line, ifdef_line, ifndef_line, elif_line, else_line, endif_line, define_line, bad_define, undef_line, include_line, error_line, null_line, malformed, is_spelled, is_word, is_fixed_name, is_barred, has_repetition, Parameters, parameters_of, in_body, macro_line, function_like, definition, by_word, removal, inclusion, ends_with_angle, is_text_kind, directive_of}
 use Rattle.c_text.specs.Macros.{Meaning, Table, Item, Replaced, fine, bad_call, brought, replaced}
 use Rattle.c_text.specs.Trees.{Part, finish, breaks, text_lines, directive_line, group, broken_group, Branches, no_branch, branch}
-use Rattle.c_text.specs.Preprocessing.{Refusal, refused_token, refused_ignored, Reading, Flow, on, refused, then_read, unless, emitted, read_run, tokens_of_lines, Condition, holds, fails, condition_at, meaning, put, same_meaning, redefined, Source, source_of, Setting, included, directed, read_directive, by_condition, skip, branched, read_part, read_branches}
+use Rattle.c_text.specs.Preprocessing.{Refusal, refused_token, refused_ignored, Reading, Flow, on, refused, then_read, unless, emitted, read_run, tokens_of_lines, Condition, holds, fails, condition_at, meaning, put, same_meaning, redefined, Source, source_of, Setting, included, directed, read_directive, by_condition, skip, branched, read_part, read_branches, gives, is_refused, outcome_of}
 use Rattle.active_tokens.proofs.Everywhere.{each-append, each-map, by-choice}
 use Rattle.copied_tokens.proofs.Replacing.{Comes, ComesItem, Tokens, Items, GoodMeaning, GoodFound, GoodTable, GoodReplaced, replaced-good}
 
@@ -21,21 +21,41 @@ module _ (P : PlainToken → Type 0) (brings : (first last : PlainToken) (item :
   GoodFlow (on r) = GoodReading r
   GoodFlow (refused why) = ⊤
 
+  -- where a unit gives tokens, these have it
+  pub flow-gives : (flow : Flow) (tokens : List PlainToken) → GoodFlow flow → outcome_of flow ≡ gives tokens → Tokens P brings tokens
+  flow-gives (on r) tokens g e = subst (Tokens P brings) (gives-same r.tokens tokens e) g.tokens
+    where
+      gives-same : (a b : List PlainToken) → gives a ≡ gives b → a ≡ b
+      gives-same a b e = cc
+  flow-gives (refused why) tokens g e = absurd (refused-gives why tokens e)
+    where
+      refused-gives : (why : Refusal) (b : List PlainToken) → is_refused why ≡ gives b → ⊥
+      refused-gives why b e = cc
+
   -- ---- runs
 
   given : (items : List Item) → Items P brings items → Tokens P brings (map (λ item. item.token) items)
   given items a = each-map (Comes P brings) (ComesItem P brings) (λ item. item.token) (λ item x. x) items a
 
-  emitted-good : (r : Reading) (tokens : List PlainToken) (found : Option Refusal) (what : Replaced) → GoodReading r → GoodReplaced P brings what → GoodFlow (emitted r tokens found what)
-  emitted-good r tokens (Some why) (fine items) g a = tt
-  emitted-good r tokens None (fine items) g a =
+  emitted-good : (r : Reading) (tokens : List PlainToken) (what : Replaced) → GoodReading r → GoodReplaced P brings what → GoodFlow (emitted r tokens None what)
+  emitted-good r tokens (fine items) g a =
       record { table = g.table; tokens = each-append (Comes P brings) r.tokens (map (λ item. item.token) items) g.tokens (given items a) }
-  emitted-good r tokens None (bad_call name) g a = tt
-  emitted-good r tokens (Some why) (bad_call name) g a = tt
+  emitted-good r tokens (bad_call name) g a = tt
 
-  run-good : (r : Reading) (tokens : List PlainToken) → GoodReading r → Tokens P brings tokens → GoodFlow (read_run r tokens)
-  run-good r tokens g a =
-      emitted-good r tokens (refused_token tokens) (replaced r.table tokens) g (replaced-good P brings r.table tokens g.table a)
+  refused-good : (r : Reading) (tokens : List PlainToken) (why : Refusal) (what : Replaced) → GoodFlow (emitted r tokens (Some why) what)
+  refused-good r tokens why (fine items) = tt
+  refused-good r tokens why (bad_call name) = tt
+
+  -- the tokens of a run have it, unless one of them is refused
+  abbrev pub GoodRun : List PlainToken → Type 0
+  GoodRun tokens = refused_token tokens ≡ None → Tokens P brings tokens
+
+  run-good : (r : Reading) (tokens : List PlainToken) → GoodReading r → GoodRun tokens → GoodFlow (read_run r tokens)
+  run-good r tokens g a = by (refused_token tokens) a
+    where
+      by : (found : Option Refusal) → (found ≡ None → Tokens P brings tokens) → GoodFlow (emitted r tokens found (replaced r.table tokens))
+      by (Some why) a = refused-good r tokens why (replaced r.table tokens)
+      by None a = emitted-good r tokens (replaced r.table tokens) g (replaced-good P brings r.table tokens g.table (a refl))
 
   -- ---- bodies of macros
 
@@ -117,12 +137,12 @@ module _ (P : PlainToken → Type 0) (brings : (first last : PlainToken) (item :
   GoodDeeper There None = ⊤
   GoodDeeper There (Some read) = (source : Source) → There source → (r : Reading) → GoodReading r → GoodFlow (read source r)
 
-  -- the tokens of the text lines of a part
+  -- so for the text lines of a part
   abbrev mutual
     pub GoodTexts : Part → Type 0
     GoodTexts finish = ⊤
     GoodTexts breaks = ⊤
-    GoodTexts (text_lines lines rest) = Tokens P brings (tokens_of_lines lines) × GoodTexts rest
+    GoodTexts (text_lines lines rest) = GoodRun (tokens_of_lines lines) × GoodTexts rest
     GoodTexts (directive_line line rest) = GoodTexts rest
     GoodTexts (group first body others last rest) = GoodTexts body × GoodBranches others × GoodTexts rest
     GoodTexts (broken_group first body others) = GoodTexts body × GoodBranches others

@@ -1,8 +1,9 @@
 -- The tokens of files of which the tokens that preprocessing gives are copies (ISO/IEC 9899:2011, 6.10.3).
-use Rattle.std.specs.Prelude.{◌≡◌, ◌<◌, ℕ, false, List, length, Contains}
+use Rattle.std.specs.Prelude.{◌≡◌, ◌<◌, ℕ, false, List, length, Contains, IsTrue}
 use Rattle.c_text.specs.declared.origin.Place.TheVariants.{MacroBody}
 use Rattle.c_text.specs.Token.{PlainToken}
 use Rattle.c_text.specs.Lines.{PlainLine, AreItsLines}
+use Rattle.c_text.specs.Directives.{is_word, is_predefined}
 use Rattle.c_text.specs.Preprocessing.{Sources, file_at, built_in_file, built_in_text}
 
 -- In the file with this number and these bytes a token of this kind and text stands where the token comes from, on a line that is no
@@ -25,3 +26,7 @@ pub data IsCopied (s : Sources) (token : PlainToken) : Type 0 where
   from_file : (number : ℕ) → number < length s.files → IsOnTextLine number (file_at s number).bytes token → IsCopied s token
   from_header : IsOnTextLine built_in_file built_in_text token → IsCopied s token
   from_body : token.origin.place ≡ MacroBody → IsCopied s token
+
+-- If it is a name that is predefined, it comes out of the body of a macro.
+abbrev pub IsFromBodyIfPredefined : PlainToken → Type 0
+IsFromBodyIfPredefined token = IsTrue (is_word token) → IsTrue (is_predefined token) → token.origin.place ≡ MacroBody

@@ -6,7 +6,7 @@ use Rattle.c_text.specs.Lines.{PlainLine, AreItsLines}
 use Rattle.c_text.specs.Preprocessing.{Sources, gives, IsPreprocessed}
 use Rattle.active_tokens.specs.Active.{IsActive}
 use Rattle.renamed_units.specs.Laws.{IsUnitOf}
-use Rattle.copied_tokens.specs.Copies.{IsCopied}
+use Rattle.copied_tokens.specs.Copies.{IsCopied, IsFromBodyIfPredefined}
 
 -- Each token that a unit gives is a copy of one on a text line, or comes out of the body of a macro.
 abbrev pub TokensAreCopied : Type 0
@@ -24,3 +24,8 @@ abbrev pub PlacesTellTokens : Type 0
 PlacesTellTokens =
     (number : ℕ) (bytes : List ℕ) (lines : List PlainLine) (line other : PlainLine) (a b : PlainToken) → AreItsLines number bytes lines
     → Contains lines line → Contains line.tokens a → Contains lines other → Contains other.tokens b → a.origin.span ≡ b.origin.span → a ≡ b
+
+-- The predefined names that a unit gives come out of the bodies of macros, since one that stands on a text line is refused.
+abbrev pub PredefinedComeFromBodies : Type 0
+PredefinedComeFromBodies =
+    (s : Sources) (number : ℕ) (tokens : List PlainToken) → IsPreprocessed s number (gives tokens) → All IsFromBodyIfPredefined tokens

@@ -2,7 +2,7 @@
 //! the laws, each the contract of a function without a body of its own.
 #![tactic(auto)]
 
-ghost use Rattle.copied_tokens.specs.Laws.{TokensAreCopied, NamesAreRead, PlacesTellTokens};
+ghost use Rattle.copied_tokens.specs.Laws.{TokensAreCopied, NamesAreRead, PlacesTellTokens, PredefinedComeFromBodies};
 
 use plain_pp::projects_have_syntax;
 
@@ -22,3 +22,10 @@ pub fn names_are_read()
 pub fn places_tell_tokens()
     ensures { PlacesTellTokens }
 {}
+
+/// The predefined names that a unit gives come out of the bodies of macros.
+pub fn predefined_come_from_bodies()
+    ensures { PredefinedComeFromBodies }
+{
+    projects_have_syntax();
+}
