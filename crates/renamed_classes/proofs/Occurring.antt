@@ -18,7 +18,7 @@ pub record OccursSomewhere (project : PlainProject) (files : List PlainFile) (to
   pub there : file_token found.occurrence ≡ token
 
 module _ (declared : DeclarationsAreOccurrences) (project : PlainProject) (files : List PlainFile) where
-  occurs-in : {units : List UnitNames} (are : AreOfProduct project files units) (o : OccursIn units) → OccursSomewhere project files (file_token o.occurrence)
+  pub occurs-in : {units : List UnitNames} (are : AreOfProduct project files units) (o : OccursIn units) → OccursSomewhere project files (file_token o.occurrence)
   occurs-in are o = record {
     configuration = are.configuration;
     product = are.product;

@@ -4,6 +4,7 @@ use Rattle.std.specs.List.{AllByRecursion}
 use Rattle.std.proofs.lemmas.List.Elements.{recursion_from_All}
 use Rattle.text_edits.specs.Files.{PlainFile}
 use Rattle.cond_formula.specs.Features.{has}
+use Rattle.c_text.specs.declared.origin.Place.TheVariants.{MacroBody}
 use Rattle.c_text.specs.declared.token.TokenKind.TheVariants.{Name}
 use Rattle.c_text.specs.Token.{PlainToken}
 use Rattle.c_text.specs.Preprocessing.{Sources, file_at, built_in_file}
@@ -25,7 +26,7 @@ use Rattle.renamed_classes.specs.Laws.{IsTextNameSomewhere, ClassesStandOnTextLi
 use Rattle.renamed_classes.proofs.Occurring.{OccursSomewhere, occurs}
 use Rattle.renamed_classes.proofs.Given.{IsGivenIn, is-given}
 
-at : {X : Type 0} (P : X → Type 0) (x : X) (xs : List X) → AllByRecursion P xs → In x xs → P x
+pub at : {X : Type 0} (P : X → Type 0) (x : X) (xs : List X) → AllByRecursion P xs → In x xs → P x
 at P x [] a i = absurd i
 at P x (y ∷ xs) a (inl e) = subst P (sym e) a.0
 at P x (y ∷ xs) a (inr i) = at P x xs a.1 i
@@ -37,15 +38,16 @@ pub record TokenLaws : Type 0 where
   pub copied : TokensAreCopied
   pub read : NamesAreRead
 
+-- the identifier of an occurrence of the class is a copy of a token on a text line
 module _ (laws : TokenLaws) (project : PlainProject) (files : List PlainFile) (place : PlainFileToken) (r : Renaming) (there : HasItsFiles project files) (found : Somewhere project (IsFound project files place)) (unhindered : Nowhere project (Breaks project files place r in_macro_body)) where
-  module _ (token : PlainFileToken) (below : token.file < length files) (member : InClass project files place token) (o : OccursSomewhere project files token) where
-    abbrev copy : PlainToken
+  module _ (token : PlainFileToken) (member : InClass project files place token) (o : OccursSomewhere project files token) where
+    abbrev pub copy : PlainToken
     copy = o.found.occurrence.identifier.token
 
-    given : IsGivenIn project files (has o.configuration) copy
+    pub given : IsGivenIn project files (has o.configuration) copy
     given = is-given o.product o.found
 
-    abbrev sources : Sources
+    abbrev pub sources : Sources
     sources = sources_of project files (has o.configuration)
 
     copy-member : InClass project files place (file_token o.found.occurrence)
@@ -63,32 +65,38 @@ module _ (laws : TokenLaws) (project : PlainProject) (files : List PlainFile) (p
           (laws.read sources (file_of project given.unit) given.tokens given.are_given)) given.among given.is_name;
     }
 
-    is-copied : IsCopied sources copy
+    pub is-copied : IsCopied sources copy
     is-copied =
         at (IsCopied sources) copy given.tokens
         (recursion_from_All (IsCopied sources) given.tokens
         (laws.copied sources (file_of project given.unit) given.tokens (laws.sources.unit project files (has o.configuration) given.unit there given.present) given.are_given)) given.among
 
-    file-is : copy.origin.file ≡ token.file
+    pub file-is : copy.origin.file ≡ token.file
     file-is = ap (λ (x : PlainFileToken). x.file) o.there
+
+    pub no-body : copy.origin.place ≡ MacroBody → ⊥
+    no-body e =
+        unhindered o.configuration o.product.admitted
+        (record { touched = touched; stands_in_the_way = record { product = o.product; found = o.found; member = copy-member; holds = e } })
 
     on-line : (number : ℕ) → IsOnTextLine number (file_at sources number).bytes copy → IsOnTextLine token.file (file_at sources token.file).bytes copy
     on-line number is = subst (λ (n : ℕ). IsOnTextLine n (file_at sources n).bytes copy) (sym is.file ∙ file-is) is
 
-    by-copy : IsCopied sources copy → IsOnTextLine token.file (file_at sources token.file).bytes copy
-    by-copy (from_file number small is) = on-line number is
-    by-copy (from_header is) =
+    by-copy : token.file < length files → IsCopied sources copy → IsOnTextLine token.file (file_at sources token.file).bytes copy
+    by-copy below (from_file number small is) = on-line number is
+    by-copy below (from_header is) =
         let few : length files ≤ built_in_file = there.few in
         let header : copy.origin.file ≡ built_in_file = is.file in
         let known : copy.origin.file ≡ token.file = file-is in
         absurd (omega (arith, few, header, known, below))
-    by-copy (from_body e) =
-        absurd (unhindered o.configuration o.product.admitted
-        (record { touched = touched; stands_in_the_way = record { product = o.product; found = o.found; member = copy-member; holds = e } }))
+    by-copy below (from_body e) = absurd (no-body e)
 
-    text-name : IsTextNameSomewhere project files token
-    text-name = record { configuration = o.configuration; there = record { copy = copy; is_name = given.is_name; copies = o.there; on_line = by-copy is-copied } }
+    pub stands : token.file < length files → IsOnTextLine token.file (file_at sources token.file).bytes copy
+    stands below = by-copy below is-copied
+
+    text-name : token.file < length files → IsTextNameSomewhere project files token
+    text-name below = record { configuration = o.configuration; there = record { copy = copy; is_name = given.is_name; copies = o.there; on_line = stands below } }
 
 pub stand-on-lines : TokenLaws → ClassesStandOnTextLines
 stand-on-lines laws project files place r there found unhindered token below member =
-    text-name laws project files place r there found unhindered token below member (occurs laws.declared project files place found token member)
+    text-name laws project files place r there found unhindered token member (occurs laws.declared project files place found token member) below

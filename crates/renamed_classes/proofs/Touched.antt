@@ -9,18 +9,19 @@ use Rattle.command_projects.specs.Least.{IsAdmitted}
 use Rattle.renamings.specs.Renamings.{Renaming, renamed_files}
 use Rattle.program_occurrences.specs.Classes.{PlainFileToken}
 use Rattle.reference_classes.specs.Products.{Product, names_in}
-use Rattle.reference_classes.specs.Preconditions.{HasNoProgram, not_accepted, bound_otherwise, IsTouched, broken, macro_name, capture}
+use Rattle.reference_classes.specs.Preconditions.{HasNoProgram, not_accepted, bound_otherwise, IsTouched, broken, in_macro_body, macro_name, capture}
 use Rattle.product_programs.specs.Laws.{ProgramsAreFound}
 use Rattle.renamed_sources.specs.Projects.{HasItsFiles}
 use Rattle.renamed_sources.specs.Laws.{SourcesAreRenamed}
 use Rattle.renamed_projects.specs.Projects.{MayBeRenamedIn}
 use Rattle.renamed_projects.specs.Laws.{TouchedProjectsRunAlike}
 use Rattle.renamed_classes.specs.Renaming.{MayBeMade, BindingsTellNames}
-use Rattle.renamed_classes.specs.Laws.{ClassesFitFiles, NamesAreNoMacros, BoundAlikeOrNot, TouchedClassesKeepPrograms}
+use Rattle.renamed_classes.specs.Laws.{ClassNamesAreFree, ClassesFitFiles, NamesAreNoMacros, BoundAlikeOrNot, TouchedClassesKeepPrograms}
 
 -- the laws that it follows from
 pub record ClassLaws : Type 0 where
   pub sources : SourcesAreRenamed
+  pub free : ClassNamesAreFree
   pub fit : ClassesFitFiles
   pub no_macros : NamesAreNoMacros
   pub alike_or_not : BoundAlikeOrNot
@@ -31,7 +32,7 @@ module _ (laws : ClassLaws) (project : PlainProject) (files : List PlainFile) (p
   may-be : MayBeRenamedIn project files (has c) r
   may-be = record {
     fits = laws.fit project files place new r may;
-    free = may.free;
+    free = laws.free project files place new r may.has_files may.renames may.found (may.unhindered in_macro_body);
     no_macros = laws.no_macros project files place new r c may.renames (may.unhindered macro_name) admitted;
   }
 

@@ -1,9 +1,12 @@
 -- LAWS, each the contract of a function of this crate.
-use Rattle.std.specs.Prelude.{◌≡◌, ◌↔◌, ◌<◌, ℕ, Bool, List, length, All}
+use Rattle.std.specs.Prelude.{◌≡◌, ◌↔◌, ◌<◌, ℕ, Bool, false, List, length, All}
+use Rattle.std.specs.List.{list_any}
+use Rattle.std.specs.Str.{bytes_eq}
 use Rattle.text_edits.specs.Files.{PlainFile}
 use Rattle.cond_formula.specs.Features.{has}
 use Rattle.c_text.specs.declared.token.TokenKind.TheVariants.{Name}
 use Rattle.c_text.specs.Token.{PlainToken}
+use Rattle.c_text.specs.Directives.{predefined_names}
 use Rattle.c_text.specs.Preprocessing.{file_at}
 use Rattle.core_meaning.specs.Program.{PlainProgram}
 use Rattle.project_file.specs.Projects.{PlainProject}
@@ -17,7 +20,7 @@ use Rattle.program_occurrences.specs.Classes.{PlainFileToken, copied_by}
 use Rattle.program_occurrences.specs.Links.{AreBoundAlike}
 use Rattle.reference_classes.specs.Products.{InClass}
 use Rattle.reference_classes.specs.Preconditions.{IsFound, IsTouched, in_macro_body, macro_name, Breaks}
-use Rattle.reference_classes.specs.Renamed.{RenamesClass}
+use Rattle.reference_classes.specs.Renamed.{IsWrittenAt, RenamesClass}
 use Rattle.copied_tokens.specs.Copies.{IsOnTextLine}
 use Rattle.renamed_sources.specs.Projects.{HasItsFiles, present_files}
 use Rattle.renamed_classes.specs.Renaming.{MayBeMade, BindingsTellNames}
@@ -41,6 +44,25 @@ ClassesStandOnTextLines =
     (project : PlainProject) (files : List PlainFile) (place : PlainFileToken) (r : Renaming) → HasItsFiles project files
     → Somewhere project (IsFound project files place) → Nowhere project (Breaks project files place r in_macro_body)
     → (token : PlainFileToken) → token.file < length files → InClass project files place token → IsTextNameSomewhere project files token
+
+-- Each token of the class in the project's files is written as the name.
+abbrev pub AreWrittenAs : PlainProject → List PlainFile → PlainFileToken → List ℕ → Type 0
+AreWrittenAs project files place name =
+    (token : PlainFileToken) → token.file < length files → InClass project files place token → IsWrittenAt files token name
+
+-- So they all are written as the name at the place.
+abbrev pub ClassesHaveOneName : Type 0
+ClassesHaveOneName =
+    (project : PlainProject) (files : List PlainFile) (place : PlainFileToken) (new : List ℕ) (r : Renaming) → HasItsFiles project files
+    → RenamesClass project files place new r → Somewhere project (IsFound project files place) → Nowhere project (Breaks project files place r in_macro_body)
+    → AreWrittenAs project files place r.old
+
+-- And that name isn't predefined.
+abbrev pub ClassNamesAreFree : Type 0
+ClassNamesAreFree =
+    (project : PlainProject) (files : List PlainFile) (place : PlainFileToken) (new : List ℕ) (r : Renaming) → HasItsFiles project files
+    → RenamesClass project files place new r → Somewhere project (IsFound project files place) → Nowhere project (Breaks project files place r in_macro_body)
+    → list_any (bytes_eq r.old) predefined_names ≡ false
 
 -- A renaming of a class that may be made fits the project's files.
 abbrev pub ClassesFitFiles : Type 0

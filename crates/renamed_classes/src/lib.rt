@@ -2,14 +2,18 @@
 //! definitions (in `specs/`) and the laws, each the contract of a function without a body of its own.
 #![tactic(auto)]
 
-ghost use Rattle.renamed_classes.specs.Laws.{ClassesStandOnTextLines, ClassesFitFiles, NamesAreNoMacros, BoundAlikeOrNot, TouchedClassesKeepPrograms};
+ghost use Rattle.renamed_classes.specs.Laws.{ClassesStandOnTextLines, ClassesHaveOneName, ClassNamesAreFree, ClassesFitFiles, NamesAreNoMacros, BoundAlikeOrNot, TouchedClassesKeepPrograms};
 
+use brought_names::brought_are_named_alike;
 use c_lexer::lines_are_one;
-use copied_tokens::{names_are_read, places_tell_tokens, tokens_are_copied};
+use copied_tokens::{
+    names_are_read, places_tell_tokens, predefined_come_from_bodies, tokens_are_copied,
+};
 use product_programs::programs_are_found;
 use program_occurrences::declarations_are_occurrences;
 use renamed_projects::touched_projects_run_alike;
 use renamed_sources::sources_are_renamed;
+use unit_outcomes::tokens_are_spelt;
 
 /// Where nothing of a class comes out of the body of a macro, its tokens are names on text lines.
 pub fn classes_stand_on_text_lines()
@@ -21,6 +25,33 @@ pub fn classes_stand_on_text_lines()
     names_are_read();
 }
 
+/// So they all are written as the name that stands at the place.
+pub fn classes_have_one_name()
+    ensures { ClassesHaveOneName }
+{
+    declarations_are_occurrences();
+    sources_are_renamed();
+    tokens_are_spelt();
+    tokens_are_copied();
+    names_are_read();
+    lines_are_one();
+    places_tell_tokens();
+    brought_are_named_alike();
+}
+
+/// And that name isn't predefined.
+pub fn class_names_are_free()
+    ensures { ClassNamesAreFree }
+{
+    declarations_are_occurrences();
+    sources_are_renamed();
+    tokens_are_copied();
+    names_are_read();
+    lines_are_one();
+    places_tell_tokens();
+    predefined_come_from_bodies();
+}
+
 /// A renaming of a class that may be made fits the project's files.
 pub fn classes_fit_files()
     ensures { ClassesFitFiles }
@@ -28,6 +59,7 @@ pub fn classes_fit_files()
     lines_are_one();
     places_tell_tokens();
     classes_stand_on_text_lines();
+    classes_have_one_name();
 }
 
 /// Where MacroName isn't broken, neither name is a macro where a renamed token is read.
@@ -45,6 +77,7 @@ pub fn touched_classes_keep_programs()
     ensures { TouchedClassesKeepPrograms }
 {
     sources_are_renamed();
+    class_names_are_free();
     classes_fit_files();
     names_are_no_macros();
     bound_alike_or_not();

@@ -4,6 +4,7 @@ use Rattle.renamed_classes.proofs.touched_classes_keep_programs.Goals as goal
 pub returns : goal.returns
 returns c = touched-keep (record {
   sources = c.sources_are_renamed.ensures;
+  free = c.class_names_are_free.ensures;
   fit = c.classes_fit_files.ensures;
   no_macros = c.names_are_no_macros.ensures;
   alike_or_not = c.bound_alike_or_not.ensures;
