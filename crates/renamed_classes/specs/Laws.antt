@@ -50,14 +50,14 @@ abbrev pub AreWrittenAs : PlainProject → List PlainFile → PlainFileToken →
 AreWrittenAs project files place name =
     (token : PlainFileToken) → token.file < length files → InClass project files place token → IsWrittenAt files token name
 
--- So they all are written as the name at the place.
+-- There all of them are written as the name that stands at the place, in whichever products they are brought along.
 abbrev pub ClassesHaveOneName : Type 0
 ClassesHaveOneName =
     (project : PlainProject) (files : List PlainFile) (place : PlainFileToken) (new : List ℕ) (r : Renaming) → HasItsFiles project files
     → RenamesClass project files place new r → Somewhere project (IsFound project files place) → Nowhere project (Breaks project files place r in_macro_body)
     → AreWrittenAs project files place r.old
 
--- And that name isn't predefined.
+-- And that name isn't predefined, since a unit that has such a name on a text line is refused.
 abbrev pub ClassNamesAreFree : Type 0
 ClassNamesAreFree =
     (project : PlainProject) (files : List PlainFile) (place : PlainFileToken) (new : List ℕ) (r : Renaming) → HasItsFiles project files

@@ -25,7 +25,7 @@ pub fn classes_stand_on_text_lines()
     names_are_read();
 }
 
-/// So they all are written as the name that stands at the place.
+/// There all of them are written as the name that stands at the place.
 pub fn classes_have_one_name()
     ensures { ClassesHaveOneName }
 {
