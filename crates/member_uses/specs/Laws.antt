@@ -1,20 +1,45 @@
 -- That members are used so; each law is the contract of a function of this crate.
-use Rattle.std.specs.Prelude.{◌≡◌, ℕ, List}
+use Rattle.std.specs.Prelude.{◌≡◌, ℕ, List, Option}
+use Rattle.c_text.specs.Token.{PlainToken}
 use Rattle.c_types.specs.Types.{PlainType}
-use Rattle.c_tree.specs.Trees.{PlainTree}
-use Rattle.c_tree.specs.Grammar.{block}
+use Rattle.c_tree.specs.Trees.{PlainTree, spelled}
+use Rattle.c_tree.specs.Grammar.{expression, initialiser, block}
 use Rattle.tree_derivations.specs.Derivations.{Derivation}
 use Rattle.core_meaning.specs.Checking.{Binding, fine}
 use Rattle.core_meaning.specs.Entities.{Scope}
+use Rattle.core_meaning.specs.Typing.{Operand}
+use Rattle.core_meaning.specs.Expressions.{judged}
+use Rattle.core_meaning.specs.Constancy.{Initial, initial}
+use Rattle.core_meaning.specs.Values.{Path}
 use Rattle.core_meaning.specs.Statements.{JudgedItems}
 use Rattle.core_meaning.specs.UnitNames.{judged_body}
+use Rattle.bindings.specs.Laws.{ArePieces}
+use Rattle.operand_types.specs.Laws.{KeepsApart}
+use Rattle.expression_types.specs.Known.{Known, IsKnown}
+use Rattle.selections.specs.Selections.{structures_selected}
+use Rattle.selections.specs.Laws.{HasNames}
 use Rattle.statement_readings.specs.Laws.{starting}
-use Rattle.member_uses.specs.Uses.{uses_in}
+use Rattle.member_uses.specs.Uses.{names_in, using, uses_in}
 use Rattle.member_uses.specs.Walks.{uses_in_body}
+
+-- Where an expression is judged well, its uses of members are its selections.
+abbrev pub ExpressionsUseSelections : Type 0
+ExpressionsUseSelections =
+    (by : ℕ → ℕ) → KeepsApart by → (scope : Scope) → HasNames scope → (known : Known) → IsKnown by scope known
+    → (level : ℕ) (tree : PlainTree) → Derivation (expression level) tree → ArePieces (spelled tree) → (operand : Operand) (bindings : List Binding)
+    → judged scope tree ≡ fine operand bindings → uses_in by tree (judged scope tree) ≡ using (names_in tree) (structures_selected known tree)
+
+-- So are those of an initialiser, whatever it initialises.
+abbrev pub InitialisersUseSelections : Type 0
+InitialisersUseSelections =
+    (by : ℕ → ℕ) → KeepsApart by → (scope : Scope) → HasNames scope → (known : Known) → IsKnown by scope known
+    → (tree : PlainTree) → Derivation initialiser tree → ArePieces (spelled tree) → (globals : Option ℕ) (ty : PlainType) (path : Path) (behind : PlainToken)
+    → (parts : List Initial) (bindings : List Binding) → initial scope globals ty path tree behind ≡ fine parts bindings
+    → uses_in by tree (initial scope globals ty path tree behind) ≡ using (names_in tree) (structures_selected known tree)
 
 -- Where a function's block is judged well, the uses of members in its parts, one part after the other, are those of the block.
 abbrev pub BodiesAreUsed : Type 0
 BodiesAreUsed =
-    (by : ℕ → ℕ) (result : PlainType) (scope : Scope) (slots : List PlainType) (tree : PlainTree) → Derivation block tree
+    (by : ℕ → ℕ) (result : PlainType) (scope : Scope) → HasNames scope → (slots : List PlainType) (tree : PlainTree) → Derivation block tree → ArePieces (spelled tree)
     → (items : JudgedItems) (js : List Binding) → judged_body scope result slots tree ≡ fine items js
     → uses_in_body by result tree (starting scope slots) ≡ uses_in by tree (judged_body scope result slots tree)

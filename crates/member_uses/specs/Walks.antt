@@ -1,6 +1,6 @@
 -- The uses of members in the statements of a function, part by part in the order of the text, so that a reader of all configurations at once, in
 -- which a part may be there or not, notes them in the same way (ISO/IEC 9899:2011, 6.8). What is visible goes on as `statement_readings` says.
-use Rattle.std.specs.Prelude.{ℕ, Bool, true, false, ◌||◌, List, [], ◌++◌, if◌then◌else◌}
+use Rattle.std.specs.Prelude.{ℕ, Bool, false, ◌||◌, List, [], ◌++◌, if◌then◌else◌}
 use Rattle.c_types.specs.Types.{PlainType}
 use Rattle.c_tree.specs.declared.kinds.Kind.{Kind}
 use Rattle.c_tree.specs.declared.kinds.Kind.TheVariants as k

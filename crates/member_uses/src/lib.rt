@@ -2,9 +2,20 @@
 //! (ISO/IEC 9899:2011, 6.5.2.3), the contracts of functions that compute nothing.
 #![tactic(auto)]
 
-ghost use Rattle.member_uses.specs.Laws.{BodiesAreUsed};
+ghost use Rattle.member_uses.specs.Laws.{ExpressionsUseSelections, InitialisersUseSelections};
 
-/// The uses of members in a function's block are those in its parts, one part after the other.
-pub fn bodies_are_used()
-    ensures { BodiesAreUsed }
-{}
+use selections::{initialisers_select_so, selections_are_judged};
+
+/// The uses of members in an expression are its selections.
+pub fn expressions_use_selections()
+    ensures { ExpressionsUseSelections }
+{
+    selections_are_judged();
+}
+
+/// So are those in an initialiser.
+pub fn initialisers_use_selections()
+    ensures { InitialisersUseSelections }
+{
+    initialisers_select_so();
+}
