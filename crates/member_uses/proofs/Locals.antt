@@ -9,9 +9,9 @@ use Rattle.c_tree.specs.declared.kinds.Kind.TheVariants as k
 use Rattle.c_tree.specs.declared.terminals.Terminal.TheVariants as t
 use Rattle.c_tree.specs.Terminals.{terminal, is_one_of}
 use Rattle.c_tree.specs.Trees.{PlainTree, PlainTrees, leaf, node, none, more}
-use Rattle.c_tree.specs.Grammar.{Role, local, declarator, is_word}
+use Rattle.c_tree.specs.Grammar.{Role, local, declarator, declarators, specifiers, types, is_word}
 use Rattle.c_tree.proofs.TerminalCases.{one_of}
-use Rattle.tree_derivations.specs.Derivations.{Derivation, Declared, IsWord}
+use Rattle.tree_derivations.specs.Derivations.{Derivation, made_of, some_words, declarators_of, Declared, IsWord}
 use Rattle.core_meaning.specs.declared.refusals.TypeKind.TheVariants.{Redeclared}
 use Rattle.core_meaning.specs.Checking.{local_entity, Binding, Checked, fine, refused, broken, with_bindings, ◌>>=◌, give, unless_so, or_broken, declares}
 use Rattle.core_meaning.specs.Entities.{Scope}
@@ -33,10 +33,16 @@ use Rattle.cond_sizes.specs.Laws.{CountsNeedNoNames}
 use Rattle.member_uses.specs.Uses.{Use, names_in, names_among}
 use Rattle.member_uses.specs.Declarations.{names_if, names_in_declared, uses_in_turn, uses_initially}
 use Rattle.member_uses.proofs.Parts.{Part, names_of_node, word_names, alone, quiet_then, none_then, then_give, known_then, part_as, made_of_it}
-use Rattle.member_uses.proofs.Words.{Words, with_tag, without_tag}
+use Rattle.member_uses.proofs.Words.{Words, words_are, with_tag, without_tag}
 use Rattle.member_uses.proofs.Judged.{initial_part}
 use Rattle.member_uses.proofs.Declarators.{ObjectForm, ObjectTree, object_quiet, object_tree}
 use Rattle.member_uses.proofs.Turns.{Initialised, no_value, a_value, IsInTurn, used_in_turn}
+
+pub words_of : {words : PlainTrees} → Derivation specifiers (node k.Specifiers words) → Words words
+words_of {words = words} (made_of _ b a (some_words are)) = words_are types words are refl
+
+pub list_of : {role : Role} {list : PlainTrees} → Derivation (declarators role) (node k.Declarators list) → Declared role list
+list_of (made_of _ b a (declarators_of d)) = d
 
 module _ (by : ℕ → ℕ) where
   -- ---- types by words

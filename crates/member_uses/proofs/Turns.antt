@@ -3,7 +3,7 @@ use Rattle.std.proofs.Common.{◌≡◌, ℕ, true, List, [], ◌∷◌, ◌++�
 use Rattle.std.specs.Prelude.{Option, Some, None}
 use Rattle.c_text.specs.Token.{PlainToken}
 use Rattle.c_tree.specs.declared.terminals.Terminal.TheVariants as t
-use Rattle.c_tree.specs.Trees.{PlainTree, PlainTrees, leaf, none, more}
+use Rattle.c_tree.specs.Trees.{PlainTree, PlainTrees, leaf, none, more, spelled}
 use Rattle.c_tree.specs.Grammar.{Role, declarator, initialiser, may_be_initialised}
 use Rattle.tree_derivations.specs.Derivations.{Derivation, Declared, last_plain, last_initialised, next_plain, next_initialised, IsWord}
 use Rattle.core_meaning.specs.Checking.{Checked, fine, refused, broken, ◌>>=◌}
@@ -12,15 +12,24 @@ use Rattle.declarator_lists.specs.Lists.{declared_in, trees_of}
 use Rattle.declaration_readings.specs.Readings.{Going, after}
 use Rattle.declaration_readings.proofs.Lists.{declared, one_alone, one_before, value_alone, value_before}
 use Rattle.declaration_readings.proofs.InTurn.{is_filled}
+use Rattle.bindings.specs.Laws.{ArePieces}
+use Rattle.bindings.proofs.Pieces.{holds_of}
 use Rattle.bindings.proofs.Spellings.{Holds, AllHold, no_name}
 use Rattle.member_uses.specs.Uses.{names_in, names_among, using, structures_used, structures_in}
-use Rattle.member_uses.specs.Declarations.{names_in_declared, uses_in_turn}
+use Rattle.member_uses.specs.Declarations.{IsDeclarator, names_in_declared, uses_in_turn}
 use Rattle.member_uses.proofs.Parts.{word_names, Part, part_as, known_then}
 
 -- an initialiser, if there is one
 pub data Initialised : Option PlainTree → Type 0 where
   no_value : Initialised None
   a_value : {tree : PlainTree} → Derivation initialiser tree → Holds tree → Initialised (Some tree)
+
+pub initialised : {role : Role} (d : list.Declared) → IsDeclarator role d → Initialised d.initialiser
+initialised d is = from d.initialiser is.initialiser is.initialiser_pieces
+  where
+    from : (value : Option PlainTree) → ((tree : PlainTree) → value ≡ Some tree → Derivation initialiser tree) → ((tree : PlainTree) → value ≡ Some tree → ArePieces (spelled tree)) → Initialised value
+    from None derived pieces = no_value
+    from (Some tree) derived pieces = a_value (derived tree refl) (holds_of tree [] (pieces tree refl)).0
 
 filled : {role : Role} {parts : PlainTrees} → Declared role parts → is_filled parts ≡ true
 filled (last_plain d) = refl
