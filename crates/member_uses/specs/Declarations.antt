@@ -1,14 +1,29 @@
 -- The uses of members in declarations, declarator by declarator, so that a reader of all configurations at once, in which a declarator may be there
 -- or not, notes them in the same way (ISO/IEC 9899:2011, 6.7). What is visible goes on as `declaration_readings` says.
-use Rattle.std.specs.Prelude.{ℕ, List, [], ◌∷◌, ◌++◌, Option, Some, None}
+use Rattle.std.specs.Prelude.{◌≡◌, ℕ, List, [], ◌∷◌, ◌++◌, Option, Some, None}
 use Rattle.c_text.specs.Token.{PlainToken}
-use Rattle.c_tree.specs.Trees.{PlainTree}
+use Rattle.c_tree.specs.declared.kinds.Kind.TheVariants as k
+use Rattle.c_tree.specs.Trees.{PlainTree, PlainTrees, leaf, node, none, more, spelled}
+use Rattle.c_tree.specs.Grammar.{Role, declarator, initialiser}
+use Rattle.tree_derivations.specs.Derivations.{Derivation}
 use Rattle.core_meaning.specs.Checking.{Checked}
 use Rattle.declarator_lists.specs.Lists.{Declared}
 use Rattle.declaration_readings.specs.Readings.{Going, goes_on}
+use Rattle.bindings.specs.Laws.{ArePieces}
 use Rattle.expression_types.specs.Known.{Known}
 use Rattle.selections.specs.Selections.{structures_selected}
 use Rattle.member_uses.specs.Uses.{Use, names_in, using, structures_in}
+
+-- the parts of a declaration: the words of its type, its declarators, and a semicolon
+abbrev pub declaration : PlainTrees → PlainTrees → PlainToken → PlainTrees
+declaration words list last = more (node k.Specifiers words) (more (node k.Declarators list) (more (leaf last) none))
+
+-- a declarator, perhaps with an initialiser, of the grammar
+pub record IsDeclarator (role : Role) (d : Declared) : Type 0 where
+  pub declarator : Derivation (declarator role) d.declarator
+  pub declarator_pieces : ArePieces (spelled d.declarator)
+  pub initialiser : (tree : PlainTree) → d.initialiser ≡ Some tree → Derivation initialiser tree
+  pub initialiser_pieces : (tree : PlainTree) → d.initialiser ≡ Some tree → ArePieces (spelled tree)
 
 abbrev pub names_if : Option PlainTree → List PlainToken
 names_if None = []
