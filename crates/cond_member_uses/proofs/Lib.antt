@@ -6,3 +6,6 @@ pub mod Choices
 pub mod Noting
 pub mod Declarations
 pub mod Listing
+pub mod Words
+pub mod Answering
+pub mod Blocks

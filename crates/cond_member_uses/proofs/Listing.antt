@@ -4,7 +4,7 @@ use Rattle.std.specs.Prelude.{⊤, Option, Some, None}
 use Rattle.std.proofs.lemmas.Bool.{false≢true}
 use Rattle.c_types.specs.Types.{PlainType}
 use Rattle.c_tree.specs.Trees.{PlainTree, PlainTrees, leaf, none, more, all_written, spelled}
-use Rattle.c_tree.specs.Grammar.{declarator, local}
+use Rattle.c_tree.specs.Grammar.{declarator, initialiser, local}
 use Rattle.tree_derivations.specs.Derivations as derivations
 use Rattle.tree_derivations.specs.Derivations.{Derivation, last_plain, last_initialised, next_plain, next_initialised}
 use Rattle.conditional.specs.Judgements as judgements
@@ -14,68 +14,64 @@ use Rattle.core_meaning.specs.Checking.{Binding, Checked, fine, refused, broken,
 use Rattle.core_meaning.specs.Entities.{Scope}
 use Rattle.core_meaning.specs.Declarations.{Locals, one_local, locals_from}
 use Rattle.operand_types.specs.OperandTypes.{renumbered}
-use Rattle.operand_types.specs.Laws.{KeepsApart}
-use Rattle.expression_types.specs.Known.{Known, IsKnown}
-use Rattle.selections.specs.Laws as selections
 use Rattle.operand_rules.specs.declared.operands.Refused.{Refused}
 use Rattle.choice_expansions.specs.Steps.{after_each}
-use Rattle.declarator_lists.specs.Lists.{Declared, declared_in, trees_of}
+use Rattle.declarator_lists.specs.Lists.{Declared, declared, declared_in, trees_of}
 use Rattle.declaration_readings.specs.Readings.{Going, after, goes_on, goes_through, IsSame, Slots, slots_of, next_local, all_locals}
 use Rattle.declaration_readings.specs.Laws.{LocalsAreRead}
 use Rattle.declaration_readings.proofs.Lists.{one_alone, one_before, value_alone, value_before}
 use Rattle.member_uses.specs.Uses.{Use}
-use Rattle.member_uses.specs.Declarations.{uses_in_declared, uses_in_turn, uses_initially}
+use Rattle.member_uses.specs.Laws.{LocalsUseInitialisers}
+use Rattle.member_uses.specs.Declarations.{IsDeclarator, uses_in_declared, uses_in_turn, uses_initially}
 use Rattle.type_tables.specs.Tables.{known_in}
 use Rattle.type_tables.specs.declared.entries.DeclaredType.{DeclaredType}
 use Rattle.type_tables.specs.Follows.{IsThere}
 use Rattle.type_tables.specs.Numbers.{FollowsBy, FollowsInBlockBy}
 use Rattle.cond_declarators.specs.Types.{ShowsType}
 use Rattle.cond_statements.proofs.Standing.{followed}
-use Rattle.cond_locals.specs.Declaring.{IsInitialiser}
 use Rattle.cond_member_uses.specs.Noted.{Noted, HasNames, Where}
-use Rattle.cond_member_uses.specs.Declared.{IsSpelt, IsReady, NotesOne, NotesList}
+use Rattle.cond_member_uses.specs.Declared.{NotesOne, NotesList}
 use Rattle.cond_member_uses.proofs.Noting.{names_followed, apart_by, known_by}
 use Rattle.cond_member_uses.proofs.Composing.{names_kept}
 use Rattle.cond_member_uses.proofs.Pieces.{first_pieces, rest_pieces}
-
--- the law of one declarator
-abbrev pub OneLocalUses : Type 0
-OneLocalUses =
-    (by : ℕ → ℕ) → KeepsApart by → (scope : Scope) → selections.HasNames scope → (slots : List PlainType) (ty : PlainType) (d : Declared) → Derivation (declarator local) d.declarator → IsInitialiser d.initialiser
-    → ArePieces (spelled d.declarator) → IsSpelt d.initialiser → (locals : Locals) (bindings : List Binding) → one_local scope slots ty d.declarator d.initialiser ≡ fine locals bindings
-    → (known : Known) → IsKnown by locals.scope known → uses_in_declared by (next_local ty) (record { scope = scope; slots = slots }) d ≡ uses_initially known d.initialiser
 
 -- ---- what is derived and spelt, declarator by declarator
 
 abbrev pub AreReady : List Declared → Type 0
 AreReady [] = ⊤
-AreReady (d ∷ others) = IsReady d × AreReady others
+AreReady (d ∷ others) = IsDeclarator local d × AreReady others
+
+same_tree : (a b : PlainTree) → ◌≡◌ {A = Option PlainTree} (Some a) (Some b) → a ≡ b
+same_tree a b e = cc
+
+alone : (tree : PlainTree) → Derivation (declarator local) tree → ArePieces (spelled tree) → IsDeclarator local (declared tree None)
+alone tree d spelt = record { declarator = d; declarator_pieces = spelt; initialiser = λ other is. absurd cc; initialiser_pieces = λ other is. absurd cc }
+
+initialised : (tree value : PlainTree) → Derivation (declarator local) tree → ArePieces (spelled tree) → Derivation initialiser value → ArePieces (spelled value) → IsDeclarator local (declared tree (Some value))
+initialised tree value d spelt v value_spelt = record {
+  declarator = d;
+  declarator_pieces = spelt;
+  initialiser = λ other is. subst (Derivation initialiser) (same_tree value other is) v;
+  initialiser_pieces = λ other is. subst (λ t. ArePieces (spelled t)) (same_tree value other is) value_spelt;
+}
 
 pub are_ready : {parts : PlainTrees} → derivations.Declared local parts → ArePieces (all_written parts []) → AreReady (declared_in (trees_of parts))
-are_ready (last_plain {tree = tree} d) spelt =
-    subst AreReady (sym (one_alone d)) (record { declarator = d; initialiser = tt; spelt = spelt; initialiser_spelt = tt }, tt)
+are_ready (last_plain {tree = tree} d) spelt = subst AreReady (sym (one_alone d)) (alone tree d spelt, tt)
 are_ready (last_initialised {tree = tree} {value = value} {sign = sign} m d w v) spelt =
     let behind = rest_pieces tree (more (leaf sign) (more value none)) spelt in
-    subst AreReady (sym (value_alone d sign w v)) (record {
-      declarator = d;
-      initialiser = v;
-      spelt = first_pieces tree (more (leaf sign) (more value none)) spelt;
-      initialiser_spelt = rest_pieces (leaf sign) (more value none) behind;
-    }, tt)
+    subst AreReady (sym (value_alone d sign w v))
+    (initialised tree value d (first_pieces tree (more (leaf sign) (more value none)) spelt) v (rest_pieces (leaf sign) (more value none) behind), tt)
 are_ready (next_plain {tree = tree} {comma = comma} {rest = rest} d w others) spelt =
     let behind = rest_pieces tree (more (leaf comma) rest) spelt in
-    subst AreReady (sym (one_before d comma rest w)) (record { declarator = d; initialiser = tt; spelt = first_pieces tree (more (leaf comma) rest) spelt; initialiser_spelt = tt },
-    are_ready others (rest_pieces (leaf comma) rest behind))
+    subst AreReady (sym (one_before d comma rest w)) (alone tree d (first_pieces tree (more (leaf comma) rest) spelt), are_ready others (rest_pieces (leaf comma) rest behind))
 are_ready (next_initialised {tree = tree} {value = value} {sign = sign} {comma = comma} {rest = rest} m d w v x others) spelt =
     let signed = rest_pieces tree (more (leaf sign) (more value (more (leaf comma) rest))) spelt in
     let valued = rest_pieces (leaf sign) (more value (more (leaf comma) rest)) signed in
     let behind = rest_pieces value (more (leaf comma) rest) valued in
-    subst AreReady (sym (value_before d sign w v comma rest)) (record {
-      declarator = d;
-      initialiser = v;
-      spelt = first_pieces tree (more (leaf sign) (more value (more (leaf comma) rest))) spelt;
-      initialiser_spelt = first_pieces value (more (leaf comma) rest) valued;
-    }, are_ready others (rest_pieces (leaf comma) rest behind))
+    subst AreReady (sym (value_before d sign w v comma rest)) (
+      initialised tree value d (first_pieces tree (more (leaf sign) (more value (more (leaf comma) rest))) spelt) v (first_pieces value (more (leaf comma) rest) valued),
+      are_ready others (rest_pieces (leaf comma) rest behind),
+    )
 
 -- ---- one declarator more
 
@@ -110,7 +106,7 @@ after_fine : (m : Checked Locals) (g : Going Slots) (locals : Locals) (bindings 
     → after g (m >>= (λ locals. give (slots_of locals))) ≡ record { state = slots_of locals; refused = g.refused }
 after_fine m g locals bindings is = ap (λ (c : Checked Locals). after g (c >>= (λ locals. give (slots_of locals)))) is
 
-module _ (law : OneLocalUses) (by : ℕ → ℕ) (on : ℕ → Bool) (base : Outcomes DeclaredType Refused) (scope : Scope) (ty : PlainType) (there : IsThere scope.structs ty)
+module _ (law : LocalsUseInitialisers) (by : ℕ → ℕ) (on : ℕ → Bool) (base : Outcomes DeclaredType Refused) (scope : Scope) (ty : PlainType) (there : IsThere scope.structs ty)
     (shown : ShowsType on (judgements.fine (renumbered by ty)) base) (whole : Going Slots) (total : List Use) where
   abbrev here : Slots → Going Slots
   here s = record { state = s; refused = false }
@@ -134,8 +130,9 @@ module _ (law : OneLocalUses) (by : ℕ → ℕ) (on : ℕ → Bool) (base : Out
       let is_next : next ≡ here (slots_of good.locals) = after_fine (one_local s.scope s.slots ty d.declarator d.initialiser) (here s) good.locals good.bindings good.is in
       let f = followed by now.tables s.scope at.follows in
       let used : uses_in_declared by (next_local ty) s d ≡ uses_initially (known_in new.tables) d.initialiser =
-      law by (apart_by by now.tables s.scope f) s.scope (names_followed now.tables s.scope f.follows names) s.slots ty d at.ready.0.declarator at.ready.0.initialiser at.ready.0.spelt at.ready.0.initialiser_spelt
-      good.locals good.bindings good.is (known_in new.tables) (known_by by new.tables good.locals.scope (followed by new.tables good.locals.scope goes.follows)) in
+      law by (apart_by by now.tables s.scope f) ty d at.ready.0 s (names_followed now.tables s.scope f.follows names) (slots_of good.locals) (good.bindings ++ [])
+      (ap (λ (c : Checked Locals). c >>= (λ locals. give (slots_of locals))) good.is) (known_in new.tables)
+      (known_by by new.tables good.locals.scope (followed by new.tables good.locals.scope goes.follows)) in
       record {
         state = slots_of good.locals;
         follows = goes.follows;
@@ -158,7 +155,7 @@ module _ (law : OneLocalUses) (by : ℕ → ℕ) (on : ℕ → Bool) (base : Out
 
 -- ---- the whole list
 
-module _ (law : OneLocalUses) (read : LocalsAreRead) (on : ℕ → Bool) (base : Outcomes DeclaredType Refused) (list : PlainTrees) (path : Bool) (old : Noted) where
+module _ (law : LocalsUseInitialisers) (read : LocalsAreRead) (on : ℕ → Bool) (base : Outcomes DeclaredType Refused) (list : PlainTrees) (path : Bool) (old : Noted) where
   abbrev first : Scope → List PlainType → Going Slots
   first scope slots = record { state = record { scope = scope; slots = slots }; refused = false }
 

@@ -86,19 +86,19 @@ out_scope result k.Return s = refl
 out_scope result _ s = refl
 
 module _ (around : Kind) (parts : PlainTrees) where
-  absent_noted : (a : Noted) → Notes around (more (node k.Absent parts) none) a a
+  pub absent_noted : (a : Noted) → Notes around (more (node k.Absent parts) none) a a
   absent_noted a = record {
     notes = λ by result in_loop turned first s names pieces ready stand fine.
         kept around first by s (left_out result around s) [] [] a a refl (out_scope result around s) refl (sym (append-nil a.uses)) stand;
   }
 
-  jump_noted : (a : Noted) → Notes around (more (node k.Jump parts) none) a a
+  pub jump_noted : (a : Noted) → Notes around (more (node k.Jump parts) none) a a
   jump_noted a = record {
     notes = λ by result in_loop turned first s names pieces ready stand fine.
         kept around first by s (node_read result in_loop around turned k.Jump parts (walk_parts result (is_loop k.Jump || in_loop) k.Jump false parts) s) [] [] a a refl refl refl (sym (append-nil a.uses)) stand;
   }
 
-  expression_noted : (kind : Kind) → IsRead kind → UsesAs kind Expression → (a b : Noted) → NotesExpression (node kind parts) a b → Notes around (more (node kind parts) none) a b
+  pub expression_noted : (kind : Kind) → IsRead kind → UsesAs kind Expression → (a b : Noted) → NotesExpression (node kind parts) a b → Notes around (more (node kind parts) none) a b
   expression_noted kind plays uses a b x = record {
     notes = λ by result in_loop turned first s names pieces ready stand fine.
         let inner = walk_parts result (is_loop kind || in_loop) kind false parts in
@@ -154,7 +154,7 @@ module _ (around : Kind) (parts : PlainTrees) where
       subst (λ (n : Kind). Notes around (more (node n parts) none) a b) (sym e) (items_noted a b (subst (λ (n : Kind). Notes n parts a b) e x))
   partwise_noted kind (quietly q) uses a b x = quiet_noted kind q uses a b x
 
-  scoped_noted : (kind : Kind) → Opens kind → UsesAs kind Scoped → (a b : Noted) → NotesBlock kind parts a b → Notes around (more (node kind parts) none) a b
+  pub scoped_noted : (kind : Kind) → Opens kind → UsesAs kind Scoped → (a b : Noted) → NotesBlock kind parts a b → Notes around (more (node kind parts) none) a b
   scoped_noted kind opens uses a b x = record {
     notes = λ by result in_loop turned first s names pieces ready stand fine.
         let inner = walk_parts result (is_loop kind || in_loop) kind false parts in
@@ -175,7 +175,7 @@ module _ (around : Kind) (parts : PlainTrees) where
   unrefused_locals (refused kind token) s h = absurd (false≢true (sym h))
   unrefused_locals broken s h = absurd (false≢true (sym h))
 
-  locals_noted : (a b : Noted) → NotesLocals parts a b → Notes around (more (node k.LocalDeclaration parts) none) a b
+  pub locals_noted : (a b : Noted) → NotesLocals parts a b → Notes around (more (node k.LocalDeclaration parts) none) a b
   locals_noted a b x = record {
     notes = λ by result in_loop turned first s names pieces ready stand fine.
         let d = declaring around first ready.0.0 in

@@ -4,6 +4,8 @@ use Rattle.std.specs.Prelude.{Option, Some, None, IsTrue}
 use Rattle.std.proofs.lemmas.Bool.{false≢true}
 use Rattle.c_names.specs.Names.{is_identifier}
 use Rattle.c_tree.specs.Trees.{PlainTree}
+use Rattle.c_tree.specs.Grammar as grammar
+use Rattle.tree_derivations.specs.Derivations.{Derivation}
 use Rattle.c_types.specs.Types.{PlainType}
 use Rattle.conditional.specs.Entries.{under}
 use Rattle.conditional.specs.Judgements as judgements
@@ -31,7 +33,7 @@ use Rattle.cond_declarators.specs.Types.{ShowsType}
 use Rattle.cond_selections.specs.Selected.{selections_in}
 use Rattle.cond_locals.specs.Declaring.{IsInitialiser, GoesOn, Declares}
 use Rattle.cond_member_uses.specs.Noted.{Noted, HasNames, NotesExpression, Where}
-use Rattle.cond_member_uses.specs.Declared.{IsSpelt, Goes, NotesOne}
+use Rattle.cond_member_uses.specs.Declared.{Goes, NotesOne}
 
 abbrev pub noted : Tables → List Use → Noted
 noted tables uses = record { tables = tables; uses = uses }
@@ -76,6 +78,10 @@ fine_goes by scope judged locals bindings refused new is goes =
     let fine_ = subst (λ (c : Checked Locals). GoesOn by scope.structs c refused new) is goes in
     (fine_.1, fine_.2)
 
+initialiser_there : (o : Option PlainTree) → ((tree : PlainTree) → o ≡ Some tree → Derivation grammar.initialiser tree) → IsInitialiser o
+initialiser_there None is = tt
+initialiser_there (Some tree) is = is tree refl
+
 pub one_noted :
     (on : ℕ → Bool) (base : Outcomes DeclaredType Refused) (declarator : PlainTree) (initialiser : Option PlainTree) (here : Bool) (before after : Tables) (refused : Bool) (old new : List Use)
     → Here here (Declares on base (λ scope slots ty. one_local scope slots ty declarator initialiser) (λ scope. IsInitialiser initialiser)) before after refused
@@ -92,7 +98,7 @@ one_noted on base declarator initialiser here before after refused old new decla
         fine_goes by scope (one_local scope slots ty declarator initialiser) locals bindings refused after judged
         (subst (λ (m : ℕ → ℕ). GoesOn m scope.structs (one_local scope slots ty declarator initialiser) refused after) follows.numbers
         ((declares.does h).goes_on scope slots ty follows.follows there
-        (subst (λ (m : ℕ → ℕ). ShowsType on (judgements.fine (renumbered m ty)) base) (sym follows.numbers) shown) ready.initialiser)) in
+        (subst (λ (m : ℕ → ℕ). ShowsType on (judgements.fine (renumbered m ty)) base) (sym follows.numbers) shown) (initialiser_there initialiser ready.initialiser))) in
         record { follows = goes.0; structs = goes.1; noted = is ∙ ap (λ b. old ++ under b (uses_initially (known_in after) initialiser)) h };
   };
 }

@@ -1,34 +1,27 @@
 -- What is noted of declarations among statements, as a configuration sees it (ISO/IEC 9899:2011, 6.7).
-use Rattle.std.specs.Prelude.{◌≡◌, ℕ, Bool, false, List, [], ◌++◌, Option, Some, None, ⊤}
+use Rattle.std.specs.Prelude.{◌≡◌, ℕ, Bool, false, List, [], ◌++◌, Option}
 use Rattle.c_types.specs.Types.{PlainType}
-use Rattle.c_tree.specs.Trees.{PlainTree, PlainTrees, spelled, all_written}
-use Rattle.c_tree.specs.Grammar.{declarator, local}
-use Rattle.tree_derivations.specs.Derivations.{Derivation, Declared}
+use Rattle.c_tree.specs.Trees.{PlainTree, PlainTrees, all_written}
+use Rattle.c_tree.specs.Grammar.{local}
+use Rattle.tree_derivations.specs.Derivations.{Declared}
 use Rattle.conditional.specs.Judgements as judgements
 use Rattle.conditional.specs.declared.outcomes.Outcomes.{Outcomes}
 use Rattle.core_meaning.specs.Checking.{Binding, Checked, fine}
 use Rattle.core_meaning.specs.Entities.{Scope}
 use Rattle.core_meaning.specs.Declarations.{Locals, one_local, locals_from}
-use Rattle.declarator_lists.specs.Lists as lists
-use Rattle.declarator_lists.specs.Lists.{declared_in, trees_of}
+use Rattle.declarator_lists.specs.Lists.{declared, declared_in, trees_of}
 use Rattle.declaration_readings.specs.Readings.{next_local}
 use Rattle.bindings.specs.Laws.{ArePieces}
 use Rattle.operand_types.specs.OperandTypes.{renumbered}
 use Rattle.operand_rules.specs.declared.operands.Refused.{Refused}
 use Rattle.member_uses.specs.Uses.{Use}
-use Rattle.member_uses.specs.Declarations.{uses_in_turn, uses_initially}
+use Rattle.member_uses.specs.Declarations.{IsDeclarator, uses_in_turn, uses_initially}
 use Rattle.type_tables.specs.declared.entries.DeclaredType.{DeclaredType}
 use Rattle.type_tables.specs.Tables.{known_in}
 use Rattle.type_tables.specs.Follows.{IsThere}
 use Rattle.type_tables.specs.Numbers.{FollowsInBlockBy}
 use Rattle.cond_declarators.specs.Types.{ShowsType}
-use Rattle.cond_locals.specs.Declaring.{IsInitialiser}
 use Rattle.cond_member_uses.specs.Noted.{Noted, HasNames}
-
--- an initialiser, if there is one, is spelt as the kinds of its tokens say
-abbrev pub IsSpelt : Option PlainTree → Type 0
-IsSpelt None = ⊤
-IsSpelt (Some tree) = ArePieces (spelled tree)
 
 -- The tables follow what is visible behind declarators, where the same structs are visible, and these uses have been noted.
 pub record Goes (by : ℕ → ℕ) (before after : Scope) (uses : List Use) (old new : Noted) : Type 0 where
@@ -45,17 +38,10 @@ pub record NotesDeclared (on : ℕ → Bool) (base : Outcomes DeclaredType Refus
       → IsThere scope.structs ty → ShowsType on (judgements.fine (renumbered by ty)) base → judged scope slots ty ≡ fine locals bindings
       → Goes by scope locals.scope (uses new by scope slots ty) old new
 
--- a declarator with its initialiser, spelt as the kinds of its tokens say
-pub record IsReady (d : lists.Declared) : Type 0 where
-  pub declarator : Derivation (declarator local) d.declarator
-  pub initialiser : IsInitialiser d.initialiser
-  pub spelt : ArePieces (spelled d.declarator)
-  pub initialiser_spelt : IsSpelt d.initialiser
-
 -- one declarator with its initialiser
 abbrev pub NotesOne : (ℕ → Bool) → Outcomes DeclaredType Refused → PlainTree → Option PlainTree → Noted → Noted → Type 0
 NotesOne on base tree initialiser =
-    NotesDeclared on base (λ scope slots ty. one_local scope slots ty tree initialiser) (IsReady (lists.declared tree initialiser))
+    NotesDeclared on base (λ scope slots ty. one_local scope slots ty tree initialiser) (IsDeclarator local (declared tree initialiser))
     (λ new by scope slots ty. uses_initially (known_in new.tables) initialiser)
 
 -- the declarators of a list

@@ -25,6 +25,7 @@ use conditional_steps::both_of;
 use declaration_readings::locals_are_read;
 use declarator_lists::{ListedDeclarator, listed_declarators};
 use known_tables::Visible;
+use member_uses::locals_use_initialisers;
 use operand_rules::Refused;
 use std::alloc::Global;
 use type_tables::{DeclaredType, Tables};
@@ -100,6 +101,7 @@ fn note_each<O: Oracle>(
         → Where (value (has c) (condition_of when.now)) (NotesList (has c) base.now list) (noted_at (has c) tables.old log.old) (noted_at (has c) tables.new log.new)) }
 {
     locals_are_read();
+    locals_use_initialisers();
     for listed in all {
         note_listed(alloc, oracle, tables, when, base, listed, log)?;
     }

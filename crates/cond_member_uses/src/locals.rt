@@ -19,6 +19,7 @@ use cond_formula::{Formula, NoMemory, Oracle};
 use cond_selections::Selection;
 use conditional::CondList;
 use conditional_steps::both_of;
+use member_uses::locals_are_used;
 use std::alloc::Global;
 use type_tables::Tables;
 
@@ -37,6 +38,7 @@ fn note_words<O: Oracle>(
     ensures notes { OnOk result ((c : List Bool) (end : PlainTree) → IsTrue (value (has c) (O.admits oracle.old))
         → Where (value (has c) (condition_of when.now)) (NotesLocals (more (item_at (has c) (plain_item words.now)) (more (item_at (has c) (plain_item list.now)) (more end none)))) (noted_at (has c) tables.old log.old) (noted_at (has c) tables.new log.new)) }
 {
+    locals_are_used();
     let base = base_of(alloc, oracle, tables, words)?;
     note_list(alloc, oracle, tables, when, &base, list, log)
 }

@@ -113,7 +113,8 @@ fn note_node<O: Oracle>(
         → Where (value (has c) (condition_of when.now)) (Notes around (more (node kind (parts_at (has c) kind 0 (plain_choices parts.now))) none)) (noted_at (has c) tables.old log.old) (noted_at (has c) tables.new log.new)) }
 {
     match role_of(kind) {
-        Role::LeftOut | Role::Jump => Ok(()),
+        Role::LeftOut => Ok(()),
+        Role::Jump => Ok(()),
         Role::Declaration => note_locals(alloc, oracle, tables, when, parts, log),
         Role::Scoped => note_scoped(alloc, oracle, tables, kind, when, parts, log),
         Role::Parts => note_parts(alloc, oracle, tables, kind, when, parts, log),

@@ -36,7 +36,7 @@ loop-listed-preserved g c = record {
 
 pub returns-clause-notes : goal.returns-clause-notes
 returns-clause-notes g c = λ n list admitted is.
-    let law = c.one_local.ensures in
+    let law = c.locals_use_initialisers.ensures in
     let read = c.locals_are_read.ensures in
     list_ends law read (has n) c.args.base.now list (value (has n) (condition_of c.args.when.now)) (noted_at (has n) c.args.tables.now c.args.log.now) (noted_at (has n) c.loop-listed.tables c.loop-listed.log)
     (subst (λ rest. ListSoFar law read (has n) c.args.base.now list (value (has n) (condition_of c.args.when.now)) (noted_at (has n) c.args.tables.now c.args.log.now) rest (noted_at (has n) c.loop-listed.tables c.loop-listed.log))
