@@ -9,3 +9,4 @@ pub mod Listing
 pub mod Words
 pub mod Answering
 pub mod Blocks
+pub mod WholeBodies

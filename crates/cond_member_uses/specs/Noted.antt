@@ -5,6 +5,8 @@ use Rattle.c_types.specs.Types.{PlainType}
 use Rattle.c_tree.specs.declared.kinds.Kind.{Kind}
 use Rattle.c_tree.specs.declared.kinds.Kind.TheVariants as k
 use Rattle.c_tree.specs.Trees.{PlainTree, PlainTrees, node, all_written, spelled}
+use Rattle.c_tree.specs.Grammar.{block}
+use Rattle.tree_derivations.specs.Derivations.{Derivation}
 use Rattle.conditional.specs.Entries.{seen, listed}
 use Rattle.conditional.specs.declared.lists.CondList.{CondList}
 use Rattle.core_meaning.specs.Checking.{Binding, fine}
@@ -12,6 +14,8 @@ use Rattle.core_meaning.specs.Entities.{Scope}
 use Rattle.core_meaning.specs.Typing.{Operand}
 use Rattle.core_meaning.specs.Expressions.{judged}
 use Rattle.core_meaning.specs.Declarations.{Locals, judged_locals}
+use Rattle.core_meaning.specs.Statements.{JudgedItems}
+use Rattle.core_meaning.specs.UnitNames.{judged_body}
 use Rattle.bindings.specs.Laws.{ArePieces}
 use Rattle.member_uses.specs.Uses.{Use, uses_in, uses_among}
 use Rattle.member_uses.specs.Walks.{uses_in_parts}
@@ -78,3 +82,10 @@ pub record NotesLocals (parts : PlainTrees) (old new : Noted) : Type 0 where
       (by : ℕ → ℕ) (scope : Scope) (slots : List PlainType) (locals : Locals) (bindings : List Binding) → HasNames old.tables → ArePieces (all_written parts [])
       → IsDerived (node k.LocalDeclaration parts) → FollowsInBlockBy by old.tables scope → judged_locals scope slots parts ≡ fine locals bindings
       → FollowsInBlockBy by new.tables locals.scope × (new.uses ≡ old.uses ++ uses_among by parts (judged_locals scope slots parts))
+
+-- the block of a function that is judged well in this scope, that of its parameters
+pub record NotesBody (tree : PlainTree) (old new : Noted) : Type 0 where
+  pub notes :
+      (by : ℕ → ℕ) (result : PlainType) (scope : Scope) (slots : List PlainType) (items : JudgedItems) (bindings : List Binding) → HasNames old.tables → ArePieces (spelled tree)
+      → Derivation block tree → FollowsInBlockBy by old.tables scope → judged_body scope result slots tree ≡ fine items bindings
+      → new.uses ≡ old.uses ++ uses_in by tree (judged_body scope result slots tree)
