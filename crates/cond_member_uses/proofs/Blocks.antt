@@ -1,5 +1,5 @@
 -- A block is noted, and closed again.
-use Rattle.std.proofs.Common.{◌≡◌, ℕ, suc, Bool, false, List, refl, sym, ap, subst, ◌∙◌}
+use Rattle.std.proofs.Common.{◌≡◌, ℕ, suc, Bool, List, ap, subst, ◌∙◌}
 use Rattle.c_tree.specs.declared.kinds.Kind.{Kind}
 use Rattle.c_tree.specs.Trees.{PlainTrees}
 use Rattle.conditional.specs.Entries.{seen, listed}

@@ -4,7 +4,7 @@ use Rattle.std.specs.Prelude.{if◌then◌else◌, Option, Some, None}
 use Rattle.std.proofs.lemmas.Bool.{false≢true}
 use Rattle.std.proofs.lemmas.List.{drop_all}
 use Rattle.c_tree.specs.declared.kinds.Kind.{Kind}
-use Rattle.c_tree.specs.Trees.{PlainTree, PlainTrees, none, more}
+use Rattle.c_tree.specs.Trees.{PlainTree, none, more}
 use Rattle.choice_trees.specs.declared.trees.Choice.{Choice}
 use Rattle.choice_trees.specs.declared.trees.Item.{Item}
 use Rattle.choice_trees.specs.ChoiceTrees.{plain_branches, plain_choices, needs_statement, with_part, branch_at, parts_at}

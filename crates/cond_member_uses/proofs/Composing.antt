@@ -1,9 +1,8 @@
 -- Parts are noted one after the other.
-use Rattle.std.proofs.Common.{◌≡◌, ℕ, Bool, true, false, ◌||◌, List, [], ◌++◌, IsTrue, refl, sym, ap, subst, ◌∙◌, append_assoc, append-nil}
+use Rattle.std.proofs.Common.{◌≡◌, ℕ, Bool, true, false, ◌||◌, List, [], ◌++◌, refl, sym, ap, subst, ◌∙◌, append_assoc, append-nil}
 use Rattle.std.specs.Prelude.{if◌then◌else◌, Option, Some, None}
 use Rattle.std.proofs.lemmas.Bool.{false≢true}
 use Rattle.c_text.specs.Token.{PlainToken}
-use Rattle.c_types.specs.Types.{PlainType}
 use Rattle.c_tree.specs.declared.kinds.Kind.{Kind}
 use Rattle.c_tree.specs.Trees.{PlainTree, PlainTrees, leaf, node, none, more}
 use Rattle.choice_trees.specs.ChoiceTrees.{no_statement, with_part}
@@ -15,8 +14,7 @@ use Rattle.statement_readings.proofs.Parts.{parts_stay}
 use Rattle.member_uses.specs.Uses.{Use}
 use Rattle.member_uses.specs.Walks.{uses_in_node, uses_in_parts}
 use Rattle.type_tables.specs.Tables.{Tables, FileName}
-use Rattle.cond_statements.specs.Ready.{NodeReady, Ready}
-use Rattle.cond_statements.specs.Readings.{first_behind, Stand, is_quiet}
+use Rattle.cond_statements.specs.Readings.{first_behind, Stand}
 use Rattle.cond_member_uses.specs.Noted.{Noted, HasNames, Comes, Notes}
 use Rattle.cond_member_uses.proofs.Pieces.{first_pieces, rest_pieces}
 

@@ -17,7 +17,7 @@ use Rattle.operand_types.specs.OperandTypes.{renumbered}
 use Rattle.operand_rules.specs.declared.operands.Refused.{Refused}
 use Rattle.choice_expansions.specs.Steps.{after_each}
 use Rattle.declarator_lists.specs.Lists.{Declared, declared, declared_in, trees_of}
-use Rattle.declaration_readings.specs.Readings.{Going, after, goes_on, goes_through, IsSame, Slots, slots_of, next_local, all_locals}
+use Rattle.declaration_readings.specs.Readings.{Going, after, goes_on, goes_through, IsSame, Slots, slots_of, next_local}
 use Rattle.declaration_readings.specs.Laws.{LocalsAreRead}
 use Rattle.declaration_readings.proofs.Lists.{one_alone, one_before, value_alone, value_before}
 use Rattle.member_uses.specs.Uses.{Use}
@@ -26,7 +26,7 @@ use Rattle.member_uses.specs.Declarations.{IsDeclarator, uses_in_declared, uses_
 use Rattle.type_tables.specs.Tables.{known_in}
 use Rattle.type_tables.specs.declared.entries.DeclaredType.{DeclaredType}
 use Rattle.type_tables.specs.Follows.{IsThere}
-use Rattle.type_tables.specs.Numbers.{FollowsBy, FollowsInBlockBy}
+use Rattle.type_tables.specs.Numbers.{FollowsInBlockBy}
 use Rattle.cond_declarators.specs.Types.{ShowsType}
 use Rattle.cond_statements.proofs.Standing.{followed}
 use Rattle.cond_member_uses.specs.Noted.{Noted, HasNames, Where}

@@ -1,29 +1,27 @@
 -- Nodes among parts are noted by what their kinds say.
-use Rattle.std.proofs.Common.{◌≡◌, ℕ, Bool, true, false, not, ◌||◌, List, [], ◌++◌, IsTrue, refl, sym, ap, subst, ◌∙◌, append-nil}
+use Rattle.std.proofs.Common.{◌≡◌, ℕ, Bool, true, false, not, ◌||◌, List, [], ◌++◌, refl, sym, ap, subst, ◌∙◌, append-nil}
 use Rattle.std.proofs.lemmas.Bool.{false≢true}
 use Rattle.c_types.specs.Types.{PlainType}
 use Rattle.c_tree.specs.declared.kinds.Kind.{Kind}
 use Rattle.c_tree.specs.declared.kinds.Kind.TheVariants as k
-use Rattle.c_tree.specs.Trees.{PlainTree, PlainTrees, leaf, node, none, more, all_written}
-use Rattle.bindings.specs.Laws.{ArePieces}
+use Rattle.c_tree.specs.Trees.{PlainTree, PlainTrees, node, none, more}
 use Rattle.choice_trees.specs.ChoiceTrees.{semicolon, no_statement}
 use Rattle.core_meaning.specs.declared.refusals.TypeKind.TheVariants.{Misplaced}
 use Rattle.core_meaning.specs.Checking.{Binding, Checked, fine, refused, broken, with_bindings, ◌>>=◌, unless_so, found_or}
 use Rattle.core_meaning.specs.Entities.{Scope}
-use Rattle.core_meaning.specs.Typing.{Operand, fits_into}
+use Rattle.core_meaning.specs.Typing.{fits_into}
 use Rattle.core_meaning.specs.Expressions.{judged, valued, is_void}
 use Rattle.core_meaning.specs.Declarations.{Locals, judged_locals}
-use Rattle.statement_readings.specs.Walks.{State, Use as Usage, condition, discarded, returned, use_in, is_loop, scope_in, is_refused, with_locals, leave, expression_refused, expression_read, left_out, node_read, walk_parts}
+use Rattle.statement_readings.specs.Walks.{State, Use as Usage, condition, discarded, returned, use_in, is_loop, scope_in, is_refused, with_locals, expression_refused, left_out, node_read, walk_parts}
 use Rattle.member_uses.specs.Uses.{Use, uses_in, uses_among}
 use Rattle.member_uses.specs.Walks.{uses_in_node, uses_in_parts}
 use Rattle.type_tables.specs.Tables.{Tables}
-use Rattle.type_tables.specs.Numbers.{FollowsBy, FollowsInBlockBy}
-use Rattle.cond_statements.specs.declared.roles.Role.TheVariants.{LeftOut, Declaration, Scoped, Parts, Jump, Expression}
-use Rattle.cond_statements.specs.Ready.{has_items, NodeReady, Ready}
-use Rattle.cond_statements.specs.Readings.{first_behind, Stand, is_quiet}
-use Rattle.cond_statements.proofs.Standing.{followed, later, standing}
-use Rattle.cond_statements.proofs.KindsOfNodes.{opened, Opens, Quiet, Partwise, listed, quietly, IsRead, Plays, plays_role}
-use Rattle.cond_statements.proofs.Nodes.{quiet_scope, Declaring, declaring, only_block}
+use Rattle.type_tables.specs.Numbers.{FollowsInBlockBy}
+use Rattle.cond_statements.specs.declared.roles.Role.TheVariants.{Scoped, Parts, Expression}
+use Rattle.cond_statements.specs.Readings.{Stand, is_quiet}
+use Rattle.cond_statements.proofs.Standing.{later, standing}
+use Rattle.cond_statements.proofs.KindsOfNodes.{opened, Opens, Quiet, Partwise, listed, quietly, IsRead, plays_role}
+use Rattle.cond_statements.proofs.Nodes.{quiet_scope, declaring, only_block}
 use Rattle.cond_member_uses.specs.Noted.{Noted, Comes, Notes, NotesExpression, NotesBlock, NotesLocals}
 use Rattle.cond_member_uses.proofs.Composing.{token_noted, then_noted}
 use Rattle.cond_member_uses.proofs.NodeUses.{UsesAs, uses_by_role}

@@ -1,12 +1,10 @@
 -- What expressions and initialisers use is noted.
-use Rattle.std.proofs.Common.{◌≡◌, ℕ, Bool, true, false, List, [], ◌++◌, refl, sym, ap, subst, ◌∙◌, append-nil}
-use Rattle.std.specs.Prelude.{Option, Some, None, IsTrue}
-use Rattle.std.proofs.lemmas.Bool.{false≢true}
+use Rattle.std.proofs.Common.{◌≡◌, ℕ, Bool, true, List, ◌++◌, refl, sym, ap, subst, ◌∙◌, append-nil}
+use Rattle.std.specs.Prelude.{Option, Some, None}
 use Rattle.c_names.specs.Names.{is_identifier}
 use Rattle.c_tree.specs.Trees.{PlainTree}
 use Rattle.c_tree.specs.Grammar as grammar
 use Rattle.tree_derivations.specs.Derivations.{Derivation}
-use Rattle.c_types.specs.Types.{PlainType}
 use Rattle.conditional.specs.Entries.{under}
 use Rattle.conditional.specs.Judgements as judgements
 use Rattle.conditional.specs.declared.outcomes.Outcomes.{Outcomes}
@@ -14,7 +12,6 @@ use Rattle.conditional_steps.specs.Here.{Here}
 use Rattle.core_meaning.specs.Checking.{Binding, Checked, fine}
 use Rattle.core_meaning.specs.Entities.{Scope}
 use Rattle.core_meaning.specs.Entities as scopes
-use Rattle.core_meaning.specs.Typing.{Operand}
 use Rattle.core_meaning.specs.Declarations.{Locals, one_local}
 use Rattle.operand_types.specs.OperandTypes.{renumbered}
 use Rattle.operand_types.specs.Laws.{KeepsApart}
@@ -26,20 +23,19 @@ use Rattle.member_uses.specs.Declarations.{uses_initially}
 use Rattle.member_uses.specs.Laws.{ExpressionsUseSelections}
 use Rattle.type_tables.specs.Tables.{Tables, FileName, known_in}
 use Rattle.type_tables.specs.declared.entries.DeclaredType.{DeclaredType}
-use Rattle.type_tables.specs.Follows.{IsThere, NameFollows, Follows}
+use Rattle.type_tables.specs.Follows.{NameFollows, Follows}
 use Rattle.type_tables.specs.Numbers.{FollowsBy, FollowsInBlockBy}
 use Rattle.type_tables.proofs.Known.{known_followed}
 use Rattle.cond_declarators.specs.Types.{ShowsType}
 use Rattle.cond_selections.specs.Selected.{selections_in}
 use Rattle.cond_locals.specs.Declaring.{IsInitialiser, GoesOn, Declares}
 use Rattle.cond_member_uses.specs.Noted.{Noted, HasNames, NotesExpression, Where}
-use Rattle.cond_member_uses.specs.Declared.{Goes, NotesOne}
+use Rattle.cond_member_uses.specs.Declared.{NotesOne}
 
 abbrev pub noted : Tables → List Use → Noted
 noted tables uses = record { tables = tables; uses = uses }
 
 -- ---- what tables follow
-
 
 pub names_followed : (t : Tables) (scope : Scope) → Follows t scope → HasNames t → selections.HasNames scope
 names_followed t scope f names = λ name n is. at name n (t.names name) refl (subst (λ (o : Option scopes.FileName). NameFollows f.by t.signatures o (t.names name)) is (f.names name))

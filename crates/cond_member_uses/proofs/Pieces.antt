@@ -1,7 +1,7 @@
 -- Tokens that are spelt as their kinds say, of a tree and of what stands behind it.
 use Rattle.std.proofs.Common.{List, []}
 use Rattle.c_text.specs.Token.{PlainToken}
-use Rattle.c_tree.specs.Trees.{PlainTree, PlainTrees, leaf, node, none, more, written, all_written, spelled}
+use Rattle.c_tree.specs.Trees.{PlainTree, PlainTrees, leaf, node, none, more, written, all_written}
 use Rattle.bindings.specs.Laws.{ArePieces}
 
 mutual

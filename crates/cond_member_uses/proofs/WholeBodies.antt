@@ -1,22 +1,11 @@
 -- The block of a function is noted by its parts.
-use Rattle.std.proofs.Common.{◌≡◌, ℕ, Bool, true, false, List, [], ◌++◌, refl, sym, ap, subst, ◌∙◌}
-use Rattle.std.proofs.lemmas.Bool.{false≢true}
+use Rattle.std.proofs.Common.{true, false, ◌++◌, sym, ap, subst, ◌∙◌}
 use Rattle.c_tree.specs.declared.kinds.Kind.{Kind}
-use Rattle.c_tree.specs.declared.kinds.Kind.TheVariants as k
-use Rattle.c_tree.specs.Trees.{PlainTree, PlainTrees, leaf, node}
-use Rattle.c_tree.specs.Grammar.{block}
+use Rattle.c_tree.specs.Trees.{PlainTrees, leaf, node}
 use Rattle.c_text.specs.Token.{PlainToken}
-use Rattle.c_types.specs.Types.{PlainType}
-use Rattle.tree_derivations.specs.Derivations.{Derivation}
-use Rattle.core_meaning.specs.Checking.{Checked, fine, broken}
-use Rattle.core_meaning.specs.Entities.{Scope}
-use Rattle.core_meaning.specs.Statements.{JudgedItems}
-use Rattle.core_meaning.specs.UnitNames.{judged_body}
-use Rattle.statement_readings.specs.Walks.{is_refused, walk_body}
+use Rattle.statement_readings.specs.Walks.{is_refused}
 use Rattle.statement_readings.specs.Laws.{starting, BodiesAreRead}
 use Rattle.member_uses.specs.Laws.{BodiesAreUsed}
-use Rattle.type_tables.specs.Tables.{Tables}
-use Rattle.type_tables.specs.Numbers.{FollowsInBlockBy}
 use Rattle.cond_statements.specs.Ready.{Ready}
 use Rattle.cond_statements.specs.Readings.{Stand}
 use Rattle.cond_statements.proofs.DerivedParts.{block_ready}

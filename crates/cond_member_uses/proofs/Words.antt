@@ -14,21 +14,17 @@ use Rattle.conditional.specs.declared.outcomes.Outcomes.{Outcomes}
 use Rattle.core_meaning.specs.Checking.{Binding, Checked, fine, refused, broken, with_bindings, ◌>>=◌}
 use Rattle.core_meaning.specs.Entities.{Scope}
 use Rattle.core_meaning.specs.Declarations.{Locals, Based, based, locals_from, judged_locals}
-use Rattle.declarator_lists.specs.Lists.{declared_in, trees_of}
-use Rattle.declaration_readings.specs.Readings.{next_local}
 use Rattle.operand_types.specs.OperandTypes.{outcome_as}
 use Rattle.operand_rules.specs.declared.operands.Refused.{Refused}
 use Rattle.member_uses.specs.Uses.{uses_among}
-use Rattle.member_uses.specs.Declarations.{declaration, uses_in_turn}
+use Rattle.member_uses.specs.Declarations.{declaration}
 use Rattle.member_uses.specs.Laws.{LocalsAreUsed}
 use Rattle.type_tables.specs.declared.entries.DeclaredType.{DeclaredType}
 use Rattle.type_tables.specs.Follows.{IsThere, Follows}
-use Rattle.type_tables.specs.Numbers.{FollowsInBlockBy}
 use Rattle.cond_declarators.specs.Types.{ShowsType, based_in, base_type}
 use Rattle.cond_declarators.proofs.There.{bases_are_there}
-use Rattle.cond_statements.specs.Ready.{IsDerived}
 use Rattle.cond_locals.proofs.OneDeclaration.{IsSame, words_same}
-use Rattle.cond_member_uses.specs.Noted.{Noted, HasNames, NotesLocals, Where}
+use Rattle.cond_member_uses.specs.Noted.{Noted, NotesLocals, Where}
 use Rattle.cond_member_uses.specs.Declared.{NotesList}
 use Rattle.cond_member_uses.proofs.Noting.{names_followed}
 use Rattle.cond_member_uses.proofs.Pieces.{rest_pieces, first_pieces}

@@ -1,8 +1,7 @@
 use Rattle.std.proofs.Common.{◌&&◌, refl, ap, ◌∙◌, subst}
 use Rattle.cond_formula.specs.Features.{has}
 use Rattle.cond_formula.specs.Conditions.{condition_of, value}
-use Rattle.conditional.specs.Entries.{seen}
-use Rattle.declarator_lists.specs.Entries.{declarator_at, listed_at}
+use Rattle.declarator_lists.specs.Entries.{declarator_at}
 use Rattle.conditional_steps.proofs.FirstAlternative.{next_seen, none_seen}
 use Rattle.type_tables.specs.Seen.{seen_tables}
 use Rattle.type_tables.proofs.LocalsAlone.{nothing_changed, locals_again}

@@ -5,7 +5,7 @@ use Rattle.cond_formula.specs.Conditions.{condition_of, value}
 use Rattle.c_tree.specs.declared.kinds.Kind.TheVariants as k
 use Rattle.c_tree.specs.Trees.{PlainTrees}
 use Rattle.choice_trees.specs.ChoiceTrees.{plain_item, plain_choices, item_at, parts_at}
-use Rattle.choice_trees.specs.ItemLaws.{plain_item-Node, plain_item-Leaf}
+use Rattle.choice_trees.specs.ItemLaws.{plain_item-Node}
 use Rattle.cond_locals.proofs.Parts.{listed_parts}
 use Rattle.cond_member_uses.specs.Noted.{noted_at, Where}
 use Rattle.cond_member_uses.specs.Declared.{NotesList}

@@ -1,4 +1,4 @@
-use Rattle.std.proofs.Common.{◌&&◌, ◌++◌, ap, subst, ◌∙◌}
+use Rattle.std.proofs.Common.{ap, subst, ◌∙◌}
 use Rattle.std.specs.Prelude.{option_map}
 use Rattle.std.proofs.lemmas.Result.{on_ok_weaker}
 use Rattle.cond_formula.specs.Features.{has}

@@ -1,4 +1,4 @@
-use Rattle.std.proofs.Common.{◌≡◌, ◌+◌, ◌≤◌, Bool, List, suc, drop, refl, sym, ap, subst, ◌∙◌, arith}
+use Rattle.std.proofs.Common.{◌≡◌, ◌+◌, ◌≤◌, List, drop, refl, sym, ap, subst, ◌∙◌, arith}
 use Rattle.std.proofs.lemmas.List.{drop_all}
 use Rattle.std.proofs.lemmas.Result.{on_ok_weaker}
 use Rattle.c_text.specs.Token.{plain_token}
@@ -16,7 +16,7 @@ use Rattle.choice_trees.specs.Depths.{depth, branches_depth, choices_depth}
 use Rattle.choice_trees.proofs.Depths.{choice_within, branch_within}
 use Rattle.cond_statements.specs.declared.roles.Role.TheVariants.{LeftOut, Declaration, Scoped, Parts, Jump, Expression}
 use Rattle.cond_statements.proofs.KindsOfNodes.{Plays, plays_role}
-use Rattle.type_tables.proofs.LocalsAlone.{nothing_changed, locals_again, seen_same}
+use Rattle.type_tables.proofs.LocalsAlone.{nothing_changed, locals_again}
 use Rattle.cond_member_uses.specs.Noted.{noted_at, Notes, NotesExpression, Where}
 use Rattle.cond_member_uses.proofs.Blocks.{block_noted, where_also}
 use Rattle.cond_member_uses.proofs.Composing.{token_noted}

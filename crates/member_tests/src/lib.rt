@@ -1,0 +1,7 @@
+//! Tests of the uses of members in statements, in all configurations.
+#![tactic(auto)]
+
+#[cfg(test)]
+mod bodies;
+#[cfg(test)]
+mod items;
