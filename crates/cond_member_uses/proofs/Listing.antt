@@ -4,7 +4,8 @@ use Rattle.std.specs.Prelude.{⊤, Option, Some, None}
 use Rattle.std.proofs.lemmas.Bool.{false≢true}
 use Rattle.c_types.specs.Types.{PlainType}
 use Rattle.c_tree.specs.Trees.{PlainTree, PlainTrees, leaf, none, more, all_written, spelled}
-use Rattle.c_tree.specs.Grammar.{declarator, initialiser, local}
+use Rattle.c_tree.specs.Grammar as grammar
+use Rattle.c_tree.specs.Grammar.{Role, local}
 use Rattle.tree_derivations.specs.Derivations as derivations
 use Rattle.tree_derivations.specs.Derivations.{Derivation, last_plain, last_initialised, next_plain, next_initialised}
 use Rattle.conditional.specs.Judgements as judgements
@@ -37,39 +38,41 @@ use Rattle.cond_member_uses.proofs.Pieces.{first_pieces, rest_pieces}
 
 -- ---- what is derived and spelt, declarator by declarator
 
-abbrev pub AreReady : List Declared → Type 0
-AreReady [] = ⊤
-AreReady (d ∷ others) = IsDeclarator local d × AreReady others
+abbrev pub AreReady : Role → List Declared → Type 0
+AreReady role [] = ⊤
+AreReady role (d ∷ others) = IsDeclarator role d × AreReady role others
 
 same_tree : (a b : PlainTree) → ◌≡◌ {A = Option PlainTree} (Some a) (Some b) → a ≡ b
 same_tree a b e = cc
 
-alone : (tree : PlainTree) → Derivation (declarator local) tree → ArePieces (spelled tree) → IsDeclarator local (declared tree None)
-alone tree d spelt = record { declarator = d; declarator_pieces = spelt; initialiser = λ other is. absurd cc; initialiser_pieces = λ other is. absurd cc }
+alone : (role : Role) (tree : PlainTree) → Derivation (grammar.declarator role) tree → ArePieces (spelled tree) → IsDeclarator role (declared tree None)
+alone role tree d spelt = record { declarator = d; declarator_pieces = spelt; initialiser = λ other is. absurd cc; initialiser_pieces = λ other is. absurd cc }
 
-initialised : (tree value : PlainTree) → Derivation (declarator local) tree → ArePieces (spelled tree) → Derivation initialiser value → ArePieces (spelled value) → IsDeclarator local (declared tree (Some value))
-initialised tree value d spelt v value_spelt = record {
+initialised :
+    (role : Role) (tree value : PlainTree) → Derivation (grammar.declarator role) tree → ArePieces (spelled tree) → Derivation grammar.initialiser value → ArePieces (spelled value)
+    → IsDeclarator role (declared tree (Some value))
+initialised role tree value d spelt v value_spelt = record {
   declarator = d;
   declarator_pieces = spelt;
-  initialiser = λ other is. subst (Derivation initialiser) (same_tree value other is) v;
+  initialiser = λ other is. subst (Derivation grammar.initialiser) (same_tree value other is) v;
   initialiser_pieces = λ other is. subst (λ t. ArePieces (spelled t)) (same_tree value other is) value_spelt;
 }
 
-pub are_ready : {parts : PlainTrees} → derivations.Declared local parts → ArePieces (all_written parts []) → AreReady (declared_in (trees_of parts))
-are_ready (last_plain {tree = tree} d) spelt = subst AreReady (sym (one_alone d)) (alone tree d spelt, tt)
-are_ready (last_initialised {tree = tree} {value = value} {sign = sign} m d w v) spelt =
+pub are_ready : {role : Role} {parts : PlainTrees} → derivations.Declared role parts → ArePieces (all_written parts []) → AreReady role (declared_in (trees_of parts))
+are_ready {role} (last_plain {tree = tree} d) spelt = subst (AreReady role) (sym (one_alone d)) (alone role tree d spelt, tt)
+are_ready {role} (last_initialised {tree = tree} {value = value} {sign = sign} m d w v) spelt =
     let behind = rest_pieces tree (more (leaf sign) (more value none)) spelt in
-    subst AreReady (sym (value_alone d sign w v))
-    (initialised tree value d (first_pieces tree (more (leaf sign) (more value none)) spelt) v (rest_pieces (leaf sign) (more value none) behind), tt)
-are_ready (next_plain {tree = tree} {comma = comma} {rest = rest} d w others) spelt =
+    subst (AreReady role) (sym (value_alone d sign w v))
+    (initialised role tree value d (first_pieces tree (more (leaf sign) (more value none)) spelt) v (rest_pieces (leaf sign) (more value none) behind), tt)
+are_ready {role} (next_plain {tree = tree} {comma = comma} {rest = rest} d w others) spelt =
     let behind = rest_pieces tree (more (leaf comma) rest) spelt in
-    subst AreReady (sym (one_before d comma rest w)) (alone tree d (first_pieces tree (more (leaf comma) rest) spelt), are_ready others (rest_pieces (leaf comma) rest behind))
-are_ready (next_initialised {tree = tree} {value = value} {sign = sign} {comma = comma} {rest = rest} m d w v x others) spelt =
+    subst (AreReady role) (sym (one_before d comma rest w)) (alone role tree d (first_pieces tree (more (leaf comma) rest) spelt), are_ready others (rest_pieces (leaf comma) rest behind))
+are_ready {role} (next_initialised {tree = tree} {value = value} {sign = sign} {comma = comma} {rest = rest} m d w v x others) spelt =
     let signed = rest_pieces tree (more (leaf sign) (more value (more (leaf comma) rest))) spelt in
     let valued = rest_pieces (leaf sign) (more value (more (leaf comma) rest)) signed in
     let behind = rest_pieces value (more (leaf comma) rest) valued in
-    subst AreReady (sym (value_before d sign w v comma rest)) (
-      initialised tree value d (first_pieces tree (more (leaf sign) (more value (more (leaf comma) rest))) spelt) v (first_pieces value (more (leaf comma) rest) valued),
+    subst (AreReady role) (sym (value_before d sign w v comma rest)) (
+      initialised role tree value d (first_pieces tree (more (leaf sign) (more value (more (leaf comma) rest))) spelt) v (first_pieces value (more (leaf comma) rest) valued),
       are_ready others (rest_pieces (leaf comma) rest behind),
     )
 
@@ -117,7 +120,7 @@ module _ (law : LocalsUseInitialisers) (by : ℕ → ℕ) (on : ℕ → Bool) (b
     pub follows : FollowsInBlockBy by now.tables state.scope
     pub structs : state.scope.structs ≡ scope.structs
     pub rest_is : after_each (goes_on (next_local ty)) (here state) rest ≡ whole
-    pub ready : AreReady rest
+    pub ready : AreReady local rest
     pub uses : now.uses ++ uses_in_turn by (next_local ty) (here state) rest ≡ total
 
   one_more : whole.refused ≡ false → (d : Declared) (rest : List Declared) (now new : Noted) → HasNames now.tables → NotesOne on base d.declarator d.initialiser now new → At (d ∷ rest) now → At rest new

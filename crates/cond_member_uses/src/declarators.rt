@@ -30,8 +30,8 @@ use operand_rules::Refused;
 use std::alloc::Global;
 use type_tables::{DeclaredType, Tables};
 
-/// The uses of an initialiser, if there is one, where the condition is true.
-fn note_initialiser<O: Oracle>(
+/// Notes the uses of an initialiser, if there is one, where the condition is true, with what is visible by the tables.
+pub fn note_initialiser<O: Oracle>(
     alloc: Global,
     oracle: &mut O,
     tables: &Tables,

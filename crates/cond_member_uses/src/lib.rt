@@ -7,3 +7,4 @@ mod locals;
 mod statements;
 
 pub use bodies::note_body;
+pub use declarators::note_initialiser;
