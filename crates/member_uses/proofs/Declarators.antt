@@ -145,20 +145,18 @@ module _ (by : ℕ → ℕ) (kept : TypesAreKept) (typed : ExpressionsHaveTypes)
     pub object : ObjectForm kind parts
     pub holds : Holds tree → AllHold parts
 
-  pub declarator_tree : {parts : PlainTrees} → Row (stars ∷ word (t.Name ∷ []) ∷ []) parts → ObjectTree (node k.Declarator parts)
-  declarator_tree {parts = parts} row =
-      let f = name_form row in
-      record { kind = k.Declarator; parts = parts; is = refl; holds = λ h. h; object = record { slots = []; form = f; typed_so = λ scope names ty name value holds. plain_part parts f scope ty name value } }
+  pub declarator_form : {parts : PlainTrees} → Row (stars ∷ word (t.Name ∷ []) ∷ []) parts → ObjectForm k.Declarator parts
+  declarator_form {parts = parts} row =
+      let f = name_form row in record { slots = []; form = f; typed_so = λ scope names ty name value holds. plain_part parts f scope ty name value }
 
-  pub array_tree : {parts : PlainTrees} → Row (stars ∷ word (t.Name ∷ []) ∷ bracketed_size) parts → ObjectTree (node k.ArrayDeclarator parts)
-  array_tree {parts = parts} row =
-      let f = name_form row in
-      record { kind = k.ArrayDeclarator; parts = parts; is = refl; holds = λ h. h; object = record { slots = bracketed_size; form = f; typed_so = λ scope names ty name value holds. array_part parts f scope names ty name value holds } }
+  pub array_form : {parts : PlainTrees} → Row (stars ∷ word (t.Name ∷ []) ∷ bracketed_size) parts → ObjectForm k.ArrayDeclarator parts
+  array_form {parts = parts} row =
+      let f = name_form row in record { slots = bracketed_size; form = f; typed_so = λ scope names ty name value holds. array_part parts f scope names ty name value holds }
 
   -- where no function is declared
   pub object_tree : {role : Role} {tree : PlainTree} → Derivation (declarator role) tree → at_file_scope role ≡ false → ObjectTree tree
   object_tree (single is) inner = absurd cc
-  object_tree (made_of k.Declarator b a (a_row row)) inner = declarator_tree row
-  object_tree (made_of k.ArrayDeclarator b a (a_row row)) inner = array_tree row
+  object_tree (made_of k.Declarator {parts = parts} b a (a_row row)) inner = record { kind = k.Declarator; parts = parts; is = refl; holds = λ h. h; object = declarator_form row }
+  object_tree (made_of k.ArrayDeclarator {parts = parts} b a (a_row row)) inner = record { kind = k.ArrayDeclarator; parts = parts; is = refl; holds = λ h. h; object = array_form row }
   object_tree (made_of k.FunctionDeclarator b a s) inner = absurd (false≢true (sym inner ∙ b))
   object_tree (made_of _ b a s) inner = absurd cc

@@ -53,6 +53,13 @@ names_of_node kind parts = all_names parts [] ∙ append-nil (names_among parts)
 pub word_names : (token : PlainToken) (rest : PlainTrees) → is_name token ≡ false → names_among (more (leaf token) rest) ≡ names_among rest
 word_names token rest e = ap (λ b. (if b then token ∷ [] else []) ++ names_among rest) e
 
+-- what comes of a judgement that binds nothing
+abbrev pub Quietly : {A : Type 0} → (A → Type 0) → Checked A → Type 0
+Quietly P (fine x []) = P x
+Quietly P (fine x (j ∷ js)) = ⊥
+Quietly P (refused kind token) = Unit {0}
+Quietly P broken = Unit {0}
+
 module _ (by : ℕ → ℕ) where
   -- ---- uses of parts
 
@@ -150,3 +157,22 @@ module _ (by : ℕ → ℕ) where
   itself P names (fine x js) h = (h.0, (h.1, refl))
   itself P names (refused kind token) h = tt
   itself P names broken h = tt
+
+  pub quietly_then : {A B : Type 0} (P : A → Type 0) (S : B → List Use → Type 0) (others : List PlainToken) (m : Checked A) (n : A → Checked B) → Quietly P m
+      → ((x : A) → P x → m ≡ fine x [] → Part S (n x) others) → Part S (m >>= n) others
+  quietly_then P S others (fine x []) n h g = alone S others (n x) (g x h refl)
+  quietly_then P S others (fine x (j ∷ js)) n h g = absurd h
+  quietly_then P S others (refused kind token) n h g = tt
+  quietly_then P S others broken n h g = tt
+
+  ends_quietly : {B : Type 0} (S : B → List Use → Type 0) (names : List PlainToken) (js : List Binding) (m : Checked B) → AsMany js names → Quietly (λ y. S y (using names (structures_used by js))) m → Part S (with_bindings js m) names
+  ends_quietly S names js (fine y []) h q = (subst (λ l. AsMany l names) (sym (append-nil js)) h, subst (λ l. S y (using names (structures_used by l))) (sym (append-nil js)) q)
+  ends_quietly S names js (fine y (k ∷ ks)) h q = absurd q
+  ends_quietly S names js (refused kind token) h q = tt
+  ends_quietly S names js broken h q = tt
+
+  pub then_quietly : {A B : Type 0} (T : A → List Use → Type 0) (S : B → List Use → Type 0) (names : List PlainToken) (m : Checked A) (n : A → Checked B) → Part T m names
+      → ((x : A) (u : List Use) → T x u → Quietly (λ y. S y u) (n x)) → Part S (m >>= n) names
+  then_quietly T S names (fine x js) n h q = ends_quietly S names js (n x) h.0 (q x (using names (structures_used by js)) h.1)
+  then_quietly T S names (refused kind token) n h q = tt
+  then_quietly T S names broken n h q = tt

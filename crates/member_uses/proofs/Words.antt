@@ -49,7 +49,7 @@ other false h = refl
 word_is : (wanted k : Terminal) (token : PlainToken) → same k (terminal token) ≡ true → same wanted (terminal token) ≡ same wanted k
 word_is wanted k token h = ap (same wanted) (sym (same-true k (terminal token) h))
 
-no_names : (ws : List Terminal) (words : PlainTrees) → IsTrue (are_words ws words) → nameless ws ≡ true → names_among words ≡ []
+pub no_names : (ws : List Terminal) (words : PlainTrees) → IsTrue (are_words ws words) → nameless ws ≡ true → names_among words ≡ []
 no_names [] none h free = refl
 no_names [] (more first rest) h free = absurd cc
 no_names (k ∷ ks) none h free = absurd cc
