@@ -1,9 +1,9 @@
 -- The declarators of a declaration at file scope are noted one after the other.
 use Rattle.std.proofs.Common.{◌≡◌, ℕ, Bool, true, false, ◌&&◌, List, [], ◌∷◌, ◌++◌, refl, sym, ap, subst, ◌∙◌, append-nil, append_assoc, if◌then◌else◌}
-use Rattle.std.specs.Prelude.{⊤, Option, Some, None}
+use Rattle.std.specs.Prelude.{Option, Some, None}
 use Rattle.std.proofs.lemmas.Bool.{false≢true}
 use Rattle.c_types.specs.Types.{PlainType}
-use Rattle.c_tree.specs.Trees.{PlainTree, PlainTrees, leaf, none, more, all_written, spelled}
+use Rattle.c_tree.specs.Trees.{PlainTree, PlainTrees, all_written}
 use Rattle.c_tree.specs.Grammar as grammar
 use Rattle.c_tree.specs.Grammar.{Role}
 use Rattle.tree_derivations.specs.Derivations as derivations
@@ -17,10 +17,9 @@ use Rattle.core_meaning.specs.UnitNames.{Storage, UnitState}
 use Rattle.operand_types.specs.OperandTypes.{renumbered}
 use Rattle.operand_rules.specs.declared.operands.Refused.{Refused}
 use Rattle.choice_expansions.specs.Steps.{after_each}
-use Rattle.declarator_lists.specs.Lists.{Declared, declared, declared_in, trees_of}
+use Rattle.declarator_lists.specs.Lists.{Declared, declared_in, trees_of}
 use Rattle.declaration_readings.specs.Readings.{Going, after, goes_on, goes_through, IsSame, next_name}
 use Rattle.declaration_readings.specs.Laws.{NamesAreRead}
-use Rattle.declaration_readings.proofs.Lists.{one_alone, one_before, value_alone, value_before}
 use Rattle.selections.specs.Laws.{HasNames}
 use Rattle.member_uses.specs.Uses.{Use}
 use Rattle.member_uses.specs.Declarations.{IsDeclarator, uses_in_declared, uses_in_turn, uses_initially}
@@ -29,7 +28,6 @@ use Rattle.type_tables.specs.Tables.{known_in}
 use Rattle.type_tables.specs.declared.entries.DeclaredType.{DeclaredType}
 use Rattle.type_tables.specs.Follows.{IsThere}
 use Rattle.cond_declarators.specs.Types.{ShowsType}
-use Rattle.conditional_steps.specs.Here.{DoneHere}
 use Rattle.cond_units.specs.Seen.{SeenUnit}
 use Rattle.cond_units.specs.Declaring as declaring
 use Rattle.cond_units.specs.Declaring.{IsUnit, GoesOn, Declares, Judged}
@@ -37,7 +35,7 @@ use Rattle.cond_units.specs.Where as units
 use Rattle.cond_units.specs.Names.{one_name, IsReady}
 use Rattle.cond_member_uses.proofs.Listing.{AreReady, are_ready}
 use Rattle.cond_member_uses.proofs.Noting.{apart_by, known_by}
-use Rattle.cond_unit_uses.specs.Noted.{Noted, Stays, Where, Comes, NotesOne, NotesList}
+use Rattle.cond_unit_uses.specs.Noted.{Noted, Stays, Where, NotesOne, NotesList}
 
 -- ---- one declarator
 

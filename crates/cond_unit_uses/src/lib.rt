@@ -2,3 +2,5 @@
 #![tactic(auto)]
 
 mod names;
+
+pub use names::note_names;

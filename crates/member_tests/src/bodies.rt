@@ -18,7 +18,11 @@ fn where_a() -> Formula {
 }
 
 /// A struct with the member `int m;`.
-fn declare_struct(alloc: Global, tables: &mut Tables, tag: &[u8]) -> Result<(), NoMemory> {
+pub(crate) fn declare_struct(
+    alloc: Global,
+    tables: &mut Tables,
+    tag: &[u8],
+) -> Result<(), NoMemory> {
     let mut members = CondList::empty(alloc);
     let name = Vec::from_slice(alloc, b"m")?;
     members.push(
@@ -33,15 +37,14 @@ fn declare_struct(alloc: Global, tables: &mut Tables, tag: &[u8]) -> Result<(), 
     tables.complete_struct(alloc, number, Formula::True, &members, &scalars)
 }
 
-/// How many uses a configuration sees, of members of the struct with this number.
-fn count_at(log: &CondList<Selection>, bits: u128, structure: u32) -> usize {
-    let mut count = 0;
+/// Whether a configuration sees a use of a member of the struct with this number.
+pub(crate) fn is_used(log: &CondList<Selection>, bits: u128, structure: u32) -> bool {
     for entry in &log.entries {
         if entry.what.structure == structure && entry.when.value(Config { bits }) {
-            count += 1;
+            return true;
         }
     }
-    count
+    false
 }
 
 #[test]
@@ -66,9 +69,9 @@ fn uses_are_noted_where_they_are_there(rt: HostRuntime) -> Result<(), Fail> {
         &body,
         &mut log,
     )?;
-    assert!(rt; count_at(&log, A, 0) == 1);
-    assert!(rt; count_at(&log, A, 1) == 1);
-    assert!(rt; count_at(&log, NONE, 0) == 0);
-    assert!(rt; count_at(&log, NONE, 1) == 1);
+    assert!(rt; is_used(&log, A, 0));
+    assert!(rt; is_used(&log, A, 1));
+    assert!(rt; !is_used(&log, NONE, 0));
+    assert!(rt; is_used(&log, NONE, 1));
     Ok(())
 }

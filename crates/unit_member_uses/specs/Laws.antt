@@ -51,6 +51,12 @@ NamesUseInitialisers =
     → (unit : UnitState) → HasNames unit.scope → (next : UnitState) (js : List Binding) → next_name globals storage ty behind unit d ≡ fine next js
     → (known : Known) → IsKnown by next.scope known → uses_in_declared by (next_name globals storage ty behind) unit d ≡ uses_initially known d.initialiser
 
+-- Behind it names of file scope are spelt as names still.
+abbrev pub NamesKeepNames : Type 0
+NamesKeepNames =
+    (globals : ℕ) (storage : Storage) (ty : PlainType) (behind : PlainTrees) (role : Role) (d : Declared) → IsDeclarator role d
+    → (unit : UnitState) → HasNames unit.scope → (next : UnitState) (js : List Binding) → next_name globals storage ty behind unit d ≡ fine next js → HasNames next.scope
+
 -- The definition of a function uses what its block uses, in which its name and its parameters are visible.
 abbrev pub FunctionsAreUsed : Type 0
 FunctionsAreUsed =

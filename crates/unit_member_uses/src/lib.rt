@@ -2,7 +2,7 @@
 //! (ISO/IEC 9899:2011, 6.9), the contracts of functions that compute nothing.
 #![tactic(auto)]
 
-ghost use Rattle.unit_member_uses.specs.Laws.{DeclarationsAreUsed, FunctionsAreUsed, ItemsKeepNames, NamesUseInitialisers, StructsUseNothing, UnitsAreUsed};
+ghost use Rattle.unit_member_uses.specs.Laws.{DeclarationsAreUsed, FunctionsAreUsed, ItemsKeepNames, NamesUseInitialisers, NamesKeepNames, StructsUseNothing, UnitsAreUsed};
 
 use cond_sizes::counts_need_no_names;
 use expression_types::expressions_have_types;
@@ -40,6 +40,15 @@ pub fn declarations_are_used()
 /// Those of a declarator there are the selections of its first value.
 pub fn names_use_initialisers()
     ensures { NamesUseInitialisers }
+{
+    types_are_kept();
+    expressions_have_types();
+    counts_need_no_names();
+}
+
+/// Behind a declarator there names of file scope are spelt as names still.
+pub fn names_keep_names()
+    ensures { NamesKeepNames }
 {
     types_are_kept();
     expressions_have_types();

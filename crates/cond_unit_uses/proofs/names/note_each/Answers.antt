@@ -1,8 +1,7 @@
 use Rattle.std.proofs.Common.{refl, sym, ap, ◌∙◌, subst}
 use Rattle.cond_formula.specs.Features.{has}
 use Rattle.cond_formula.specs.Conditions.{condition_of, value}
-use Rattle.conditional.specs.Entries.{seen}
-use Rattle.declarator_lists.specs.Entries.{declarator_at, listed_at}
+use Rattle.declarator_lists.specs.Entries.{declarator_at}
 use Rattle.conditional_steps.proofs.FirstAlternative.{next_seen, none_seen}
 use Rattle.plain_objects.specs.PlainStates.{plain_storage}
 use Rattle.cond_unit_uses.specs.Noted.{noted_at}
