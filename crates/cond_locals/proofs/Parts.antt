@@ -97,7 +97,7 @@ module _ (on : ℕ → Bool) where
   three (p ∷ q ∷ r ∷ s ∷ parts) a b c e = absurd cc
 
   -- there are three parts
-  three_derived : {A : Type 0} (parts : List Part) → IsDerived (node k.LocalDeclaration (before on parts none)) → (length parts ≡ 3 → ⊥) → A
+  pub three_derived : {A : Type 0} (parts : List Part) → IsDerived (node k.LocalDeclaration (before on parts none)) → (length parts ≡ 3 → ⊥) → A
   three_derived parts derived other =
       let is = declaration_parts (before on parts none) derived in
       absurd (other (three parts is.words (node k.Declarators is.list) is.end is.parts_are))

@@ -198,7 +198,7 @@ fn declare_each<O: Oracle>(
 }
 
 /// The local of a declarator, where the condition is true. The answer is where it is refused.
-pub(crate) fn declare_local<O: Oracle>(
+pub fn declare_local<O: Oracle>(
     alloc: Global,
     oracle: &mut O,
     tables: &mut Tables,

@@ -9,3 +9,4 @@ mod objects;
 mod types;
 
 pub use declarations::LocalDeclarations;
+pub use declarators::declare_local;

@@ -11,7 +11,8 @@ use Rattle.choice_trees.specs.ChoiceTrees.{PlainItem, PlainBranches, no_branch, 
 use Rattle.choice_trees.specs.Leaves.{Leaf, item_leaves, branch_leaves}
 use Rattle.expression_types.specs.Known.{Known}
 use Rattle.selections.specs.Selections.{turns, selected_in}
-use Rattle.cond_selections.specs.Selected.{PlainSelection, identifiers, selecting}
+use Rattle.member_uses.specs.Uses.{Use, using}
+use Rattle.cond_selections.specs.Selected.{identifiers}
 use Rattle.cond_selections.specs.Progress.{Logs, turns_if_any, selected_if_any}
 
 and_false : (b : Bool) → (b && false) ≡ false
@@ -95,19 +96,19 @@ module _ (on : ℕ → Bool) (all : PlainBranches) where
 
   -- ---- what is noted
 
-  module _ (known : Known) (owner : Option ℕ) (turned path : Bool) (old : List PlainSelection) where
-    pub record LogsSoFar (left : Bool) (rest : PlainBranches) (now : List PlainSelection) : Type 0 where
+  module _ (known : Known) (owner : Option ℕ) (turned path : Bool) (old : List Use) where
+    pub record LogsSoFar (left : Bool) (rest : PlainBranches) (now : List Use) : Type 0 where
       pub off : path ≡ false → now ≡ old
       pub unread : IsTrue left → now ≡ old
       pub same : IsTrue left → branch_at on rest ≡ branch_at on all
       pub same_leaves : IsTrue left → (needed : Bool) (leaves : List Leaf) → branch_leaves on needed rest leaves ≡ branch_leaves on needed all leaves
       pub read : left ≡ false → IsTrue path → (needed : Bool) (leaves : List Leaf) (told : List (Option ℕ))
-          → now ++ selecting (identifiers leaves) told ≡ old ++ selecting (identifiers (branch_leaves on needed all leaves)) (selected_if_any known owner turned (branch_at on all) told)
+          → now ++ using (identifiers leaves) told ≡ old ++ using (identifiers (branch_leaves on needed all leaves)) (selected_if_any known owner turned (branch_at on all) told)
 
     pub logs_start : LogsSoFar true all old
     logs_start = record { off = λ h. refl; unread = λ h. refl; same = λ h. refl; same_leaves = λ h needed leaves. refl; read = λ h. absurd cc }
 
-    logs_on : (when : Condition) (item : PlainItem) (rest : PlainBranches) (left w : Bool) (now new : List PlainSelection) → value on when ≡ w
+    logs_on : (when : Condition) (item : PlainItem) (rest : PlainBranches) (left w : Bool) (now new : List Use) → value on when ≡ w
         → Logs (path && (left && w)) (item_leaves on item) (selected_in known owner turned (item_at on item)) now new
         → LogsSoFar left (branch when item rest) now → LogsSoFar (left && not w) rest new
     logs_on when item rest true true now new is logs so_far = record {
@@ -117,8 +118,8 @@ module _ (on : ℕ → Bool) (all : PlainBranches) where
       same_leaves = λ h. absurd cc;
       read = λ h on_path needed leaves told.
           logs.here (and_true path on_path) leaves told
-          ∙ (ap (λ l. l ++ selecting (identifiers (item_leaves on item leaves)) (selected_in known owner turned (item_at on item) told)) (so_far.unread refl)
-          ∙ ap₂ (λ l o. old ++ selecting (identifiers l) (selected_if_any known owner turned o told)) (sym (taken_leaves when item rest needed true is leaves) ∙ so_far.same_leaves refl needed leaves)
+          ∙ (ap (λ l. l ++ using (identifiers (item_leaves on item leaves)) (selected_in known owner turned (item_at on item) told)) (so_far.unread refl)
+          ∙ ap₂ (λ l o. old ++ using (identifiers l) (selected_if_any known owner turned o told)) (sym (taken_leaves when item rest needed true is leaves) ∙ so_far.same_leaves refl needed leaves)
           (sym (taken when item rest true is) ∙ so_far.same refl));
     }
     logs_on when item rest true false now new is logs so_far =
@@ -137,10 +138,10 @@ module _ (on : ℕ → Bool) (all : PlainBranches) where
           unread = λ h. absurd cc;
           same = λ h. absurd cc;
           same_leaves = λ h. absurd cc;
-          read = λ h on_path needed leaves told. ap (λ l. l ++ selecting (identifiers leaves) told) still ∙ so_far.read refl on_path needed leaves told;
+          read = λ h on_path needed leaves told. ap (λ l. l ++ using (identifiers leaves) told) still ∙ so_far.read refl on_path needed leaves told;
         }
 
-    pub logs_next : (list : List (Formula × Item)) (place : ℕ) (b : Formula × Item) (left here later : Bool) (now new : List PlainSelection) → place < length list → b ≡ get_or list place b
+    pub logs_next : (list : List (Formula × Item)) (place : ℕ) (b : Formula × Item) (left here later : Bool) (now new : List Use) → place < length list → b ≡ get_or list place b
         → here ≡ (path && (left && value on (condition_of b.0))) → later ≡ (left && not (value on (condition_of b.0)))
         → Logs here (item_leaves on (plain_item b.1)) (selected_in known owner turned (item_at on (plain_item b.1))) now new
         → LogsSoFar left (plain_branches (drop place list)) now → LogsSoFar later (plain_branches (drop (place + 1) list)) new
@@ -155,17 +156,17 @@ module _ (on : ℕ → Bool) (all : PlainBranches) where
     no_identifier true leaves = refl
     no_identifier false leaves = refl
 
-    logs_ended : (needed left : Bool) (now : List PlainSelection) → LogsSoFar left no_branch now
+    logs_ended : (needed left : Bool) (now : List Use) → LogsSoFar left no_branch now
         → Logs path (branch_leaves on needed all) (selected_if_any known owner turned (branch_at on all)) old now
     logs_ended needed true now so_far = record {
       here = λ h leaves told.
-          ap (λ l. l ++ selecting (identifiers leaves) told) (so_far.unread refl)
-          ∙ (ap (λ numbers. old ++ selecting numbers told) (sym (no_identifier needed leaves))
-          ∙ ap₂ (λ l o. old ++ selecting (identifiers l) (selected_if_any known owner turned o told)) (so_far.same_leaves refl needed leaves) (so_far.same refl));
+          ap (λ l. l ++ using (identifiers leaves) told) (so_far.unread refl)
+          ∙ (ap (λ numbers. old ++ using numbers told) (sym (no_identifier needed leaves))
+          ∙ ap₂ (λ l o. old ++ using (identifiers l) (selected_if_any known owner turned o told)) (so_far.same_leaves refl needed leaves) (so_far.same refl));
       elsewhere = so_far.off;
     }
     logs_ended needed false now so_far = record { here = λ h leaves told. so_far.read refl h needed leaves told; elsewhere = so_far.off }
 
-    pub logs_end : (list : List (Formula × Item)) (place : ℕ) (needed left : Bool) (now : List PlainSelection) → length list ≤ place → LogsSoFar left (plain_branches (drop place list)) now
+    pub logs_end : (list : List (Formula × Item)) (place : ℕ) (needed left : Bool) (now : List Use) → length list ≤ place → LogsSoFar left (plain_branches (drop place list)) now
         → Logs path (branch_leaves on needed all) (selected_if_any known owner turned (branch_at on all)) old now
     logs_end list place needed left now past so_far = logs_ended needed left now (subst (λ rest. LogsSoFar left (plain_branches rest) now) (drop_all place list past) so_far)

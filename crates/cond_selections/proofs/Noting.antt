@@ -15,33 +15,34 @@ use Rattle.operand_rules.specs.PlainOperandTypes.{reason}
 use Rattle.cond_selections.specs.declared.entries.Structure.{Structure}
 use Rattle.bindings.specs.Bindings.{is_name}
 use Rattle.selections.specs.Selections.{structure_named, with_identifier}
-use Rattle.cond_selections.specs.Selected.{structure_number, PlainSelection, identifiers, selecting}
+use Rattle.member_uses.specs.Uses.{Use, using}
+use Rattle.cond_selections.specs.Selected.{structure_number, identifiers}
 use Rattle.cond_selections.specs.Progress.{ShowsStructure, one_selection, Logs}
 
 -- of structs the first that is there is noted
 pub first_noted :
-    (left w : Bool) (number what : ℕ) (rest : List ℕ) (log new : List PlainSelection) → new ≡ log ++ under (left && w) (one_selection number (Some what))
-    → new ++ under (left && not w) (one_selection number (first rest)) ≡ log ++ under left (one_selection number (first (if w then what ∷ rest else rest)))
-first_noted true true number what rest log new is = append-nil new ∙ is
-first_noted true false number what rest log new is = ap (λ l. l ++ one_selection number (first rest)) (is ∙ append-nil log)
-first_noted false w number what rest log new is = append-nil new ∙ is
+    (left w : Bool) (name : PlainToken) (what : ℕ) (rest : List ℕ) (log new : List Use) → new ≡ log ++ under (left && w) (one_selection name (Some what))
+    → new ++ under (left && not w) (one_selection name (first rest)) ≡ log ++ under left (one_selection name (first (if w then what ∷ rest else rest)))
+first_noted true true name what rest log new is = append-nil new ∙ is
+first_noted true false name what rest log new is = ap (λ l. l ++ one_selection name (first rest)) (is ∙ append-nil log)
+first_noted false w name what rest log new is = append-nil new ∙ is
 
-module _ (on : ℕ → Bool) (number : ℕ) (xs : List (Guarded Structure)) where
+module _ (on : ℕ → Bool) (name : PlainToken) (xs : List (Guarded Structure)) where
   -- what is left to be noted from one place on
-  abbrev pub left_to_note : Bool → ℕ → List PlainSelection
-  left_to_note left i = under left (one_selection number (first (seen on (entries_of structure_number (drop i xs)))))
+  abbrev pub left_to_note : Bool → ℕ → List Use
+  left_to_note left i = under left (one_selection name (first (seen on (entries_of structure_number (drop i xs)))))
 
-  pub note_next : (i : ℕ) (x : Guarded Structure) (left here later : Bool) (log new : List PlainSelection) → i < length xs → x ≡ get_or xs i x
-      → here ≡ (left && value on (condition_of x.when)) → later ≡ (left && not (value on (condition_of x.when))) → new ≡ log ++ under here (one_selection number (Some x.what.number))
+  pub note_next : (i : ℕ) (x : Guarded Structure) (left here later : Bool) (log new : List Use) → i < length xs → x ≡ get_or xs i x
+      → here ≡ (left && value on (condition_of x.when)) → later ≡ (left && not (value on (condition_of x.when))) → new ≡ log ++ under here (one_selection name (Some x.what.number))
       → new ++ left_to_note later (i + 1) ≡ log ++ left_to_note left i
   note_next i x left here later log new within is here_is later_is new_is =
       ap (λ l. new ++ left_to_note l (i + 1)) later_is
-      ∙ (first_noted left (value on (condition_of x.when)) number x.what.number (seen on (entries_of structure_number (drop (i + 1) xs))) log new
-      (new_is ∙ ap (λ h. log ++ under h (one_selection number (Some x.what.number))) here_is)
-      ∙ ap (λ rest. log ++ under left (one_selection number (first (seen on (entries_of structure_number rest))))) (sym (item_of xs x i within is)))
+      ∙ (first_noted left (value on (condition_of x.when)) name x.what.number (seen on (entries_of structure_number (drop (i + 1) xs))) log new
+      (new_is ∙ ap (λ h. log ++ under h (one_selection name (Some x.what.number))) here_is)
+      ∙ ap (λ rest. log ++ under left (one_selection name (first (seen on (entries_of structure_number rest))))) (sym (item_of xs x i within is)))
 
-  pub noted_all : (i : ℕ) (left : Bool) (log : List PlainSelection) → length xs ≤ i → log ++ left_to_note left i ≡ log
-  noted_all i left log past = ap (λ rest. log ++ under left (one_selection number (first (seen on (entries_of structure_number rest))))) (drop_all i xs past) ∙ none_left left
+  pub noted_all : (i : ℕ) (left : Bool) (log : List Use) → length xs ≤ i → log ++ left_to_note left i ≡ log
+  noted_all i left log past = ap (λ rest. log ++ under left (one_selection name (first (seen on (entries_of structure_number rest))))) (drop_all i xs past) ∙ none_left left
     where
       none_left : (b : Bool) → log ++ under b [] ≡ log
       none_left true = append-nil log
@@ -73,74 +74,74 @@ where_refused true true h = refl
 where_refused true false h = absurd cc
 where_refused false b h = refl
 
-nothing_under : (t : Bool) → ◌≡◌ {A = List PlainSelection} [] (under t [])
+nothing_under : (t : Bool) → ◌≡◌ {A = List Use} [] (under t [])
 nothing_under true = refl
 nothing_under false = refl
 
 -- of what is shown the first that is there is the struct, and where there is none a refusal
-first_shown : (on : ℕ → Bool) (t : Bool) (number : ℕ) (owner : Option ℕ) (all : Outcomes Structure Refused) → ShowsStructure on owner all
-    → under (t && not (some_holds on (listed reason all.refused))) (one_selection number (first (seen on (alternatives structure_number all.fine)))) ≡ under t (one_selection number owner)
-first_shown on t number (Some n) all shows =
-    ap (λ b. under b (one_selection number (first (seen on (alternatives structure_number all.fine))))) (where_fine t (some_holds on (listed reason all.refused)) (none_refused on (listed reason all.refused) shows.shown.not_refused))
-    ∙ ap (λ o. under t (one_selection number o)) (seen_first on (Some n) (alternatives structure_number all.fine) (record { held = shows.shown.held refl; carry = shows.shown.carry }))
-first_shown on t number None all shows =
-    ap (λ b. under b (one_selection number (first (seen on (alternatives structure_number all.fine))))) (where_refused t (some_holds on (listed reason all.refused)) (some_refused on (listed reason all.refused) (shows.shown.held refl)))
+first_shown : (on : ℕ → Bool) (t : Bool) (name : PlainToken) (owner : Option ℕ) (all : Outcomes Structure Refused) → ShowsStructure on owner all
+    → under (t && not (some_holds on (listed reason all.refused))) (one_selection name (first (seen on (alternatives structure_number all.fine)))) ≡ under t (one_selection name owner)
+first_shown on t name (Some n) all shows =
+    ap (λ b. under b (one_selection name (first (seen on (alternatives structure_number all.fine))))) (where_fine t (some_holds on (listed reason all.refused)) (none_refused on (listed reason all.refused) shows.shown.not_refused))
+    ∙ ap (λ o. under t (one_selection name o)) (seen_first on (Some n) (alternatives structure_number all.fine) (record { held = shows.shown.held refl; carry = shows.shown.carry }))
+first_shown on t name None all shows =
+    ap (λ b. under b (one_selection name (first (seen on (alternatives structure_number all.fine))))) (where_refused t (some_holds on (listed reason all.refused)) (some_refused on (listed reason all.refused) (shows.shown.held refl)))
     ∙ nothing_under t
 
-pub shown_noted : (on : ℕ → Bool) (t elsewhere here : Bool) (number : ℕ) (owner : Option ℕ) (all : Outcomes Structure Refused) (old new : List PlainSelection) → ShowsStructure on owner all
-    → elsewhere ≡ some_holds on (listed reason all.refused) → here ≡ (t && not elsewhere) → new ≡ old ++ under here (one_selection number (first (seen on (alternatives structure_number all.fine))))
-    → new ≡ old ++ under t (one_selection number owner)
-shown_noted on t elsewhere here number owner all old new shows elsewhere_is here_is new_is =
+pub shown_noted : (on : ℕ → Bool) (t elsewhere here : Bool) (name : PlainToken) (owner : Option ℕ) (all : Outcomes Structure Refused) (old new : List Use) → ShowsStructure on owner all
+    → elsewhere ≡ some_holds on (listed reason all.refused) → here ≡ (t && not elsewhere) → new ≡ old ++ under here (one_selection name (first (seen on (alternatives structure_number all.fine))))
+    → new ≡ old ++ under t (one_selection name owner)
+shown_noted on t elsewhere here name owner all old new shows elsewhere_is here_is new_is =
     new_is
-    ∙ (ap (λ h. old ++ under h (one_selection number (first (seen on (alternatives structure_number all.fine))))) (here_is ∙ ap (λ r. t && not r) elsewhere_is)
-    ∙ ap (λ l. old ++ l) (first_shown on t number owner all shows))
+    ∙ (ap (λ h. old ++ under h (one_selection name (first (seen on (alternatives structure_number all.fine))))) (here_is ∙ ap (λ r. t && not r) elsewhere_is)
+    ∙ ap (λ l. old ++ l) (first_shown on t name owner all shows))
 
 -- ---- an identifier
 
 named_here :
-    (t : Bool) (number : ℕ) (owner : Option ℕ) (numbers : List ℕ) (rest : List (Option ℕ)) (old new : List PlainSelection) → new ≡ old ++ under t (one_selection number owner)
-    → new ++ selecting numbers rest ≡ old ++ selecting (number ∷ numbers) (structure_named owner t ∷ rest)
-named_here true number None numbers rest old new is = ap (λ l. l ++ selecting numbers rest) (is ∙ append-nil old)
-named_here false number None numbers rest old new is = ap (λ l. l ++ selecting numbers rest) (is ∙ append-nil old)
-named_here false number (Some n) numbers rest old new is = ap (λ l. l ++ selecting numbers rest) (is ∙ append-nil old)
-named_here true number (Some n) numbers rest old new is =
-    ap (λ l. l ++ selecting numbers rest) is ∙ append_assoc old (record { number = number; structure = n } ∷ []) (selecting numbers rest)
+    (t : Bool) (name : PlainToken) (owner : Option ℕ) (names : List PlainToken) (rest : List (Option ℕ)) (old new : List Use) → new ≡ old ++ under t (one_selection name owner)
+    → new ++ using names rest ≡ old ++ using (name ∷ names) (structure_named owner t ∷ rest)
+named_here true name None names rest old new is = ap (λ l. l ++ using names rest) (is ∙ append-nil old)
+named_here false name None names rest old new is = ap (λ l. l ++ using names rest) (is ∙ append-nil old)
+named_here false name (Some n) names rest old new is = ap (λ l. l ++ using names rest) (is ∙ append-nil old)
+named_here true name (Some n) names rest old new is =
+    ap (λ l. l ++ using names rest) is ∙ append_assoc old (record { token = name; structure = n } ∷ []) (using names rest)
 
 abbrev pub behind_token : ℕ → PlainToken → List Leaf → List Leaf
 behind_token number token behind = record { number = Some number; text = token } ∷ behind
 
 -- an identifier that is one
 pub name_noted :
-    (b t : Bool) (number : ℕ) (token : PlainToken) (owner : Option ℕ) (old new : List PlainSelection) → is_name token ≡ true → new ≡ old ++ under (b && t) (one_selection number owner)
+    (b t : Bool) (number : ℕ) (token : PlainToken) (owner : Option ℕ) (old new : List Use) → is_name token ≡ true → new ≡ old ++ under (b && t) (one_selection token owner)
     → Logs b (behind_token number token) (with_identifier token (structure_named owner t)) old new
 name_noted b t number token owner old new named is = record { here = here b is; elsewhere = elsewhere b is }
   where
     as_name : (behind : List Leaf) (rest : List (Option ℕ))
-        → selecting (number ∷ identifiers behind) (structure_named owner t ∷ rest) ≡ selecting (identifiers (behind_token number token behind)) (with_identifier token (structure_named owner t) rest)
-    as_name behind rest = ap (λ n. selecting (if n then number ∷ identifiers behind else identifiers behind) (if n then structure_named owner t ∷ rest else rest)) (sym named)
+        → using (token ∷ identifiers behind) (structure_named owner t ∷ rest) ≡ using (identifiers (behind_token number token behind)) (with_identifier token (structure_named owner t) rest)
+    as_name behind rest = ap (λ n. using (if n then token ∷ identifiers behind else identifiers behind) (if n then structure_named owner t ∷ rest else rest)) (sym named)
 
-    here : (b : Bool) → new ≡ old ++ under (b && t) (one_selection number owner) → IsTrue b → (behind : List Leaf) (rest : List (Option ℕ))
-        → new ++ selecting (identifiers behind) rest ≡ old ++ selecting (identifiers (behind_token number token behind)) (with_identifier token (structure_named owner t) rest)
-    here true is h behind rest = named_here t number owner (identifiers behind) rest old new is ∙ ap (λ l. old ++ l) (as_name behind rest)
+    here : (b : Bool) → new ≡ old ++ under (b && t) (one_selection token owner) → IsTrue b → (behind : List Leaf) (rest : List (Option ℕ))
+        → new ++ using (identifiers behind) rest ≡ old ++ using (identifiers (behind_token number token behind)) (with_identifier token (structure_named owner t) rest)
+    here true is h behind rest = named_here t token owner (identifiers behind) rest old new is ∙ ap (λ l. old ++ l) (as_name behind rest)
     here false is h behind rest = absurd cc
 
-    elsewhere : (b : Bool) → new ≡ old ++ under (b && t) (one_selection number owner) → b ≡ false → new ≡ old
+    elsewhere : (b : Bool) → new ≡ old ++ under (b && t) (one_selection token owner) → b ≡ false → new ≡ old
     elsewhere true is h = absurd cc
     elsewhere false is h = is ∙ append-nil old
 
 -- a token that is none
 pub none_noted :
-    (b : Bool) (number : ℕ) (token : PlainToken) (o : Option ℕ) (old : List PlainSelection) → is_name token ≡ false
+    (b : Bool) (number : ℕ) (token : PlainToken) (o : Option ℕ) (old : List Use) → is_name token ≡ false
     → Logs b (behind_token number token) (with_identifier token o) old old
 none_noted b number token o old unnamed = record {
-  here = λ h behind rest. ap (λ n. old ++ selecting (if n then number ∷ identifiers behind else identifiers behind) (if n then o ∷ rest else rest)) (sym unnamed);
+  here = λ h behind rest. ap (λ n. old ++ using (if n then token ∷ identifiers behind else identifiers behind) (if n then o ∷ rest else rest)) (sym unnamed);
   elsewhere = λ h. refl;
 }
 
 -- ---- with nothing behind
 
 pub alone :
-    (b : Bool) (leaves : List Leaf → List Leaf) (told : List (Option ℕ) → List (Option ℕ)) (old new : List PlainSelection) → Logs b leaves told old new
-    → new ≡ old ++ under b (selecting (identifiers (leaves [])) (told []))
+    (b : Bool) (leaves : List Leaf → List Leaf) (told : List (Option ℕ) → List (Option ℕ)) (old new : List Use) → Logs b leaves told old new
+    → new ≡ old ++ under b (using (identifiers (leaves [])) (told []))
 alone true leaves told old new logs = sym (append-nil new) ∙ logs.here refl [] []
 alone false leaves told old new logs = logs.elsewhere refl ∙ sym (append-nil old)

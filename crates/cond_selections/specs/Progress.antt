@@ -1,5 +1,6 @@
 -- How selections are noted one behind the other.
 use Rattle.std.specs.Prelude.{◌≡◌, ℕ, Bool, true, false, List, [], ◌∷◌, ◌++◌, Option, Some, None, IsTrue}
+use Rattle.c_text.specs.Token.{PlainToken}
 use Rattle.c_tree.specs.declared.kinds.Kind.{Kind}
 use Rattle.c_tree.specs.declared.kinds.Kind.TheVariants as k
 use Rattle.c_tree.specs.Trees.{PlainTree}
@@ -11,7 +12,8 @@ use Rattle.operand_rules.specs.PlainOperandTypes.{reason}
 use Rattle.expression_types.specs.Known.{Known}
 use Rattle.selections.specs.Selections.{turns, selected_in}
 use Rattle.cond_selections.specs.declared.entries.Structure.{Structure}
-use Rattle.cond_selections.specs.Selected.{structure_number, PlainSelection, identifiers, selecting}
+use Rattle.member_uses.specs.Uses.{Use, using}
+use Rattle.cond_selections.specs.Selected.{structure_number, identifiers}
 
 -- ---- structs
 
@@ -30,15 +32,15 @@ is_selection kind = false
 
 -- ---- the log
 
--- what an identifier with this number adds
-abbrev pub one_selection : ℕ → Option ℕ → List PlainSelection
-one_selection number None = []
-one_selection number (Some structure) = record { number = number; structure = structure } ∷ []
+-- what an identifier adds
+abbrev pub one_selection : PlainToken → Option ℕ → List Use
+one_selection name None = []
+one_selection name (Some structure) = record { token = name; structure = structure } ∷ []
 
 -- Where b, the log goes on by what the identifiers among these leaves select, whatever stands behind; elsewhere it stays.
-pub record Logs (b : Bool) (leaves : List Leaf → List Leaf) (told : List (Option ℕ) → List (Option ℕ)) (old new : List PlainSelection) : Type 0 where
+pub record Logs (b : Bool) (leaves : List Leaf → List Leaf) (told : List (Option ℕ) → List (Option ℕ)) (old new : List Use) : Type 0 where
   pub here : IsTrue b → (behind : List Leaf) (rest : List (Option ℕ))
-      → new ++ selecting (identifiers behind) rest ≡ old ++ selecting (identifiers (leaves behind)) (told rest)
+      → new ++ using (identifiers behind) rest ≡ old ++ using (identifiers (leaves behind)) (told rest)
   pub elsewhere : b ≡ false → new ≡ old
 
 -- a part, if there is one

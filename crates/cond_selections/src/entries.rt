@@ -1,7 +1,9 @@
 //! What is noted of selections.
 ghost use Rattle.std.specs.Prelude.{◌≡◌, ℕ};
-ghost use Rattle.cond_selections.specs.Selected.{PlainSelection, structure_number, plain_selection};
+ghost use Rattle.member_uses.specs.Uses.{Use};
+ghost use Rattle.cond_selections.specs.Selected.{structure_number, plain_selection};
 
+use c_text::Token;
 use cond_formula::NoMemory;
 use conditional::Plain;
 use std::alloc::Global;
@@ -27,23 +29,27 @@ impl Plain for Structure {
 }
 
 /// An identifier that names a member of a struct.
-#[derive(Clone, Copy, Debug)]
+#[derive(Debug, Drop)]
 pub struct Selection {
-    /// The number of the identifier among the tokens of the unit's stream.
-    pub number: u32,
+    /// The identifier, as it stands in the tree.
+    pub name: Token,
     pub structure: u32,
 }
 
 impl Plain for Selection {
-    ghost Form = { PlainSelection };
+    ghost Form = { Use };
 
     ghost form = { plain_selection };
 
     fn is_same(&self, other: &Selection) -> bool {
-        self.number == other.number && self.structure == other.structure
+        self.structure == other.structure && Plain::is_same(&self.name, &other.name)
     }
 
-    fn try_clone(&self, _alloc: Global) -> Result<Selection, NoMemory> {
-        Ok(*self)
+    fn try_clone(&self, alloc: Global) -> Result<Selection, NoMemory> {
+        let name = self.name.try_clone(alloc)?;
+        Ok(Selection {
+            name,
+            structure: self.structure,
+        })
     }
 }

@@ -21,7 +21,7 @@ use std::alloc::Global;
 
 /// One selection more, where the condition is true.
 fn push(when: Formula, selection: Selection, log: &mut CondList<Selection>) -> Result<(), NoMemory>
-    ensures { IfOk result (λ _. (on : ℕ → Bool) → seen on (listed plain_selection log.new) ≡ seen on (listed plain_selection log.old) ++ under (value on (condition_of when)) (one_selection selection.number (Some selection.structure))) }
+    ensures { IfOk result (λ _. (on : ℕ → Bool) → seen on (listed plain_selection log.new) ≡ seen on (listed plain_selection log.old) ++ under (value on (condition_of when)) (one_selection (plain_token selection.name) (Some selection.structure))) }
 {
     if is_never(&when) {
         return Ok(());
@@ -35,17 +35,17 @@ fn push_first(
     alloc: Global,
     when: &Formula,
     structures: &[Guarded<Structure>],
-    number: u32,
+    name: &Token,
     log: &mut CondList<Selection>,
 ) -> Result<(), NoMemory>
     ensures { IfOk result (λ _. (on : ℕ → Bool) → seen on (listed plain_selection log.new)
-        ≡ seen on (listed plain_selection log.old) ++ under (value on (condition_of when.now)) (one_selection number (first (seen on (entries_of structure_number structures.now))))) }
+        ≡ seen on (listed plain_selection log.old) ++ under (value on (condition_of when.now)) (one_selection (plain_token name.now) (first (seen on (entries_of structure_number structures.now))))) }
 {
     let mut left = when.try_clone(alloc)?;
     for structure in structures {
         let here = both_of(alloc, &left, &structure.when)?;
         let selection = Selection {
-            number,
+            name: name.try_clone(alloc)?,
             structure: structure.what.number,
         };
         push(here, selection, log)?;
@@ -59,15 +59,15 @@ fn push_selection(
     alloc: Global,
     when: Formula,
     structures: &Structures,
-    number: u32,
+    name: &Token,
     log: &mut CondList<Selection>,
 ) -> Result<(), NoMemory>
     ensures { IfOk result (λ _. (on : ℕ → Bool) (owner : Option ℕ) → ShowsStructure on owner structures.now → seen on (listed plain_selection log.new)
-        ≡ seen on (listed plain_selection log.old) ++ under (value on (condition_of when)) (one_selection number owner)) }
+        ≡ seen on (listed plain_selection log.old) ++ under (value on (condition_of when)) (one_selection (plain_token name.now) owner)) }
 {
     let refused = when_some_hold(alloc, &structures.refused.entries)?;
     let here = without(alloc, when, &refused)?;
-    push_first(alloc, &here, &structures.fine.alternatives, number, log)?;
+    push_first(alloc, &here, &structures.fine.alternatives, name, log)?;
     Ok(())
 }
 
@@ -83,11 +83,10 @@ pub(crate) fn push_token(
     when: &Formula,
     turned: &Formula,
     structures: &Structures,
-    number: u32,
     token: &Token,
     log: &mut CondList<Selection>,
 ) -> Result<(), NoMemory>
-    ensures { IfOk result (λ _. (on : ℕ → Bool) (owner : Option ℕ) → ShowsStructure on owner structures.now
+    ensures { IfOk result (λ _. (on : ℕ → Bool) (owner : Option ℕ) (number : ℕ) → ShowsStructure on owner structures.now
         → Logs (value on (condition_of when.now)) (λ behind. record { number = Some number; text = plain_token token.now } ∷ behind)
         (with_identifier (plain_token token.now) (structure_named owner (value on (condition_of turned.now))))
         (seen on (listed plain_selection log.old)) (seen on (listed plain_selection log.new))) }
@@ -96,6 +95,6 @@ pub(crate) fn push_token(
         return Ok(());
     }
     let here = both_of(alloc, when, turned)?;
-    push_selection(alloc, here, structures, number, log)?;
+    push_selection(alloc, here, structures, token, log)?;
     Ok(())
 }

@@ -9,7 +9,7 @@ ghost use Rattle.choice_trees.specs.Leaves.{item_leaves, branch_leaves, parts_le
 ghost use Rattle.conditional.specs.Entries.{seen, under, listed};
 ghost use Rattle.selections.specs.Selections as spec;
 ghost use Rattle.selections.specs.Selections.{selected_in, selected_in_parts};
-ghost use Rattle.cond_selections.specs.Selected.{plain_selection, selections_at};
+ghost use Rattle.cond_selections.specs.Selected.{plain_selection, selections_in};
 ghost use Rattle.cond_selections.specs.Progress.{ShowsStructure, Logs, turns_if_any, selected_if_any};
 
 use crate::entries::Selection;
@@ -72,8 +72,8 @@ fn push_part<K: Knowledge, O: Oracle>(
         (seen (has c) (listed plain_selection log.old)) (seen (has c) (listed plain_selection log.new))) }
 {
     match item {
-        Item::Leaf(number, token) => {
-            push_token(alloc, when, turned, structures, *number, token, log)?;
+        Item::Leaf(_, token) => {
+            push_token(alloc, when, turned, structures, token, log)?;
         }
         Item::Node(kind, parts) => {
             push_node(alloc, known, oracle, when, *kind, parts, log)?;
@@ -172,13 +172,7 @@ pub fn push_selections<K: Knowledge, O: Oracle>(
     ensures kept { O.admits oracle.new ≡ O.admits oracle.old }
     ensures selects { OnOk result ((c : List Bool) → IsTrue (value (has c) (K.admits known.now)) → IsTrue (value (has c) (O.admits oracle.old))
         → seen (has c) (listed plain_selection log.new)
-        ≡ seen (has c) (listed plain_selection log.old) ++ under (value (has c) (condition_of when.now)) (selections_at (has c) (K.known known.now c) (plain_item item.now))) }
-
-    // So whatever stands behind the expression.
-    ensures logs { OnOk result ((c : List Bool) → IsTrue (value (has c) (K.admits known.now)) → IsTrue (value (has c) (O.admits oracle.old))
-        → Logs (value (has c) (condition_of when.now)) (item_leaves (has c) (plain_item item.now))
-        (selected_in (K.known known.now c) None false (item_at (has c) (plain_item item.now)))
-        (seen (has c) (listed plain_selection log.old)) (seen (has c) (listed plain_selection log.new))) }
+        ≡ seen (has c) (listed plain_selection log.old) ++ under (value (has c) (condition_of when.now)) (selections_in (K.known known.now c) (item_at (has c) (plain_item item.now)))) }
 {
     let structures = no_structure(alloc)?;
     push_part(

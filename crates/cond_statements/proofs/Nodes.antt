@@ -70,12 +70,12 @@ quiet_scope result in_loop kind q turned first (more (node inner parts) rest) re
 -- ---- declarations
 
 -- what a declaration among the parts of a node is to what is visible
-record Declaring (around : Kind) (first : Bool) : Type 0 where
-  before : (by : ℕ → ℕ) (t : Tables) (scope : Scope) → Stand around first by t scope → FollowsInBlockBy by t (scope_in around scope)
-  behind : (by : ℕ → ℕ) (t : Tables) (scope : Scope) → FollowsInBlockBy by t scope → Stand around false by t scope
-  loud : is_quiet around ≡ false
+pub record Declaring (around : Kind) (first : Bool) : Type 0 where
+  pub before : (by : ℕ → ℕ) (t : Tables) (scope : Scope) → Stand around first by t scope → FollowsInBlockBy by t (scope_in around scope)
+  pub behind : (by : ℕ → ℕ) (t : Tables) (scope : Scope) → FollowsInBlockBy by t scope → Stand around false by t scope
+  pub loud : is_quiet around ≡ false
 
-declaring : (around : Kind) (first : Bool) → may_declare around first ≡ true → Declaring around first
+pub declaring : (around : Kind) (first : Bool) → may_declare around first ≡ true → Declaring around first
 declaring k.Items first h = record { before = λ by t scope stand. stand; behind = λ by t scope f. f; loud = refl }
 declaring k.For true h = record { before = λ by t scope stand. stand; behind = λ by t scope f. followed by t scope f; loud = refl }
 declaring k.For false h = absurd (false≢true h)
@@ -92,7 +92,7 @@ declared_arrives around by old new found (fine locals bindings) s f behind loud 
 declared_arrives around by old new found (refused kind token) s f behind loud is = record { refused_is = is; stands = λ e. absurd (false≢true (sym e)); same = λ q e. absurd (false≢true (sym e)) }
 declared_arrives around by old new found broken s f behind loud is = record { refused_is = is; stands = λ e. absurd (false≢true (sym e)); same = λ q e. absurd (false≢true (sym e)) }
 
-only_block : (around : Kind) → has_items around ≡ true → around ≡ k.Block
+pub only_block : (around : Kind) → has_items around ≡ true → around ≡ k.Block
 only_block k.Block h = refl
 only_block _ h = absurd (false≢true h)
 

@@ -13,3 +13,4 @@ mod walks;
 
 pub use bodies::read_body;
 pub use declarations::Declarations;
+pub use roles::{Role, role_of};

@@ -21,7 +21,8 @@ pub enum Role {
     Expression,
 }
 
-pub(crate) fn role_of(kind: Kind) -> Role
+/// How a node of this kind is read.
+pub fn role_of(kind: Kind) -> Role
     ensures { result ≡ spec.role_of kind }
 {
     match kind {

@@ -28,8 +28,8 @@ pub push_part-returns-in_ok-push_token-in-Leaf-clause-logs : goal.push_part-retu
 push_part-returns-in_ok-push_token-in-Leaf-clause-logs g t c = λ n owner right admitted shows.
     subst (λ item. Logs (value (has n) (condition_of c.args.when.now)) (item_leaves (has n) item) (selected_in (g.K.Knowledge.known c.args.known.now n) owner (value (has n) (condition_of c.args.turned.now)) (item_at (has n) item))
     (seen (has n) (listed plain_selection c.args.log.now)) (seen (has n) (listed plain_selection c.push_token.new.log)))
-    (sym (ap plain_item c.in-Leaf.is ∙ plain_item-Leaf c.in-Leaf.number c.in-Leaf.token))
-    (c.in_ok-push_token-in-Leaf.ensures (has n) owner shows)
+    (sym (ap plain_item c.in-Leaf.is ∙ plain_item-Leaf c.in-Leaf.field-0 c.in-Leaf.token))
+    (c.in_ok-push_token-in-Leaf.ensures (has n) owner c.in-Leaf.field-0 shows)
 
 pub push_part-returns-in_ok-push_node-in-Node-clause-logs : goal.push_part-returns-in_ok-push_node-in-Node-clause-logs
 push_part-returns-in_ok-push_node-in-Node-clause-logs g t c = λ n owner right admitted shows.

@@ -1,0 +1,12 @@
+pub mod Pieces
+pub mod Composing
+pub mod NodeUses
+pub mod Nodes
+pub mod Choices
+pub mod Noting
+pub mod Declarations
+pub mod Listing
+pub mod Words
+pub mod Answering
+pub mod Blocks
+pub mod WholeBodies

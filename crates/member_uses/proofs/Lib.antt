@@ -1,0 +1,10 @@
+pub mod Using
+pub mod Parts
+pub mod Counts
+pub mod Words
+pub mod Judged
+pub mod Declarators
+pub mod Turns
+pub mod Locals
+pub mod Steps
+pub mod Statements

@@ -1,0 +1,4 @@
+pub mod Uses
+pub mod Walks
+pub mod Declarations
+pub mod Laws

@@ -1,0 +1,5 @@
+pub mod Parameters
+pub mod FileNames
+pub mod Structs
+pub mod Functions
+pub mod Items
