@@ -23,7 +23,7 @@ use Rattle.declaration_readings.specs.Laws.{NamesAreRead}
 use Rattle.selections.specs.Laws.{HasNames}
 use Rattle.member_uses.specs.Uses.{Use}
 use Rattle.member_uses.specs.Declarations.{IsDeclarator, uses_in_declared, uses_in_turn, uses_initially}
-use Rattle.unit_member_uses.specs.Laws.{NamesUseInitialisers, NamesKeepNames}
+use Rattle.unit_member_uses.specs.Laws.{NamesUseInitialisers, ScopesKeepNames}
 use Rattle.type_tables.specs.Tables.{known_in}
 use Rattle.type_tables.specs.declared.entries.DeclaredType.{DeclaredType}
 use Rattle.type_tables.specs.Follows.{IsThere}
@@ -93,7 +93,7 @@ unrefused (fine unit bindings) g e = record { unit = unit; bindings = bindings; 
 unrefused (refused kind token) g e = absurd (false≢true (sym e))
 unrefused broken g e = absurd (false≢true (sym e))
 
-module _ (law : NamesUseInitialisers) (keep : NamesKeepNames) (by : ℕ → ℕ) (on : ℕ → Bool) (base : Outcomes DeclaredType Refused) (globals : ℕ) (storage : Storage) (rest : PlainTrees) (role : Role)
+module _ (law : NamesUseInitialisers) (keep : ScopesKeepNames) (by : ℕ → ℕ) (on : ℕ → Bool) (base : Outcomes DeclaredType Refused) (globals : ℕ) (storage : Storage) (rest : PlainTrees) (role : Role)
     (unit : UnitState) (ty : PlainType) (there : IsThere unit.scope.structs ty) (shown : ShowsType on (judgements.fine (renumbered by ty)) base) (whole : Going UnitState) (total : List Use) where
   abbrev here : UnitState → Going UnitState
   here s = record { state = s; refused = false }
@@ -121,7 +121,7 @@ module _ (law : NamesUseInitialisers) (keep : NamesKeepNames) (by : ℕ → ℕ)
       record {
         state = good.unit;
         is_unit = goes.is_unit;
-        names = keep globals storage ty rest role d at.ready.0 s at.names good.unit good.bindings good.is;
+        names = keep.declarators globals storage ty rest role d at.ready.0 s at.names good.unit good.bindings good.is;
         structs = goes.structs ∙ at.structs;
         rest_is = ap (λ (g : Going UnitState). after_each (goes_on (next_name globals storage ty rest)) g others) (sym is_step) ∙ at.rest_is;
         ready = at.ready.1;
@@ -158,7 +158,7 @@ nothing_changed a = record { unit = record { stays = λ by unit u. u }; uses = r
 pub stays_again : (a b c : Noted) → Stays a b → Stays b c → Stays a c
 stays_again a b c x y = record { unit = record { stays = λ by unit u. y.unit.stays by unit (x.unit.stays by unit u) }; uses = y.uses ∙ x.uses }
 
-module _ (law : NamesUseInitialisers) (keep : NamesKeepNames) (read : NamesAreRead) (on : ℕ → Bool) (base : Outcomes DeclaredType Refused) (globals : ℕ) (storage : Storage) (rest : PlainTrees) (role : Role)
+module _ (law : NamesUseInitialisers) (keep : ScopesKeepNames) (read : NamesAreRead) (on : ℕ → Bool) (base : Outcomes DeclaredType Refused) (globals : ℕ) (storage : Storage) (rest : PlainTrees) (role : Role)
     (list : PlainTrees) (path : Bool) (old : Noted) where
   abbrev first : UnitState → Going UnitState
   first unit = record { state = unit; refused = false }

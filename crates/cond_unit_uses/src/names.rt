@@ -22,7 +22,7 @@ use conditional_steps::both_of;
 use declaration_readings::names_are_read;
 use declarator_lists::{ListedDeclarator, listed_declarators};
 use std::alloc::Global;
-use unit_member_uses::{names_keep_names, names_use_initialisers};
+use unit_member_uses::{names_use_initialisers, scopes_keep_names};
 
 /// The uses of a declarator of a list, where the condition is true and it is there; its name is visible in its first value.
 fn note_listed<B: Behind, O: Oracle>(
@@ -72,7 +72,7 @@ fn note_each<B: Behind, O: Oracle>(
 {
     names_are_read();
     names_use_initialisers();
-    names_keep_names();
+    scopes_keep_names();
     for listed in all {
         note_listed(alloc, oracle, unit, when, declaration, listed, log)?;
     }

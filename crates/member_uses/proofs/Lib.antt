@@ -8,3 +8,4 @@ pub mod Turns
 pub mod Locals
 pub mod Steps
 pub mod Statements
+pub mod Lists

@@ -1,9 +1,10 @@
 -- Judged parts, one after the other: each binds as many identifiers as it has, so their uses follow one another too.
-use Rattle.std.proofs.Common.{◌≡◌, ℕ, Bool, true, false, List, [], ◌∷◌, ◌++◌, refl, sym, ap, subst, ◌∙◌, length, append_assoc, append-nil}
+use Rattle.std.proofs.Common.{◌≡◌, ℕ, false, List, [], ◌∷◌, ◌++◌, refl, sym, ap, subst, ◌∙◌, length, append_assoc, append-nil}
 use Rattle.std.specs.Prelude.{filter, Option, Some, None, if◌then◌else◌}
+use Rattle.std.proofs.lemmas.List.Elements.{filter-append}
 use Rattle.c_text.specs.Token.{PlainToken}
 use Rattle.c_tree.specs.declared.kinds.Kind.{Kind}
-use Rattle.c_tree.specs.Trees.{PlainTree, PlainTrees, leaf, node, none, more, written, all_written}
+use Rattle.c_tree.specs.Trees.{PlainTree, PlainTrees, leaf, node, none, more, written, all_written, spelled}
 use Rattle.core_meaning.specs.Checking.{Binding, Checked, fine, refused, broken, with_bindings, ◌>>=◌, give}
 use Rattle.bindings.specs.Bindings.{is_name}
 use Rattle.selections.proofs.Judgings.{IsQuiet}
@@ -31,23 +32,27 @@ both_as_many (x ∷ xs) zs (y ∷ ys) ws h g = both_as_many xs zs ys ws h g
 
 -- ---- the identifiers of parts
 
-one_name : (b : Bool) (token : PlainToken) (behind : List PlainToken) → (if b then token ∷ behind else behind) ≡ (if b then token ∷ [] else []) ++ behind
-one_name true token behind = refl
-one_name false token behind = refl
-
 mutual
-  names_written : (tree : PlainTree) (behind : List PlainToken) → filter is_name (written tree behind) ≡ names_in tree ++ filter is_name behind
-  names_written (leaf token) behind = one_name (is_name token) token (filter is_name behind)
-  names_written (node kind parts) behind = all_names parts behind ∙ ap (λ l. l ++ filter is_name behind) (sym (all_names parts [] ∙ append-nil (names_among parts)))
+  -- what a tree spells stands before what is behind it
+  pub spelled_first : (tree : PlainTree) (behind : List PlainToken) → written tree behind ≡ spelled tree ++ behind
+  spelled_first (leaf token) behind = refl
+  spelled_first (node kind parts) behind = all_spelled parts behind
 
-  all_names : (parts : PlainTrees) (behind : List PlainToken) → filter is_name (all_written parts behind) ≡ names_among parts ++ filter is_name behind
-  all_names none behind = refl
-  all_names (more tree rest) behind =
-      names_written tree (all_written rest behind)
-      ∙ (ap (λ l. names_in tree ++ l) (all_names rest behind) ∙ sym (append_assoc (names_in tree) (names_among rest) (filter is_name behind)))
+  all_spelled : (parts : PlainTrees) (behind : List PlainToken) → all_written parts behind ≡ all_written parts [] ++ behind
+  all_spelled none behind = refl
+  all_spelled (more tree rest) behind =
+      spelled_first tree (all_written rest behind)
+      ∙ (ap (λ l. spelled tree ++ l) (all_spelled rest behind)
+      ∙ (sym (append_assoc (spelled tree) (all_written rest []) behind) ∙ ap (λ l. l ++ behind) (sym (spelled_first tree (all_written rest [])))))
+
+all_names : (parts : PlainTrees) → filter is_name (all_written parts []) ≡ names_among parts
+all_names none = refl
+all_names (more tree rest) =
+    ap (filter is_name) (spelled_first tree (all_written rest []))
+    ∙ (filter-append is_name (spelled tree) (all_written rest []) ∙ ap (λ l. names_in tree ++ l) (all_names rest))
 
 pub names_of_node : (kind : Kind) (parts : PlainTrees) → names_in (node kind parts) ≡ names_among parts
-names_of_node kind parts = all_names parts [] ∙ append-nil (names_among parts)
+names_of_node kind parts = all_names parts
 
 -- a word is no identifier
 pub word_names : (token : PlainToken) (rest : PlainTrees) → is_name token ≡ false → names_among (more (leaf token) rest) ≡ names_among rest

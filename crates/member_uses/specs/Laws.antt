@@ -1,11 +1,12 @@
 -- That members are used so; each law is the contract of a function of this crate.
 use Rattle.std.specs.Prelude.{◌≡◌, ℕ, false, List, [], ◌∷◌, Option}
+use Rattle.std.specs.List.{AllByRecursion}
 use Rattle.c_text.specs.Token.{PlainToken}
 use Rattle.c_types.specs.Types.{PlainType}
 use Rattle.c_tree.specs.declared.kinds.Kind.TheVariants as k
 use Rattle.c_tree.specs.declared.terminals.Terminal.TheVariants as t
 use Rattle.c_tree.specs.Trees.{PlainTree, PlainTrees, node, spelled, all_written}
-use Rattle.c_tree.specs.Grammar.{expression, initialiser, block, specifiers, declarators, local}
+use Rattle.c_tree.specs.Grammar.{Role, expression, initialiser, block, specifiers, declarators, local}
 use Rattle.tree_derivations.specs.Derivations.{Derivation, IsWord}
 use Rattle.core_meaning.specs.Checking.{Binding, fine}
 use Rattle.core_meaning.specs.Entities.{Scope}
@@ -72,3 +73,9 @@ abbrev pub LocalsKeepNames : Type 0
 LocalsKeepNames =
     (ty : PlainType) (d : Declared) → IsDeclarator local d → (s : Slots) → HasNames s.scope
     → (now : Slots) (js : List Binding) → next_local ty s d ≡ fine now js → HasNames now.scope
+
+-- The declarators of a list of the grammar are of the grammar, and so are their initialisers.
+abbrev pub DeclaratorsAreDerived : Type 0
+DeclaratorsAreDerived =
+    (role : Role) (list : PlainTrees) → Derivation (declarators role) (node k.Declarators list) → ArePieces (all_written list [])
+    → AllByRecursion (IsDeclarator role) (declared_in (trees_of list))

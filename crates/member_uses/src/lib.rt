@@ -2,7 +2,7 @@
 //! (ISO/IEC 9899:2011, 6.5.2.3), the contracts of functions that compute nothing.
 #![tactic(auto)]
 
-ghost use Rattle.member_uses.specs.Laws.{BodiesAreUsed, ExpressionsUseSelections, InitialisersUseSelections, LocalsAreUsed, LocalsKeepNames, LocalsUseInitialisers};
+ghost use Rattle.member_uses.specs.Laws.{BodiesAreUsed, DeclaratorsAreDerived, ExpressionsUseSelections, InitialisersUseSelections, LocalsAreUsed, LocalsKeepNames, LocalsUseInitialisers};
 
 use cond_sizes::counts_need_no_names;
 use expression_types::expressions_have_types;
@@ -58,3 +58,8 @@ pub fn locals_keep_names()
     expressions_have_types();
     counts_need_no_names();
 }
+
+/// The declarators of a list of the grammar are of the grammar, and so are their initialisers.
+pub fn declarators_are_derived()
+    ensures { DeclaratorsAreDerived }
+{}

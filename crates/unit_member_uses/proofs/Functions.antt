@@ -59,7 +59,7 @@ numbered_part by n T broken names h = tt
 
 -- ---- the scope of a block
 
-parameters_keep : (scope : Scope) → HasNames scope → (slot : ℕ) (ps : List Parameter) → HasNames (with_parameters scope slot ps)
+pub parameters_keep : (scope : Scope) → HasNames scope → (slot : ℕ) (ps : List Parameter) → HasNames (with_parameters scope slot ps)
 parameters_keep scope names slot [] = names
 parameters_keep scope names slot (p ∷ rest) = parameters_keep (with_parameter scope slot p.name p.ty) (names_with scope names slot p.name p.ty) (slot + 1) rest
 

@@ -77,6 +77,10 @@ two_names : (one other : Kind) (parts others : PlainTrees) (last : PlainToken) �
 two_names one other parts others last y =
     ap₂ (λ a b. a ++ b) (names_of_node one parts) (ap₂ (λ a b. a ++ b) (names_of_node other others) (word_names last none (no_name (t.Semicolon ∷ []) last refl y)) ∙ append-nil (names_among others))
 
+-- the parts of a function's definition
+abbrev pub inner_parts : PlainTrees → PlainTrees → PlainTree → PlainTrees
+inner_parts words parts body = more (node k.Specifiers words) (more (node k.Declarators (more (node k.FunctionDeclarator parts) none)) (more body none))
+
 module _ (by : ℕ → ℕ) (kept : TypesAreKept) (typed : ExpressionsHaveTypes) (sizes : CountsNeedNoNames) (globals : ℕ) where
   -- ---- declarations
 
@@ -187,9 +191,6 @@ module _ (by : ℕ → ℕ) (kept : TypesAreKept) (typed : ExpressionsHaveTypes)
   pub declaration_derived : {words list : PlainTrees} {last : PlainToken} → Derivation file_item (node k.Declaration (declaration words list last)) → AllHold (declaration words list last) → (unit : UnitState) → HasNames unit.scope
       → (behind : PlainTrees) → Part by (IsDeclaration unit words list behind) (judged_item globals unit (node k.Declaration (declaration words list last)) behind) (names_in (node k.Declaration (declaration words list last)))
   declaration_derived (made_of _ b a s) = declaration_row s
-
-  abbrev inner_parts : PlainTrees → PlainTrees → PlainTree → PlainTrees
-  inner_parts words parts body = more (node k.Specifiers words) (more (node k.Declarators (more (node k.FunctionDeclarator parts) none)) (more body none))
 
   definition_row : {words parts : PlainTrees} {body : PlainTree} → Shaped (grammar.in_row (grammar.row k.Function)) (inner_parts words parts body) → AllHold (inner_parts words parts body) → (unit : UnitState) → HasNames unit.scope
       → (behind : PlainTrees) → Part by (IsDefinition unit words parts body) (judged_item globals unit (definition words parts body) behind) (names_in (definition words parts body))

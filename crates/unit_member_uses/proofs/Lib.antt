@@ -3,3 +3,4 @@ pub mod FileNames
 pub mod Structs
 pub mod Functions
 pub mod Items
+pub mod Names

@@ -1,5 +1,5 @@
 -- That units use members so; each law is the contract of a function of this crate.
-use Rattle.std.specs.Prelude.{◌≡◌, ℕ, true, false, List, [], Some}
+use Rattle.std.specs.Prelude.{◌≡◌, ℕ, Bool, true, false, List, [], Some}
 use Rattle.c_text.specs.Token.{PlainToken}
 use Rattle.c_types.specs.Types.{PlainType}
 use Rattle.c_tree.specs.declared.kinds.Kind.TheVariants as k
@@ -7,7 +7,7 @@ use Rattle.c_tree.specs.Trees.{PlainTree, PlainTrees, node, spelled}
 use Rattle.c_tree.specs.Grammar.{Role, file_item}
 use Rattle.tree_derivations.specs.Derivations.{Derivation}
 use Rattle.core_meaning.specs.Checking.{Binding, fine}
-use Rattle.core_meaning.specs.Entities.{Struct, Numbers, function, Scope}
+use Rattle.core_meaning.specs.Entities.{Struct, Numbers, Sort, function, Scope}
 use Rattle.core_meaning.specs.Declarations.{name_in, Based, based, starred, Parameter}
 use Rattle.core_meaning.specs.UnitNames.{UnitState, Storage, storage_of, with_name, with_scope, signature_of, new_function, judged_item, unit_start, judged_unit}
 use Rattle.declarator_lists.specs.Lists.{Declared, declared_in, trees_of}
@@ -51,12 +51,6 @@ NamesUseInitialisers =
     → (unit : UnitState) → HasNames unit.scope → (next : UnitState) (js : List Binding) → next_name globals storage ty behind unit d ≡ fine next js
     → (known : Known) → IsKnown by next.scope known → uses_in_declared by (next_name globals storage ty behind) unit d ≡ uses_initially known d.initialiser
 
--- Behind it names of file scope are spelt as names still.
-abbrev pub NamesKeepNames : Type 0
-NamesKeepNames =
-    (globals : ℕ) (storage : Storage) (ty : PlainType) (behind : PlainTrees) (role : Role) (d : Declared) → IsDeclarator role d
-    → (unit : UnitState) → HasNames unit.scope → (next : UnitState) (js : List Binding) → next_name globals storage ty behind unit d ≡ fine next js → HasNames next.scope
-
 -- The definition of a function uses what its block uses, in which its name and its parameters are visible.
 abbrev pub FunctionsAreUsed : Type 0
 FunctionsAreUsed =
@@ -74,3 +68,17 @@ StructsUseNothing =
     (by : ℕ → ℕ) (globals : ℕ) (unit : UnitState) → HasNames unit.scope → (tree : PlainTree) → Derivation file_item tree → is_struct tree ≡ true → ArePieces (spelled tree)
     → (behind : PlainTrees) (next : UnitState) (js : List Binding) → judged_item globals unit tree behind ≡ fine next js
     → uses_in by tree (judged_item globals unit tree behind) ≡ []
+
+-- Names of file scope are spelt as names where a unit begins, behind the words of a type, behind each declarator, and where a function's block begins.
+pub record ScopesKeepNames : Type 0 where
+  pub starts : (structs : List Struct) (numbers : Numbers) → HasNames (unit_start structs numbers).scope
+  pub words :
+      (declaring : Bool) (scope : Scope) → HasNames scope → (words : PlainTrees) (base : Based) (bs : List Binding) → based declaring scope words ≡ fine base bs
+      → HasNames base.scope
+  pub declarators :
+      (globals : ℕ) (storage : Storage) (ty : PlainType) (behind : PlainTrees) (role : Role) (d : Declared) → IsDeclarator role d
+      → (unit : UnitState) → HasNames unit.scope → (next : UnitState) (js : List Binding) → next_name globals storage ty behind unit d ≡ fine next js → HasNames next.scope
+  pub bodies :
+      (scope : Scope) → HasNames scope → (words parts : PlainTrees) (body : PlainTree) → Derivation file_item (definition words parts body)
+      → ArePieces (spelled (definition words parts body)) → (name : PlainToken) → name_in parts ≡ Some name → (sort : Sort) (storage : Storage)
+      → (inner : Scope) (ss : List Binding) → with_name scope name sort storage ≡ fine inner ss → (parameters : List Parameter) → HasNames (in_body inner parameters).scope

@@ -2,11 +2,14 @@
 //! (ISO/IEC 9899:2011, 6.9), the contracts of functions that compute nothing.
 #![tactic(auto)]
 
-ghost use Rattle.unit_member_uses.specs.Laws.{DeclarationsAreUsed, FunctionsAreUsed, ItemsKeepNames, NamesUseInitialisers, NamesKeepNames, StructsUseNothing, UnitsAreUsed};
+ghost use Rattle.unit_member_uses.specs.Laws.{DeclarationsAreUsed, FunctionsAreUsed, ItemsKeepNames, NamesUseInitialisers, ScopesKeepNames, StructsUseNothing, UnitsAreUsed};
+
+mod rows;
 
 use cond_sizes::counts_need_no_names;
 use expression_types::expressions_have_types;
 use operand_types::types_are_kept;
+pub use rows::worked_uses;
 use tree_derivations::units_are_derived;
 
 /// The uses of members in a unit are those of its items, one after the other.
@@ -28,6 +31,15 @@ pub fn items_keep_names()
     counts_need_no_names();
 }
 
+/// So they are where a unit begins, behind the words of a type and each declarator, and where a function's block begins.
+pub fn scopes_keep_names()
+    ensures { ScopesKeepNames }
+{
+    types_are_kept();
+    expressions_have_types();
+    counts_need_no_names();
+}
+
 /// Those of a declaration at file scope are those of its declarators, one after the other.
 pub fn declarations_are_used()
     ensures { DeclarationsAreUsed }
@@ -40,15 +52,6 @@ pub fn declarations_are_used()
 /// Those of a declarator there are the selections of its first value.
 pub fn names_use_initialisers()
     ensures { NamesUseInitialisers }
-{
-    types_are_kept();
-    expressions_have_types();
-    counts_need_no_names();
-}
-
-/// Behind a declarator there names of file scope are spelt as names still.
-pub fn names_keep_names()
-    ensures { NamesKeepNames }
 {
     types_are_kept();
     expressions_have_types();

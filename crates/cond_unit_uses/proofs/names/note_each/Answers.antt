@@ -36,7 +36,7 @@ loop-listed-preserved g c = record {
 pub returns-clause-notes : goal.returns-clause-notes
 returns-clause-notes g c = λ n globals role list admitted is.
     let law = c.names_use_initialisers.ensures in
-    let keep = c.names_keep_names.ensures in
+    let keep = c.scopes_keep_names.ensures in
     let read = c.names_are_read.ensures in
     let base = c.args.declaration.now.base.now in
     let storage = plain_storage c.args.declaration.now.storage in
