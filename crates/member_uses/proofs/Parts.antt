@@ -134,10 +134,6 @@ module _ (by : ℕ → ℕ) where
   part_as T S names (refused kind token) h g = tt
   part_as T S names broken h g = tt
 
-  -- what is said of the uses of the whole is what is said of those of its parts
-  pub part_named : {A : Type 0} (T : A → List Use → Type 0) (names others : List PlainToken) (m : Checked A) → names ≡ others → Part T m others → Part T m names
-  part_named T names others m e h = subst (Part T m) (sym e) h
-
   -- a part that uses nothing, and what comes then
   pub none_then : {A B : Type 0} (S : B → List Use → Type 0) (names others : List PlainToken) (m : Checked A) (n : A → Checked B) → Part (λ x u. u ≡ []) m names
       → ((x : A) → Part S (n x) others) → Part S (m >>= n) (names ++ others)
