@@ -31,7 +31,7 @@ use std::alloc::Global;
 use type_tables::{DeclaredType, Tables};
 
 /// Notes the uses of an initialiser, if there is one, where the condition is true, with what is visible by the tables.
-pub fn note_initialiser<O: Oracle>(
+pub(crate) fn note_initialiser<O: Oracle>(
     alloc: Global,
     oracle: &mut O,
     tables: &Tables,

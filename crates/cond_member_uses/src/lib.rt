@@ -7,4 +7,3 @@ mod locals;
 mod statements;
 
 pub use bodies::note_body;
-pub use declarators::note_initialiser;

@@ -31,7 +31,7 @@ pub use function_declarators::read_function;
 pub use functions::{declare_function, declare_signed};
 pub use heads::{FunctionHead, HeadReader};
 pub use items::{FileItems, declare_items};
-pub use names::{FileDeclaration, declare_names, name_declared};
+pub use names::{FileDeclaration, declare_names};
 pub use object_declarators::declare_object;
 pub use parts::behind_stars;
 pub use storages::{SaidStorage, Surroundings, said_storages};

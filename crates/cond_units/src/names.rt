@@ -118,7 +118,7 @@ fn name_function<B: Behind, O: Oracle>(
 }
 
 /// The name of a declarator, where the condition is true. The answer is where it is refused.
-pub fn name_declared<B: Behind, O: Oracle>(
+fn name_one<B: Behind, O: Oracle>(
     alloc: Global,
     oracle: &mut O,
     unit: &mut UnitTables,
@@ -175,7 +175,7 @@ fn name_listed<B: Behind, O: Oracle>(
 {
     let here = both_of(alloc, when, &listed.when)?;
     let declarator = listed.declarator;
-    let refused = name_declared(
+    let refused = name_one(
         alloc,
         oracle,
         unit,

@@ -18,7 +18,7 @@ fn where_a() -> Formula {
 }
 
 /// A struct with the member `int m;`.
-pub(crate) fn declare_struct(
+fn declare_struct(
     alloc: Global,
     tables: &mut Tables,
     tag: &[u8],
@@ -38,7 +38,7 @@ pub(crate) fn declare_struct(
 }
 
 /// Whether a configuration sees a use of a member of the struct with this number.
-pub(crate) fn is_used(log: &CondList<Selection>, bits: u128, structure: u32) -> bool {
+fn is_used(log: &CondList<Selection>, bits: u128, structure: u32) -> bool {
     for entry in &log.entries {
         if entry.what.structure == structure && entry.when.value(Config { bits }) {
             return true;

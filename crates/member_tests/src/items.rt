@@ -42,23 +42,12 @@ fn name(alloc: Global, text: &str) -> Result<Choice<Item>, NoMemory> {
 }
 
 /// `OBJECT.m`
-pub(crate) fn selected(alloc: Global, object: &str) -> Result<Item, NoMemory> {
+fn selected(alloc: Global, object: &str) -> Result<Item, NoMemory> {
     let mut parts = Vec::with_capacity(alloc, 3)?;
     parts.push(name(alloc, object)?)?;
     parts.push(mark(alloc, ".")?)?;
     parts.push(name(alloc, "m")?)?;
     Ok(Item::Node(Kind::Selection, parts))
-}
-
-/// A declarator of an object.
-pub(crate) fn declarator(alloc: Global, object: &str) -> Result<Item, NoMemory> {
-    let mut parts = Vec::with_capacity(alloc, 1)?;
-    parts.push(name(alloc, object)?)?;
-    Ok(Item::Node(Kind::Declarator, parts))
-}
-
-pub(crate) fn assign(alloc: Global) -> Result<Choice<Item>, NoMemory> {
-    mark(alloc, "=")
 }
 
 /// `OBJECT.m;`

@@ -1,4 +1,4 @@
-//! Tests of the uses of members in statements and in first values, in all configurations.
+//! A test of the uses of members in statements, in all configurations.
 #![tactic(auto)]
 
 #[cfg(test)]
@@ -6,4 +6,3 @@ mod bodies;
 #[cfg(test)]
 mod items;
 #[cfg(test)]
-mod names;

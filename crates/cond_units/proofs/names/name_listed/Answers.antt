@@ -14,5 +14,5 @@ returns-clause-declares g c = λ n globals role admitted.
     subst (λ (b : Bool). Where b
     (Declares (has n) c.args.declaration.now.base.now (one_name globals (plain_storage c.args.declaration.now.storage) (g.B.Behind.rest c.args.declaration.now.behind.now n) (declarator_at (has n) c.args.listed.now).what)
     (IsReady role (declarator_at (has n) c.args.listed.now).what))
-    (seen_unit (has n) c.args.unit.now) (seen_unit (has n) c.name_declared.new.unit) (value (has n) (condition_of c.in_ok-refused.refused)))
+    (seen_unit (has n) c.args.unit.now) (seen_unit (has n) c.name_one.new.unit) (value (has n) (condition_of c.in_ok-refused.refused)))
     (c.in_ok-here.ensures (has n)) (c.in_ok-refused.ensures.declares n globals role admitted)
