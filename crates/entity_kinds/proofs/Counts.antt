@@ -4,10 +4,9 @@ use Rattle.std.specs.Prelude.{Some, if◌then◌else◌}
 use Rattle.std.proofs.lemmas.Option.{none-some}
 use Rattle.c_text.specs.Token.{PlainToken}
 use Rattle.c_types.specs.Integers.{is_integer}
-use Rattle.c_types.specs.Tags.{PlainMember}
 use Rattle.c_tree.specs.Trees.{PlainTree, PlainTrees, leaf, node, none, more}
 use Rattle.core_meaning.specs.declared.refusals.TypeKind.TheVariants.{BadConstant}
-use Rattle.core_meaning.specs.Checking.{Binding, Checked, fine, refused, broken, ◌>>=◌}
+use Rattle.core_meaning.specs.Checking.{Binding, Checked, fine, refused, broken}
 use Rattle.core_meaning.specs.Entities.{no_entry, Scope}
 use Rattle.core_meaning.specs.Expressions.{valued, first_token}
 use Rattle.core_meaning.specs.Constancy.{judged_count, count_of_value, value_if_constant}

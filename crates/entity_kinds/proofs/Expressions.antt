@@ -1,12 +1,11 @@
 -- Expressions that differ only in names use as many identifiers, whatever is visible to them.
-use Rattle.std.proofs.Common.{◌≡◌, ℕ, Bool, true, false, List, [], ◌∷◌, refl, sym, ap, subst, length}
+use Rattle.std.proofs.Common.{◌≡◌, ℕ, Bool, true, false, List, [], ◌∷◌, refl, sym, subst}
 use Rattle.std.specs.Prelude.{Option, Some, None, codes, slice_get, if◌then◌else◌}
 use Rattle.std.specs.Str.{bytes_eq}
 use Rattle.c_text.specs.Token.{PlainToken}
 use Rattle.c_text.specs.Constants.{quoted_values}
 use Rattle.c_types.specs.Types.{PlainType, pointer_to, structure}
 use Rattle.c_types.specs.Tags.{PlainMember}
-use Rattle.c_tree.specs.declared.kinds.Kind.{Kind}
 use Rattle.c_tree.specs.declared.kinds.Kind.TheVariants as k
 use Rattle.c_tree.specs.declared.terminals.Terminal.{Terminal}
 use Rattle.c_tree.specs.declared.terminals.Terminal.TheVariants as t
@@ -17,7 +16,7 @@ use Rattle.core_meaning.specs.Program.{PlainPlace, PlainArguments, no_argument, 
 use Rattle.core_meaning.specs.Checking.{Entity, local_entity, file_entity, member_entity, Binding, Checked, fine, refused, broken, with_bindings, ◌>>=◌, give, unless_so, found_or, uses}
 use Rattle.core_meaning.specs.Entities.{Struct, Local, Sort, variable, function, FileName, Scope, local_in}
 use Rattle.core_meaning.specs.Typing.{Operand, Typed, loaded}
-use Rattle.core_meaning.specs.Expressions.{judged, judged_arguments, single_operand, name_operand, file_name_operand, file_operand, number_operand, character_operand, character_value, text_bytes, first_text, first_token, stepped, prefixed, cast_to, arithmetic_words, selected, member_of, member_in, member_operand, member_of_target, struct_place, is_free, indexed, Callee, callee, count_entries, may_be_called, result_of_call, passed, condition_value, chosen, combined_by, written_place, assignment, valued, judged_condition}
+use Rattle.core_meaning.specs.Expressions.{judged, judged_arguments, single_operand, name_operand, file_name_operand, file_operand, number_operand, character_value, text_bytes, first_text, first_token, stepped, prefixed, cast_to, arithmetic_words, selected, member_of, member_in, member_operand, member_of_target, struct_place, is_free, indexed, Callee, callee, count_entries, may_be_called, result_of_call, passed, condition_value, chosen, combined_by, written_place, assignment, valued, judged_condition}
 use Rattle.renamed_programs.specs.Trees.{SameButName, SameButNames, AllSameButNames, same_leaf, same_node, same_end, same_more}
 use Rattle.renamed_programs.proofs.Tokens.{same_terminal}
 use Rattle.entity_numbers.proofs.Uses.{Binds}

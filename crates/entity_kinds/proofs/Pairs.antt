@@ -1,5 +1,5 @@
 -- Two judgements side by side. Nothing is owed unless both are fine; then the kinds of what they bind are alike, place by place.
-use Rattle.std.proofs.Common.{◌≡◌, inr, ℕ, Bool, true, false, List, [], ◌∷◌, ◌++◌, map, refl, sym, ap, subst}
+use Rattle.std.proofs.Common.{◌≡◌, inr, ℕ, Bool, true, false, List, [], ◌∷◌, ◌++◌, map, refl, sym, subst}
 use Rattle.std.specs.Prelude.{Option, Some, None, if◌then◌else◌}
 use Rattle.c_text.specs.Token.{PlainToken}
 use Rattle.core_meaning.specs.declared.refusals.TypeKind.{TypeKind}
@@ -290,8 +290,10 @@ numbered_alike n ties (j ∷ js) [] h = absurd h
 numbered_alike n ties (j ∷ js) (k ∷ ks) h =
     let same_ = numbered_tie n ties j.entity k.entity in
     let rest = numbered_alike n (with_tie ties j.entity k.entity) js ks h.1 in (
-      (numbered_meant n ties j.in_expression k.in_expression j.entity k.entity h.0,
-      subst (λ (t : Ties). AreKindsAlike t (map (numbered_binding n) js) (map (numbered_binding n) ks)) (sym same_) rest.0),
+      (
+        numbered_meant n ties j.in_expression k.in_expression j.entity k.entity h.0,
+        subst (λ (t : Ties). AreKindsAlike t (map (numbered_binding n) js) (map (numbered_binding n) ks)) (sym same_) rest.0,
+      ),
       subst (λ (t : Ties). ties_behind t (map (numbered_binding n) js) (map (numbered_binding n) ks) ≡ ties_behind (with_tie ties j.entity k.entity) js ks) (sym same_) rest.1,
     )
 

@@ -1,6 +1,6 @@
 -- What holds of the entities of a unit; each is the contract of a function of this crate.
 use Rattle.std.specs.Prelude.{◌≡◌, ℕ, List, [], length, IsTrue}
-use Rattle.std.specs.List.{AllZip}
+use Rattle.std.specs.List.{AllByRecursion, AllZip}
 use Rattle.c_tree.specs.Trees.{PlainTree}
 use Rattle.c_tree.specs.Grammar.{is_unit}
 use Rattle.core_meaning.specs.Checking.{Binding, fine}
@@ -11,6 +11,7 @@ use Rattle.renamed_programs.specs.Entities.{Correspondence, AreBoundAlike}
 use Rattle.entity_numbers.specs.Numbered.{Counts, AreNumbered, SameKind, AreNamedSo}
 use Rattle.program_occurrences.specs.Occurrences.{names_of_unit}
 use Rattle.program_occurrences.specs.Links.{bound_numbers}
+use Rattle.unit_numbers.specs.Bound.{IsOfUnit, AreUsedBehind}
 
 -- before the first identifier of a unit there are the structs of the units before it, and nothing else
 abbrev pub counts_behind : List Struct → Counts
@@ -21,6 +22,18 @@ abbrev pub UnitsAreNumbered : Type 0
 UnitsAreNumbered =
     (tree : PlainTree) → IsTrue (is_unit tree) → (globals : ℕ) (structs : List Struct) (numbers : Numbers) (unit : UnitState) (bindings : List Binding)
     → judged_unit globals structs numbers tree ≡ fine unit bindings → AreNumbered (counts_behind structs) [] bindings
+
+-- There no identifier is bound to a slot without a function,
+abbrev pub SlotsAreOfFunctions : Type 0
+SlotsAreOfFunctions =
+    (tree : PlainTree) → IsTrue (is_unit tree) → (globals : ℕ) (structs : List Struct) (numbers : Numbers) (unit : UnitState) (bindings : List Binding)
+    → judged_unit globals structs numbers tree ≡ fine unit bindings → AllByRecursion (λ b. IsOfUnit b.entity) bindings
+
+-- and what an expression uses is bound before it: slots and members.
+abbrev pub UsesAreBoundBefore : Type 0
+UsesAreBoundBefore =
+    (tree : PlainTree) → IsTrue (is_unit tree) → (globals : ℕ) (structs : List Struct) (numbers : Numbers) (unit : UnitState) (bindings : List Binding)
+    → judged_unit globals structs numbers tree ≡ fine unit bindings → AreUsedBehind [] bindings
 
 -- each two identifiers at one place are bound to entities of one kind: tags, members of one struct, slots of one function
 abbrev pub AreOfOneKind : List Binding → List Binding → Type 0

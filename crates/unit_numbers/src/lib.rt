@@ -2,7 +2,7 @@
 //! `specs/`) and the laws, the contracts of functions without a body.
 #![tactic(auto)]
 
-ghost use Rattle.unit_numbers.specs.Laws.{UnitsAreNumbered, UnitsBindAlike};
+ghost use Rattle.unit_numbers.specs.Laws.{UnitsAreNumbered, SlotsAreOfFunctions, UsesAreBoundBefore, UnitsBindAlike};
 ghost use Rattle.unit_numbers.specs.Rows.{EntitiesAreNumbered, NumbersGoOn, NoneIsLeftOut};
 
 /// In a unit of the grammar that is judged well, each entity has the next number of its kind where an identifier is first bound to it:
@@ -12,6 +12,26 @@ pub fn units_are_numbered()
 {
     tree_derivations::units_are_derived();
     entity_numbers::units_name_parameters();
+    entity_kinds::counts_bind_nothing();
+}
+
+/// There no identifier is bound to a slot without a function: the parameters of a declaration that defines none are their own, and
+/// sizes bind nothing.
+pub fn slots_are_of_functions()
+    ensures { SlotsAreOfFunctions }
+{
+    tree_derivations::units_are_derived();
+    entity_numbers::units_name_parameters();
+    entity_kinds::counts_bind_nothing();
+}
+
+/// And to a slot or a member that an expression uses another identifier is bound before.
+pub fn uses_are_bound_before()
+    ensures { UsesAreBoundBefore }
+{
+    tree_derivations::units_are_derived();
+    entity_numbers::units_name_parameters();
+    entity_kinds::counts_bind_nothing();
 }
 
 /// So two units bind their identifiers alike, where these have the same numbers, are declared by identifiers with the same numbers,
