@@ -1,6 +1,6 @@
 -- Sizes are constant expressions. What comes of one is the same whatever is visible, and where nothing is visible nothing can be bound.
 use Rattle.std.proofs.Common.{◌≡◌, ℕ, List, [], ◌∷◌, refl, sym, ap, subst, ◌∙◌}
-use Rattle.std.specs.Prelude.{Some, if◌then◌else◌}
+use Rattle.std.specs.Prelude.{None, if◌then◌else◌}
 use Rattle.std.proofs.lemmas.Option.{none-some}
 use Rattle.c_text.specs.Token.{PlainToken}
 use Rattle.c_types.specs.Integers.{is_integer}
@@ -36,8 +36,8 @@ mutual
 pub counts_alike : (s u : Scope) {tree other : PlainTree} (ties : Ties) (a b : PlainToken) → SameButNames tree other → Alike ties Anything (judged_count s tree a) (judged_count u other b)
 counts_alike s u {tree = tree} {other = other} ties a b e =
     any_then Anything ties (valued s tree) (valued u other) _ _ (valued_alike s u ties e)
-    (λ more_ grows x y. alike_quiet more_ _ _ (found_quiet (if is_integer x.ty then count_of_value (value_if_constant x.core) else Rattle.std.specs.Prelude.None) BadConstant (first_token tree a))
-    (found_quiet (if is_integer y.ty then count_of_value (value_if_constant y.core) else Rattle.std.specs.Prelude.None) BadConstant (first_token other b)))
+    (λ more_ grows x y. alike_quiet more_ _ _ (found_quiet (if is_integer x.ty then count_of_value (value_if_constant x.core) else None) BadConstant (first_token tree a))
+    (found_quiet (if is_integer y.ty then count_of_value (value_if_constant y.core) else None) BadConstant (first_token other b)))
 
 -- where nothing is visible
 abbrev nowhere : Scope

@@ -5,18 +5,15 @@ use Rattle.std.proofs.lemmas.Bool.{eq-eqb, eqb-true}
 use Rattle.std.proofs.lemmas.Option.{none-some}
 use Rattle.c_text.specs.Token.{PlainToken}
 use Rattle.c_types.specs.Types.{PlainType}
-use Rattle.c_tree.specs.declared.kinds.Kind.{Kind}
 use Rattle.c_tree.specs.declared.kinds.Kind.TheVariants as k
 use Rattle.c_tree.specs.declared.terminals.Terminal.TheVariants as t
 use Rattle.c_tree.specs.Trees.{PlainTree, PlainTrees, leaf, node, none, more}
-use Rattle.c_tree.specs.Grammar.{file_item, tag}
 use Rattle.core_meaning.specs.Checking.{Entity, local_entity, local_of_function, file_entity, struct_entity, member_entity, own_entity, Binding, Checked, fine, refused, broken, ◌>>=◌, give, or_broken, in_function, numbered, numbered_binding}
 use Rattle.core_meaning.specs.Entities.{Table, Struct, FileName, Numbers, Scope, local_in}
 use Rattle.core_meaning.specs.Expressions.{has_terminal}
 use Rattle.core_meaning.specs.Declarations.{based, name_in, behind_word}
 use Rattle.core_meaning.specs.UnitNames.{Defined, function_body, is_function_body, UnitState, Storage, storage_of, with_scope, declared_from, defined_function, count_functions, judged_item, judged_file_items, unit_start, too_big_in, unless_too_big, judged_unit}
-use Rattle.tree_derivations.specs.Derivations.{Derivation, single, made_of, a_row, a_part, some_words, Each, no_more, one_more, IsDerived, UnitsAreDerived}
-use Rattle.bindings.proofs.Words.{tag_form}
+use Rattle.tree_derivations.specs.Derivations.{IsDerived, UnitsAreDerived}
 use Rattle.entity_numbers.specs.Numbered.{Counts, one_more as counted_more}
 use Rattle.entity_numbers.specs.Slots.{HasNamedParameters, IsNamedFunction, AreNamedFunctions, HasNamedFunctions}
 use Rattle.entity_numbers.specs.Laws.{UnitsNameParameters}
@@ -25,35 +22,12 @@ use Rattle.entity_numbers.proofs.Uses.{Sense, Gives, some_binds}
 use Rattle.entity_numbers.proofs.Slots.{Base, BasedOn, Knows, Slots, no_more as no_slot, known as known_slot, next as next_slot}
 use Rattle.entity_numbers.proofs.Functions.{function_ends, Ended}
 use Rattle.entity_kinds.specs.Laws.{CountsBindNothing}
+use Rattle.entity_kinds.proofs.Tags.{IsTaggedItem, AreTaggedItems, items_tagged}
 use Rattle.unit_numbers.specs.Laws.{UnitsAreNumbered, SlotsAreOfFunctions, UsesAreBoundBefore}
 use Rattle.unit_numbers.proofs.Runs.{Has, Runs, done, old, new, IfReached, Reaches, reaches_then, reaches_as, reaches_give, known_then, all_old, Reached, runs_are_numbered, runs_are_of_unit, runs_are_used_behind}
 use Rattle.unit_numbers.proofs.Fitting.{tags_from, sense, Fits, fits_base, typed_then, Words, words_take, known_words}
 use Rattle.unit_numbers.proofs.Structs.{Nothing, StructThen, struct_takes}
 use Rattle.unit_numbers.proofs.Names.{Kept, names_declared}
-
--- ---- what the grammar says of definitions of structs: their words name one
-
-abbrev IsTaggedItem : PlainTree → Type 0
-IsTaggedItem (node k.StructDefinition (more (node tag_kind words) rest)) = has_terminal t.Struct words ≡ true
-IsTaggedItem other = Unit {0}
-
-abbrev AreTaggedItems : PlainTrees → Type 0
-AreTaggedItems none = Unit {0}
-AreTaggedItems (more tree rest) = IsTaggedItem tree × AreTaggedItems rest
-
-tag_has : {kind : Kind} {words : PlainTrees} → Derivation tag (node kind words) → has_terminal t.Struct words ≡ true
-tag_has (made_of k.Specifiers {parts = parts} b a (some_words are)) = (tag_form parts are).has
-tag_has (made_of _ b a s) = absurd cc
-
-item_tagged : {tree : PlainTree} → Derivation file_item tree → IsTaggedItem tree
-item_tagged (single is) = absurd cc
-item_tagged (made_of k.StructDefinition b a (a_row (a_part {tree = node kind words} w row))) = tag_has w
-item_tagged (made_of k.StructDefinition b a (a_row (a_part {tree = leaf token} w row))) = tt
-item_tagged (made_of _ b a s) = tt
-
-items_tagged : {parts : PlainTrees} → Each file_item parts → AreTaggedItems parts
-items_tagged no_more = tt
-items_tagged (one_more d each) = (item_tagged d, items_tagged each)
 
 module _ (counts : CountsBindNothing) (first : ℕ) where
   -- ---- functions
