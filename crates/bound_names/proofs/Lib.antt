@@ -1,2 +1,4 @@
+mod Walks
 mod Steps
 mod Readings
+mod Before

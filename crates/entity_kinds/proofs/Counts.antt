@@ -15,7 +15,7 @@ use Rattle.cond_sizes.specs.Laws.{CountsNeedNoNames}
 use Rattle.renamed_programs.specs.Trees.{SameButNames, AllSameButNames, same_leaf, same_node, same_end, same_more}
 use Rattle.entity_numbers.proofs.Uses.{Allows, Binds}
 use Rattle.entity_numbers.proofs.Initialisers.{count_binds}
-use Rattle.entity_kinds.specs.Kinds.{Ties, AreKindsAlike}
+use Rattle.entity_numbers.specs.Kinds.{Ties, AreKindsAlike}
 use Rattle.entity_kinds.specs.Laws.{CountsBindNothing}
 use Rattle.entity_kinds.proofs.Pairs.{Anything, Sides, Alike, any_then, Never, none_bound, alike_quiet, found_quiet}
 use Rattle.entity_kinds.proofs.Expressions.{valued_alike}
@@ -23,7 +23,7 @@ use Rattle.entity_kinds.proofs.Expressions.{valued_alike}
 -- ---- a tree differs from itself in nothing
 
 mutual
-  itself : (tree : PlainTree) → SameButNames tree tree
+  pub itself : (tree : PlainTree) → SameButNames tree tree
   itself (leaf token) = same_leaf (record { kind = refl; text = λ no_name. refl })
   itself (node kind parts) = same_node (all_themselves parts)
 

@@ -26,7 +26,7 @@ use Rattle.renamed_programs.proofs.Tokens.{same_terminal}
 use Rattle.renamed_programs.proofs.Expressions.{same_terminals}
 use Rattle.renamed_programs.proofs.Declarators.{same_names}
 use Rattle.entity_numbers.proofs.Uses.{All, Binds, then_binds, if_binds, unless_then as unless_binds_then, unless_binds}
-use Rattle.entity_kinds.specs.Kinds.{Ties, AreTied, with_tie, AreDeclaredAlike}
+use Rattle.entity_numbers.specs.Kinds.{Ties, AreTied, with_tie, AreDeclaredAlike}
 use Rattle.entity_kinds.specs.Laws.{CountsBindNothing}
 use Rattle.entity_kinds.proofs.Pairs.{Anything, Alike, alike_then, any_then, alike_give, left_refused, right_refused, left_broken, right_broken, alike_if, Never, quiet_then, unless_then, some_then, declares_then}
 use Rattle.entity_kinds.proofs.Initialisers.{initials_alike}

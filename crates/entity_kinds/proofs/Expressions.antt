@@ -21,7 +21,7 @@ use Rattle.renamed_programs.specs.Trees.{SameButName, SameButNames, AllSameButNa
 use Rattle.renamed_programs.proofs.Tokens.{same_terminal}
 use Rattle.entity_numbers.proofs.Uses.{Binds}
 use Rattle.entity_numbers.proofs.Operators.{loads, written_binds, stepped_binds, assignment_binds, prefixed_binds, cast_binds, indexed_binds, chosen_binds, callable_binds, passed_binds, combined_binds, condition_binds}
-use Rattle.entity_kinds.specs.Kinds.{Ties, IsUsable, AreMeantAlike, AreKindsAlike}
+use Rattle.entity_numbers.specs.Kinds.{Ties, IsUsable, AreMeantAlike, AreKindsAlike}
 use Rattle.entity_kinds.proofs.Pairs.{Grows, Anything, Sides, Alike, any_then, alike_give, left_broken, right_broken, Never, none_bound, alike_quiet, quiet_then, quiet_unless, found_quiet, some_then, NeverFine, never_then, left_never, right_never, uses_then}
 
 -- ---- what uses one identifier

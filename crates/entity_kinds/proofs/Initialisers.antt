@@ -14,7 +14,7 @@ use Rattle.core_meaning.specs.Constancy.{part_for, path_for, is_character_type, 
 use Rattle.renamed_programs.specs.Trees.{SameButNames, AllSameButNames, same_node, same_end, same_more}
 use Rattle.entity_numbers.proofs.Uses.{Binds, then_binds, if_binds, some_then, found_then as found_binds_then, unless_then as unless_binds_then}
 use Rattle.entity_numbers.proofs.Operators.{loads}
-use Rattle.entity_kinds.specs.Kinds.{Ties}
+use Rattle.entity_numbers.specs.Kinds.{Ties}
 use Rattle.entity_kinds.proofs.Pairs.{Anything, Alike, any_then, alike_give, Never, alike_quiet, quiet_then, unless_then, found_then, never_then, left_never, right_never}
 use Rattle.entity_kinds.proofs.Expressions.{valued_alike}
 

@@ -14,7 +14,7 @@ use Rattle.core_meaning.specs.Expressions.{has_terminal}
 use Rattle.core_meaning.specs.Declarations.{Based, based, name_in, object_type}
 use Rattle.core_meaning.specs.UnitNames.{UnitState, Members, with_member, declared_member, one_member, members_from, all_members, with_members_at, is_defined_tag, number_of_struct, with_scope, defined_struct, count_functions}
 use Rattle.renamed_programs.specs.Trees.{SameButNames, AllSameButNames, same_leaf, same_node, same_end, same_more}
-use Rattle.entity_kinds.specs.Kinds.{Ties, AreTied}
+use Rattle.entity_numbers.specs.Kinds.{Ties, AreTied}
 use Rattle.entity_kinds.specs.Laws.{CountsBindNothing}
 use Rattle.entity_kinds.proofs.Pairs.{Anything, Alike, alike_then, any_then, alike_give, left_broken, quiet_then, unless_then, some_then, declares_then}
 use Rattle.entity_kinds.proofs.Declarators.{NameStructs, words_alike, object_quiet}

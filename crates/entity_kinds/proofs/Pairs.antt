@@ -5,7 +5,7 @@ use Rattle.c_text.specs.Token.{PlainToken}
 use Rattle.core_meaning.specs.declared.refusals.TypeKind.{TypeKind}
 use Rattle.core_meaning.specs.Checking.{Entity, local_entity, local_of_function, file_entity, struct_entity, member_entity, own_entity, Binding, Checked, fine, refused, broken, with_bindings, ◌>>=◌, give, unless_so, found_or, or_broken, declares, uses, numbered, numbered_binding, in_function}
 use Rattle.entity_numbers.proofs.Uses.{All, Binds}
-use Rattle.entity_kinds.specs.Kinds.{Ties, AreTied, with_tie, IsUsable, AreDeclaredAlike, AreMeantAlike, AreKindsAlike}
+use Rattle.entity_numbers.specs.Kinds.{Ties, AreTied, with_tie, IsUsable, AreDeclaredAlike, AreMeantAlike, AreKindsAlike}
 
 -- ---- structs that are tied
 

@@ -17,7 +17,7 @@ use Rattle.core_meaning.specs.Expressions.{has_terminal, valued, judged_conditio
 use Rattle.core_meaning.specs.Declarations.{name_in, based, object_type, with_local, is_new_local, plain_part, local_initial, judged_object, declared_local, one_local, with_items, locals_from, judged_locals}
 use Rattle.core_meaning.specs.Statements.{Around, Judged, items_as, in_block, within_loop, nothing_to_do, discarded, condition_or_true, expression_statement, jump, returned, judged_statement, judged_else, judged_items}
 use Rattle.renamed_programs.specs.Trees.{SameButNames, AllSameButNames, same_leaf, same_node, same_end, same_more}
-use Rattle.entity_kinds.specs.Kinds.{Ties}
+use Rattle.entity_numbers.specs.Kinds.{Ties}
 use Rattle.entity_kinds.specs.Laws.{CountsBindNothing}
 use Rattle.entity_kinds.proofs.Pairs.{Anything, Alike, alike_then, any_then, alike_give, left_broken, alike_if, quiet_then, unless_then, found_then, some_then, declares_then}
 use Rattle.entity_kinds.proofs.Expressions.{valued_alike, judged_condition_alike}

@@ -20,7 +20,7 @@ use Rattle.tree_derivations.specs.Derivations.{IsDerived, UnitsAreDerived}
 use Rattle.renamed_programs.specs.Trees.{SameButNames, AllSameButNames, same_leaf, same_node, same_end, same_more}
 use Rattle.renamed_programs.proofs.Expressions.{same_terminals}
 use Rattle.entity_numbers.proofs.Uses.{Binds, if_binds, unless_then as unless_binds_then}
-use Rattle.entity_kinds.specs.Kinds.{Ties}
+use Rattle.entity_numbers.specs.Kinds.{Ties}
 use Rattle.entity_kinds.specs.Laws.{CountsBindNothing, KindsAreAlike}
 use Rattle.entity_kinds.proofs.Pairs.{Anything, Sides, Alike, alike_then, any_then, alike_give, left_broken, alike_if, Never, quiet_then, unless_then, some_then, declares_then, alike_function}
 use Rattle.entity_kinds.proofs.Initialisers.{initials_alike}

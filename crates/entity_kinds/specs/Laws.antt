@@ -8,7 +8,7 @@ use Rattle.core_meaning.specs.Entities.{Struct, Numbers, Scope}
 use Rattle.core_meaning.specs.Constancy.{judged_count}
 use Rattle.core_meaning.specs.UnitNames.{UnitState, judged_unit}
 use Rattle.renamed_programs.specs.Trees.{SameButNames}
-use Rattle.entity_kinds.specs.Kinds.{AreKindsAlike}
+use Rattle.entity_numbers.specs.Kinds.{AreKindsAlike}
 
 -- A size is a constant expression (6.6), so it binds no identifier.
 abbrev pub CountsBindNothing : Type 0

@@ -1,5 +1,5 @@
 -- The items of a unit, one after the other, and the law on units.
-use Rattle.std.proofs.Common.{◌≡◌, ℕ, ◌+◌, suc, ◌≤◌, ◌<◌, Bool, true, false, List, [], ◌∷◌, ◌++◌, map, refl, sym, ap, subst, ◌∙◌, length, arith}
+use Rattle.std.proofs.Common.{◌≡◌, ℕ, ◌+◌, suc, ◌≤◌, ◌<◌, Bool, true, false, List, [], ◌∷◌, ◌++◌, map, refl, sym, ap, subst, ◌∙◌, length, IsTrue, arith}
 use Rattle.std.specs.Prelude.{Option, Some, None, slice_get, ◌==◌, if◌then◌else◌}
 use Rattle.std.proofs.lemmas.Bool.{eq-eqb, eqb-true}
 use Rattle.std.proofs.lemmas.Option.{none-some}
@@ -7,6 +7,7 @@ use Rattle.c_text.specs.Token.{PlainToken}
 use Rattle.c_types.specs.Types.{PlainType}
 use Rattle.c_tree.specs.declared.kinds.Kind.TheVariants as k
 use Rattle.c_tree.specs.declared.terminals.Terminal.TheVariants as t
+use Rattle.c_tree.specs.Grammar.{is_unit}
 use Rattle.c_tree.specs.Trees.{PlainTree, PlainTrees, leaf, node, none, more}
 use Rattle.core_meaning.specs.Checking.{Entity, local_entity, local_of_function, file_entity, struct_entity, member_entity, own_entity, Binding, Checked, fine, refused, broken, ◌>>=◌, give, or_broken, in_function, numbered, numbered_binding}
 use Rattle.core_meaning.specs.Entities.{Table, Struct, FileName, Numbers, Scope, local_in}
@@ -23,8 +24,8 @@ use Rattle.entity_numbers.proofs.Slots.{Base, BasedOn, Knows, Slots, no_more as 
 use Rattle.entity_numbers.proofs.Functions.{function_ends, Ended}
 use Rattle.entity_kinds.specs.Laws.{CountsBindNothing}
 use Rattle.entity_kinds.proofs.Tags.{IsTaggedItem, AreTaggedItems, items_tagged}
-use Rattle.unit_numbers.specs.Laws.{UnitsAreNumbered, SlotsAreOfFunctions, UsesAreBoundBefore}
-use Rattle.unit_numbers.proofs.Runs.{Has, Runs, done, old, new, IfReached, Reaches, reaches_then, reaches_as, reaches_give, known_then, all_old, Reached, runs_are_numbered, runs_are_of_unit, runs_are_used_behind}
+use Rattle.unit_numbers.specs.Laws.{UnitsAreNumbered, SlotsAreOfFunctions}
+use Rattle.unit_numbers.proofs.Runs.{Has, Runs, done, old, new, IfReached, Reaches, reaches_then, reaches_as, reaches_give, known_then, all_old, Reached, runs_are_numbered, runs_are_of_unit, AreCountedBehind, runs_are_counted_behind}
 use Rattle.unit_numbers.proofs.Fitting.{tags_from, sense, Fits, fits_base, typed_then, Words, words_take, known_words}
 use Rattle.unit_numbers.proofs.Structs.{Nothing, StructThen, struct_takes}
 use Rattle.unit_numbers.proofs.Names.{Kept, names_declared}
@@ -258,6 +259,8 @@ pub slots_are_of_functions : UnitsAreDerived → UnitsNameParameters → CountsB
 slots_are_of_functions derived named counts tree is globals structs numbers unit js e =
     let last = unit_runs counts tree (derived tree is) (named tree is) globals structs numbers unit js e in runs_are_of_unit (length structs) last.runs
 
-pub uses_are_bound_before : UnitsAreDerived → UnitsNameParameters → CountsBindNothing → UsesAreBoundBefore
-uses_are_bound_before derived named counts tree is globals structs numbers unit js e =
-    let last = unit_runs counts tree (derived tree is) (named tree is) globals structs numbers unit js e in runs_are_used_behind (length structs) last.to js last.runs
+pub uses_are_counted :
+    UnitsAreDerived → UnitsNameParameters → CountsBindNothing → (tree : PlainTree) → IsTrue (is_unit tree) → (globals : ℕ) (structs : List Struct) (numbers : Numbers) (unit : UnitState) (js : List Binding)
+    → judged_unit globals structs numbers tree ≡ fine unit js → AreCountedBehind [] js
+uses_are_counted derived named counts tree is globals structs numbers unit js e =
+    let last = unit_runs counts tree (derived tree is) (named tree is) globals structs numbers unit js e in runs_are_counted_behind (length structs) last.to js last.runs

@@ -1,6 +1,5 @@
 -- From what is taken up to a place of a unit to what is taken up to another: what is bound between them is known, or is next.
 use Rattle.std.proofs.Common.{◌≡◌, inl, inr, ℕ, zero, suc, ◌≤◌, ◌<◌, Bool, true, false, List, [], ◌∷◌, ◌++◌, refl, sym, ap, subst, ◌∙◌, arith}
-use Rattle.std.specs.List.{AllByRecursion}
 use Rattle.std.specs.Prelude.{◌⊎◌, Option, Some, None, option_map, ◌==◌, ◌&&◌, if◌then◌else◌}
 use Rattle.std.proofs.lemmas.Bool.{eq-eqb, eqb-true, and_from, false≢true}
 use Rattle.core_meaning.specs.Checking.{Entity, local_entity, local_of_function, file_entity, struct_entity, member_entity, own_entity, Binding, Checked, fine, refused, broken, with_bindings, ◌>>=◌, give}
@@ -8,7 +7,20 @@ use Rattle.bindings.specs.Judged.{same_entity}
 use Rattle.bindings.proofs.Histories.{same_is}
 use Rattle.entity_numbers.specs.Numbered.{Counts, one_more, with_entity, IsNext, first_place, IsNumbered, counted, AreNumbered}
 use Rattle.entity_numbers.proofs.Uses.{All, Binds}
-use Rattle.unit_numbers.specs.Bound.{IsOfUnit, IsCounted, AreUsedBehind}
+use Rattle.entity_numbers.specs.Bound.{IsOfUnit, AreOfUnit}
+
+-- entities that are numbered in the order of the text
+abbrev pub IsCounted : Entity → Type 0
+IsCounted (local_of_function f slot) = Unit {0}
+IsCounted (struct_entity n) = Unit {0}
+IsCounted (member_entity s n) = Unit {0}
+IsCounted other = ⊥
+
+-- to what an expression uses another identifier is bound before, if it is numbered
+abbrev pub AreCountedBehind : List Binding → List Binding → Type 0
+AreCountedBehind before [] = Unit {0}
+AreCountedBehind before (b ∷ rest) =
+    (b.in_expression ≡ true → IsCounted b.entity → first_place b.entity before ≡ None → ⊥) × AreCountedBehind (before ++ b ∷ []) rest
 
 -- the structs from this number on are the unit's own
 module _ (first : ℕ) where
@@ -317,12 +329,12 @@ module _ (first : ℕ) where
   has_of_unit c (local_entity slot) h = h
   has_of_unit c _ h = tt
 
-  pub runs_are_of_unit : {c d : Counts} {js : List Binding} → Runs c js d → AllByRecursion (λ b. IsOfUnit b.entity) js
+  pub runs_are_of_unit : {c d : Counts} {js : List Binding} → Runs c js d → AreOfUnit js
   runs_are_of_unit done = tt
   runs_are_of_unit (old {c = c} {b = b} h f) = (has_of_unit c b.entity h, runs_are_of_unit f)
   runs_are_of_unit (new d n f) = (d.of_unit, runs_are_of_unit f)
 
-  -- ---- what expressions use is bound before
+  -- ---- what expressions use is bound before, where it is numbered
 
   counted_within : (c : Counts) (e : Entity) → IsCounted e → Has c e → Within c e
   counted_within c (local_of_function f slot) i h = h
@@ -330,12 +342,12 @@ module _ (first : ℕ) where
   counted_within c (member_entity s n) i h = h
   counted_within c _ i h = absurd i
 
-  used_from : {c d : Counts} {js : List Binding} → Runs c js d → (before : List Binding) → Told c before → AreUsedBehind before js
+  used_from : {c d : Counts} {js : List Binding} → Runs c js d → (before : List Binding) → Told c before → AreCountedBehind before js
   used_from done before t = tt
   used_from (old {c = c} {b = b} {rest = rest} h f) before t =
       (λ used counted none_. t.seen b.entity (counted_within c b.entity counted h) none_, used_from f (before ++ b ∷ []) (still_told c before b (not_both c b.entity h) t))
   used_from (new {c = c} {b = b} {rest = rest} d n f) before t =
       (λ used counted none_. false≢true (sym d.unused ∙ used), used_from f (before ++ b ∷ []) (next_told c before b n t))
 
-  pub runs_are_used_behind : (d : Counts) (js : List Binding) → Runs from_nothing js d → AreUsedBehind [] js
-  runs_are_used_behind d js f = used_from f [] none_told
+  pub runs_are_counted_behind : (d : Counts) (js : List Binding) → Runs from_nothing js d → AreCountedBehind [] js
+  runs_are_counted_behind d js f = used_from f [] none_told

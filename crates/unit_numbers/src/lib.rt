@@ -25,17 +25,22 @@ pub fn slots_are_of_functions()
     entity_kinds::counts_bind_nothing();
 }
 
-/// And to a slot or a member that an expression uses another identifier is bound before.
+/// And what an expression uses is bound before: slots and members as they are numbered, names of file scope as units are read.
 pub fn uses_are_bound_before()
     ensures { UsesAreBoundBefore }
 {
     tree_derivations::units_are_derived();
     entity_numbers::units_name_parameters();
     entity_kinds::counts_bind_nothing();
+    entity_kinds::kinds_are_alike();
+    slots_are_of_functions();
+    bindings::judgements_bind_alike();
+    bindings::file_names_are_used_alike();
+    bound_names::uses_are_of_before();
 }
 
-/// So two units bind their identifiers alike, where these have the same numbers, are declared by identifiers with the same numbers,
-/// and stand for entities of one kind.
+/// So two units that differ only in names bind their identifiers alike, where these have the same numbers, and are declared by
+/// identifiers with the same numbers.
 pub fn units_bind_alike()
     ensures { UnitsBindAlike }
 {
@@ -43,6 +48,9 @@ pub fn units_bind_alike()
     entity_numbers::firsts_are_bound_alike();
     bindings::judgements_bind_alike();
     program_occurrences::identifiers_are_bound();
+    entity_kinds::kinds_are_alike();
+    slots_are_of_functions();
+    uses_are_bound_before();
 }
 
 /// What identifiers of units by hand are bound to.
