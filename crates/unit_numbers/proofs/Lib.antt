@@ -3,4 +3,5 @@ pub mod Fitting
 pub mod Structs
 pub mod Names
 pub mod Items
+pub mod Uses
 pub mod Alike

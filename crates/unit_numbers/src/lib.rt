@@ -2,7 +2,7 @@
 //! `specs/`) and the laws, the contracts of functions without a body.
 #![tactic(auto)]
 
-ghost use Rattle.unit_numbers.specs.Laws.{UnitsAreNumbered, UnitsBindAlike};
+ghost use Rattle.unit_numbers.specs.Laws.{UnitsAreNumbered, SlotsAreOfFunctions, UsesAreBoundBefore, UnitsBindAlike};
 ghost use Rattle.unit_numbers.specs.Rows.{EntitiesAreNumbered, NumbersGoOn, NoneIsLeftOut};
 
 /// In a unit of the grammar that is judged well, each entity has the next number of its kind where an identifier is first bound to it:
@@ -12,10 +12,35 @@ pub fn units_are_numbered()
 {
     tree_derivations::units_are_derived();
     entity_numbers::units_name_parameters();
+    entity_kinds::counts_bind_nothing();
 }
 
-/// So two units bind their identifiers alike, where these have the same numbers, are declared by identifiers with the same numbers,
-/// and stand for entities of one kind.
+/// There no identifier is bound to a slot without a function: the parameters of a declaration that defines none are their own, and
+/// sizes bind nothing.
+pub fn slots_are_of_functions()
+    ensures { SlotsAreOfFunctions }
+{
+    tree_derivations::units_are_derived();
+    entity_numbers::units_name_parameters();
+    entity_kinds::counts_bind_nothing();
+}
+
+/// And what an expression uses is bound before: slots and members as they are numbered, names of file scope as units are read.
+pub fn uses_are_bound_before()
+    ensures { UsesAreBoundBefore }
+{
+    tree_derivations::units_are_derived();
+    entity_numbers::units_name_parameters();
+    entity_kinds::counts_bind_nothing();
+    entity_kinds::kinds_are_alike();
+    slots_are_of_functions();
+    bindings::judgements_bind_alike();
+    bindings::file_names_are_used_alike();
+    bound_names::uses_are_of_before();
+}
+
+/// So two units that differ only in names bind their identifiers alike, where these have the same numbers, and are declared by
+/// identifiers with the same numbers.
 pub fn units_bind_alike()
     ensures { UnitsBindAlike }
 {
@@ -23,6 +48,9 @@ pub fn units_bind_alike()
     entity_numbers::firsts_are_bound_alike();
     bindings::judgements_bind_alike();
     program_occurrences::identifiers_are_bound();
+    entity_kinds::kinds_are_alike();
+    slots_are_of_functions();
+    uses_are_bound_before();
 }
 
 /// What identifiers of units by hand are bound to.
