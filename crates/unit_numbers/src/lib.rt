@@ -3,7 +3,7 @@
 #![tactic(auto)]
 
 ghost use Rattle.unit_numbers.specs.Laws.{UnitsAreNumbered, SlotsAreOfFunctions, UsesAreBoundBefore, UnitsBindAlike};
-ghost use Rattle.unit_numbers.specs.Rows.{EntitiesAreNumbered, NumbersGoOn, NoneIsLeftOut};
+ghost use Rattle.unit_numbers.specs.Rows.{EntitiesAreNumbered, NumbersGoOn, NoneIsLeftOut, KindsStandAtPlaces, MembersAreOfTiedStructs};
 
 /// In a unit of the grammar that is judged well, each entity has the next number of its kind where an identifier is first bound to it:
 /// structs behind those of the units before, members from the first of their struct on, slots from the first of their function on.
@@ -58,4 +58,6 @@ pub fn worked_rows()
     ensures numbered { EntitiesAreNumbered }
     ensures further { NumbersGoOn }
     ensures none { NoneIsLeftOut }
+    ensures kinds { KindsStandAtPlaces }
+    ensures members { MembersAreOfTiedStructs }
 {}
