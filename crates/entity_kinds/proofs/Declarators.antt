@@ -27,7 +27,7 @@ use Rattle.renamed_programs.proofs.Expressions.{same_terminals}
 use Rattle.renamed_programs.proofs.Declarators.{same_names}
 use Rattle.entity_numbers.proofs.Uses.{All, Binds, then_binds, if_binds, unless_then as unless_binds_then, unless_binds}
 use Rattle.entity_numbers.specs.Kinds.{Ties, AreTied, with_tie, AreDeclaredAlike}
-use Rattle.entity_kinds.specs.Laws.{CountsBindNothing}
+use Rattle.bound_slots.specs.Laws.{SizesBindNothing}
 use Rattle.entity_kinds.proofs.Pairs.{Anything, Alike, alike_then, any_then, alike_give, left_refused, right_refused, left_broken, right_broken, alike_if, Never, quiet_then, unless_then, some_then, declares_then}
 use Rattle.entity_kinds.proofs.Initialisers.{initials_alike}
 
@@ -126,7 +126,7 @@ module _ (declaring : Bool) (s u : Scope) where
 
 -- ---- sizes and types of declarators
 
-module _ (counts : CountsBindNothing) where
+module _ (counts : SizesBindNothing) where
   count_quiet : (c : Checked ℕ) → ((n : ℕ) (js : List Binding) → c ≡ fine n js → js ≡ []) → Binds Never c
   count_quiet (fine n js) h = record { all = subst (λ (l : List Binding). All Never l) (sym (h n js refl)) tt }
   count_quiet (refused kind token) h = record { all = tt }

@@ -15,7 +15,7 @@ use Rattle.core_meaning.specs.Declarations.{Based, based, name_in, object_type}
 use Rattle.core_meaning.specs.UnitNames.{UnitState, Members, with_member, declared_member, one_member, members_from, all_members, with_members_at, is_defined_tag, number_of_struct, with_scope, defined_struct, count_functions}
 use Rattle.renamed_programs.specs.Trees.{SameButNames, AllSameButNames, same_leaf, same_node, same_end, same_more}
 use Rattle.entity_numbers.specs.Kinds.{Ties, AreTied}
-use Rattle.entity_kinds.specs.Laws.{CountsBindNothing}
+use Rattle.bound_slots.specs.Laws.{SizesBindNothing}
 use Rattle.entity_kinds.proofs.Pairs.{Anything, Alike, alike_then, any_then, alike_give, left_broken, quiet_then, unless_then, some_then, declares_then}
 use Rattle.entity_kinds.proofs.Declarators.{NameStructs, words_alike, object_quiet}
 
@@ -23,7 +23,7 @@ use Rattle.entity_kinds.proofs.Declarators.{NameStructs, words_alike, object_qui
 abbrev pub AsManyFunctions : Ties → UnitState → UnitState → Type 0
 AsManyFunctions ties x y = count_functions x.defined ≡ count_functions y.defined
 
-module _ (counts : CountsBindNothing) (m n : ℕ) where
+module _ (counts : SizesBindNothing) (m n : ℕ) where
   member_alike :
       (ties : Ties) (s u : Scope) (known others_known : Members) (ty other : PlainType) (kind : Kind) (parts others : PlainTrees) (a b : PlainToken) → AreTied m n ties
       → Alike ties Anything (declared_member s m known ty kind parts a) (declared_member u n others_known other kind others b)
@@ -65,7 +65,7 @@ module _ (counts : CountsBindNothing) (m n : ℕ) where
 
 -- ---- the definition
 
-module _ (counts : CountsBindNothing) where
+module _ (counts : SizesBindNothing) where
   abbrev none_known : Members
   none_known = record { members = []; numbers = no_entry; scalars = 0 }
 

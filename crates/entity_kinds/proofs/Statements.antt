@@ -18,14 +18,14 @@ use Rattle.core_meaning.specs.Declarations.{name_in, based, object_type, with_lo
 use Rattle.core_meaning.specs.Statements.{Around, Judged, items_as, in_block, within_loop, nothing_to_do, discarded, condition_or_true, expression_statement, jump, returned, judged_statement, judged_else, judged_items}
 use Rattle.renamed_programs.specs.Trees.{SameButNames, AllSameButNames, same_leaf, same_node, same_end, same_more}
 use Rattle.entity_numbers.specs.Kinds.{Ties}
-use Rattle.entity_kinds.specs.Laws.{CountsBindNothing}
+use Rattle.bound_slots.specs.Laws.{SizesBindNothing}
 use Rattle.entity_kinds.proofs.Pairs.{Anything, Alike, alike_then, any_then, alike_give, left_broken, alike_if, quiet_then, unless_then, found_then, some_then, declares_then}
 use Rattle.entity_kinds.proofs.Expressions.{valued_alike, judged_condition_alike}
 use Rattle.entity_kinds.proofs.Declarators.{BothTrees, same_sign, NameStructs, words_alike, object_quiet, whole_object_quiet, local_values_alike}
 
 -- ---- locals
 
-module _ (counts : CountsBindNothing) where
+module _ (counts : SizesBindNothing) where
   declared_alike :
       (ties : Ties) (s u : Scope) (slots places : List PlainType) (ty other : PlainType) (kind : Kind) (parts others : PlainTrees) (a b : PlainToken) (o p : Option PlainTree) → BothTrees o p
       → Alike ties Anything (declared_local s slots ty kind parts a o) (declared_local u places other kind others b p)
@@ -124,7 +124,7 @@ item_then :
 item_then ties a b c d rest others h next =
     any_then Anything ties c d _ _ h (λ more_ grows p q. any_then Anything more_ (judged_items a p.slots rest) (judged_items b q.slots others) _ _ (next more_ p.slots q.slots) (λ third grows' v w. alike_give Anything third _ _ tt))
 
-module _ (counts : CountsBindNothing) where
+module _ (counts : SizesBindNothing) where
   mutual
     pub statements_alike :
         {tree other : PlainTree} (ties : Ties) (a b : Around) (slots places : List PlainType) → SameButNames tree other → Alike ties Anything (judged_statement a slots tree) (judged_statement b places other)

@@ -21,7 +21,8 @@ use Rattle.renamed_programs.specs.Trees.{SameButNames, AllSameButNames, same_lea
 use Rattle.renamed_programs.proofs.Expressions.{same_terminals}
 use Rattle.entity_numbers.proofs.Uses.{Binds, if_binds, unless_then as unless_binds_then}
 use Rattle.entity_numbers.specs.Kinds.{Ties}
-use Rattle.entity_kinds.specs.Laws.{CountsBindNothing, KindsAreAlike}
+use Rattle.bound_slots.specs.Laws.{SizesBindNothing}
+use Rattle.entity_kinds.specs.Laws.{KindsAreAlike}
 use Rattle.entity_kinds.proofs.Pairs.{Anything, Sides, Alike, alike_then, any_then, alike_give, left_broken, alike_if, Never, quiet_then, unless_then, some_then, declares_then, alike_function}
 use Rattle.entity_kinds.proofs.Initialisers.{initials_alike}
 use Rattle.entity_kinds.proofs.Declarators.{BothTrees, same_sign, same_behind, NameStructs, words_alike, object_quiet, whole_object_quiet, parameters_alike}
@@ -68,7 +69,7 @@ small_quiet : (o : Option PlainToken) → Binds Never (unless_too_big o)
 small_quiet None = record { all = tt }
 small_quiet (Some name) = record { all = tt }
 
-module _ (counts : CountsBindNothing) where
+module _ (counts : SizesBindNothing) where
   global_quiet : (storage : Storage) (given_ : Bool) (s : Scope) (ty : PlainType) (name : PlainToken) (rest : PlainTrees) → Binds Never (judged_global storage given_ s ty name rest)
   global_quiet storage given_ s ty name rest =
       if_binds Never (may_be_incomplete storage given_ s.structs ty rest && not (is_complete s.structs ty)) _ _ (record { all = tt }) (whole_object_quiet counts s ty name)
@@ -234,7 +235,7 @@ module _ (counts : CountsBindNothing) where
         (λ v w. alike_give AsManyFunctions ties x y i))
     unit_alike structs others numbers more_ derived (same_node e) = absurd derived
 
-pub kinds_are_alike : UnitsAreDerived → CountsBindNothing → KindsAreAlike
+pub kinds_are_alike : UnitsAreDerived → SizesBindNothing → KindsAreAlike
 kinds_are_alike derived counts tree other is e globals count structs others numbers more_ unit after js ks first second =
     let both = (unit_alike counts globals count structs others numbers more_ (derived tree is) e).holds in
     (subst (λ d. Sides AsManyFunctions [] (fine unit js) d) second (subst (λ c. Sides AsManyFunctions [] c (judged_unit count others more_ other)) first both)).0

@@ -1,18 +1,12 @@
 -- What holds of the kinds of entities; each is the contract of a function of this crate.
 use Rattle.std.specs.Prelude.{◌≡◌, ℕ, List, [], IsTrue}
-use Rattle.c_text.specs.Token.{PlainToken}
 use Rattle.c_tree.specs.Trees.{PlainTree}
 use Rattle.c_tree.specs.Grammar.{is_unit}
 use Rattle.core_meaning.specs.Checking.{Binding, fine}
-use Rattle.core_meaning.specs.Entities.{Struct, Numbers, Scope}
-use Rattle.core_meaning.specs.Constancy.{judged_count}
+use Rattle.core_meaning.specs.Entities.{Struct, Numbers}
 use Rattle.core_meaning.specs.UnitNames.{UnitState, judged_unit}
 use Rattle.renamed_programs.specs.Trees.{SameButNames}
 use Rattle.entity_numbers.specs.Kinds.{AreKindsAlike}
-
--- A size is a constant expression (6.6), so it binds no identifier.
-abbrev pub CountsBindNothing : Type 0
-CountsBindNothing = (scope : Scope) (tree : PlainTree) (behind : PlainToken) (count : ℕ) (bindings : List Binding) → judged_count scope tree behind ≡ fine count bindings → bindings ≡ []
 
 -- Where two units that differ only in names are judged well, whatever units stand before them, identifiers at one place are used by expressions,
 -- or stand for things of one kind.

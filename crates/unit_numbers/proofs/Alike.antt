@@ -15,7 +15,8 @@ use Rattle.entity_numbers.specs.Laws.{FirstsAreBoundAlike}
 use Rattle.program_occurrences.specs.Occurrences.{Identifier, identifiers_from, with_entities, or_itself, Occurrence, occurrence_among}
 use Rattle.program_occurrences.specs.Links.{BoundNumber}
 use Rattle.program_occurrences.specs.Laws.{identifier_of, IdentifiersAreBound}
-use Rattle.unit_numbers.specs.Laws.{counts_behind, UnitsAreNumbered, SlotsAreOfFunctions, UsesAreBoundBefore, UnitsBindAlike}
+use Rattle.unit_numbers.specs.Laws.{counts_behind, UnitsAreNumbered, UsesAreBoundBefore, UnitsBindAlike}
+use Rattle.bound_slots.specs.Laws.{SlotsAreOfFunctions}
 use Rattle.entity_kinds.specs.Laws.{KindsAreAlike}
 
 -- ---- each identifier has the entity to which it is bound
@@ -77,4 +78,4 @@ units_bind_alike numbered firsts alike bound kinds slots uses named tree other w
     let second : AreNumbered (counts_behind structs) [] ks =
     subst (λ n. AreNumbered (record { structs = n; members = λ s. 0; slots = λ g. 0 }) [] ks) (sym lengths) (numbered other v.unit count others more_ after ks f) in
     firsts named (counts_behind structs) xs ys js ks x y (in_order (spelled tree) 0 js 0 (omega arith)) (firsts_alike xs ys xs ys same) (numbered tree w.unit globals structs numbers unit js e) second
-    (kinds tree other w.unit differ globals count structs others numbers more_ unit after js ks e f) (slots tree w.unit globals structs numbers unit js e) (uses tree w globals structs numbers unit js e) names
+    (kinds tree other w.unit differ globals count structs others numbers more_ unit after js ks e f) (slots tree globals structs numbers unit js e) (uses tree w globals structs numbers unit js e) names

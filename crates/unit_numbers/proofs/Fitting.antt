@@ -165,7 +165,7 @@ module _ (first : ℕ) where
         record {
           reached = record {
             to = record c { structs = suc c.structs };
-            runs = new (record { unused = refl; of_unit = tt }) (sym h.structs) done;
+            runs = new (record { unused = refl }) (sym h.structs) done;
             holds = record {
               words = record { fits = new_fits tag.text h; blocks = refl; slots = refl; members = refl; more_structs = omega (arith, l); made = tag_from (length s.structs) h.below };
               number = length s.structs;

@@ -22,15 +22,15 @@ use Rattle.bindings.proofs.Types.{Made, MadeSort}
 use Rattle.entity_numbers.proofs.Uses.{Sense, Gives, some_binds}
 use Rattle.entity_numbers.proofs.Slots.{Base, BasedOn, Knows, Slots, no_more as no_slot, known as known_slot, next as next_slot}
 use Rattle.entity_numbers.proofs.Functions.{function_ends, Ended}
-use Rattle.entity_kinds.specs.Laws.{CountsBindNothing}
+use Rattle.bound_slots.specs.Laws.{SizesBindNothing}
 use Rattle.entity_kinds.proofs.Tags.{IsTaggedItem, AreTaggedItems, items_tagged}
-use Rattle.unit_numbers.specs.Laws.{UnitsAreNumbered, SlotsAreOfFunctions}
-use Rattle.unit_numbers.proofs.Runs.{Has, Runs, done, old, new, IfReached, Reaches, reaches_then, reaches_as, reaches_give, known_then, all_old, Reached, runs_are_numbered, runs_are_of_unit, AreCountedBehind, runs_are_counted_behind}
+use Rattle.unit_numbers.specs.Laws.{UnitsAreNumbered}
+use Rattle.unit_numbers.proofs.Runs.{Has, Runs, done, old, new, IfReached, Reaches, reaches_then, reaches_as, reaches_give, known_then, all_old, Reached, runs_are_numbered, AreCountedBehind, runs_are_counted_behind}
 use Rattle.unit_numbers.proofs.Fitting.{tags_from, sense, Fits, fits_base, typed_then, Words, words_take, known_words}
 use Rattle.unit_numbers.proofs.Structs.{Nothing, StructThen, struct_takes}
 use Rattle.unit_numbers.proofs.Names.{Kept, names_declared}
 
-module _ (counts : CountsBindNothing) (first : ℕ) where
+module _ (counts : SizesBindNothing) (first : ℕ) where
   -- ---- functions
 
   -- what is known in a function, but for its slots
@@ -68,7 +68,7 @@ module _ (counts : CountsBindNothing) (first : ℕ) where
       let r = slots_run f c e run s m up in
       record {
         to = r.to;
-        runs = subst (λ x. Runs first d (record b { entity = numbered f x } ∷ map (numbered_binding f) rest) r.to) (sym is) (new (record { unused = unused; of_unit = tt }) (sym l) r.runs);
+        runs = subst (λ x. Runs first d (record b { entity = numbered f x } ∷ map (numbered_binding f) rest) r.to) (sym is) (new (record { unused = unused }) (sym l) r.runs);
         structs = r.structs;
         members = r.members;
         others = λ g other. r.others g other ∙ elsewhere g other;
@@ -220,7 +220,7 @@ module _ (counts : CountsBindNothing) (first : ℕ) where
   small_takes (Some name) unit c h = record { reached = tt }
 
 -- before the first item
-start_between : (counts : CountsBindNothing) (structs : List Struct) (numbers : Numbers) → Between counts (length structs) (unit_start structs numbers) (record { structs = length structs; members = λ s. 0; slots = λ f. 0 })
+start_between : (counts : SizesBindNothing) (structs : List Struct) (numbers : Numbers) → Between counts (length structs) (unit_start structs numbers) (record { structs = length structs; members = λ s. 0; slots = λ f. 0 })
 start_between counts structs numbers = record {
   fits = record {
     structs = refl;
@@ -239,7 +239,7 @@ start_between counts structs numbers = record {
 
 -- what a unit binds, from nothing on
 unit_runs :
-    (counts : CountsBindNothing) (tree : PlainTree) → IsDerived tree → HasNamedFunctions tree → (globals : ℕ) (structs : List Struct) (numbers : Numbers) (unit : UnitState) (js : List Binding)
+    (counts : SizesBindNothing) (tree : PlainTree) → IsDerived tree → HasNamedFunctions tree → (globals : ℕ) (structs : List Struct) (numbers : Numbers) (unit : UnitState) (js : List Binding)
     → judged_unit globals structs numbers tree ≡ fine unit js → Reached (length structs) (Between counts (length structs)) (record { structs = length structs; members = λ s. 0; slots = λ f. 0 }) unit js
 unit_runs counts (leaf token) derived named globals structs numbers unit js e = absurd derived
 unit_runs counts (node k.Unit parts) derived named globals structs numbers unit js e =
@@ -251,16 +251,12 @@ unit_runs counts (node k.Unit parts) derived named globals structs numbers unit 
     subst (λ j. IfReached first (Between counts first) start j) e r.reached
 unit_runs counts (node _ parts) derived named globals structs numbers unit js e = absurd derived
 
-pub units_are_numbered : UnitsAreDerived → UnitsNameParameters → CountsBindNothing → UnitsAreNumbered
+pub units_are_numbered : UnitsAreDerived → UnitsNameParameters → SizesBindNothing → UnitsAreNumbered
 units_are_numbered derived named counts tree is globals structs numbers unit js e =
     let last = unit_runs counts tree (derived tree is) (named tree is) globals structs numbers unit js e in runs_are_numbered (length structs) last.to js last.runs
 
-pub slots_are_of_functions : UnitsAreDerived → UnitsNameParameters → CountsBindNothing → SlotsAreOfFunctions
-slots_are_of_functions derived named counts tree is globals structs numbers unit js e =
-    let last = unit_runs counts tree (derived tree is) (named tree is) globals structs numbers unit js e in runs_are_of_unit (length structs) last.runs
-
 pub uses_are_counted :
-    UnitsAreDerived → UnitsNameParameters → CountsBindNothing → (tree : PlainTree) → IsTrue (is_unit tree) → (globals : ℕ) (structs : List Struct) (numbers : Numbers) (unit : UnitState) (js : List Binding)
+    UnitsAreDerived → UnitsNameParameters → SizesBindNothing → (tree : PlainTree) → IsTrue (is_unit tree) → (globals : ℕ) (structs : List Struct) (numbers : Numbers) (unit : UnitState) (js : List Binding)
     → judged_unit globals structs numbers tree ≡ fine unit js → AreCountedBehind [] js
 uses_are_counted derived named counts tree is globals structs numbers unit js e =
     let last = unit_runs counts tree (derived tree is) (named tree is) globals structs numbers unit js e in runs_are_counted_behind (length structs) last.to js last.runs

@@ -22,10 +22,10 @@ use Rattle.entity_numbers.proofs.Uses.{Sense, Gives, gives_then, gives_if, binds
 use Rattle.entity_numbers.proofs.Initialisers.{made_starred, object_gives, whole_object_binds, initial_binds}
 use Rattle.entity_numbers.proofs.Slots.{Base, BasedOn, local_found}
 use Rattle.entity_numbers.proofs.Functions.{MadeParameter, Keeps, keeps_itself, name_kept, based_in}
-use Rattle.entity_kinds.specs.Laws.{CountsBindNothing}
+use Rattle.bound_slots.specs.Laws.{SizesBindNothing}
 use Rattle.unit_numbers.proofs.Fitting.{known_words}
 
-module _ (K : Sense) (counts : CountsBindNothing) (names : (name : List ℕ) → K.knows (file_entity name)) (own : K.knows own_entity) where
+module _ (K : Sense) (counts : SizesBindNothing) (names : (name : List ℕ) → K.knows (file_entity name)) (own : K.knows own_entity) where
   abbrev MadeParameters : List Parameter → Type 0
   MadeParameters ps = AllMade K.tags (parameter_types ps)
 

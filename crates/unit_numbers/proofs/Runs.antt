@@ -7,7 +7,6 @@ use Rattle.bindings.specs.Judged.{same_entity}
 use Rattle.bindings.proofs.Histories.{same_is}
 use Rattle.entity_numbers.specs.Numbered.{Counts, one_more, with_entity, IsNext, first_place, IsNumbered, counted, AreNumbered}
 use Rattle.entity_numbers.proofs.Uses.{All, Binds}
-use Rattle.entity_numbers.specs.Bound.{IsOfUnit, AreOfUnit}
 
 -- entities that are numbered in the order of the text
 abbrev pub IsCounted : Entity → Type 0
@@ -32,10 +31,9 @@ module _ (first : ℕ) where
   Has c (member_entity s n) = (first ≤ s) × (n < c.members s)
   Has c other = Unit {0}
 
-  -- what declares isn't used by an expression, and is no slot without a function
+  -- what declares isn't used by an expression
   pub record Declares (b : Binding) : Type 0 where
     pub unused : b.in_expression ≡ false
-    pub of_unit : IsOfUnit b.entity
 
   pub data Runs : Counts → List Binding → Counts → Type 0 where
     done : {c : Counts} → Runs c [] c
@@ -322,17 +320,6 @@ module _ (first : ℕ) where
 
   pub runs_are_numbered : (d : Counts) (js : List Binding) → Runs from_nothing js d → AreNumbered from_nothing [] js
   runs_are_numbered d js f = numbered_from f [] none_told
-
-  -- ---- no slot is without a function
-
-  has_of_unit : (c : Counts) (e : Entity) → Has c e → IsOfUnit e
-  has_of_unit c (local_entity slot) h = h
-  has_of_unit c _ h = tt
-
-  pub runs_are_of_unit : {c d : Counts} {js : List Binding} → Runs c js d → AreOfUnit js
-  runs_are_of_unit done = tt
-  runs_are_of_unit (old {c = c} {b = b} h f) = (has_of_unit c b.entity h, runs_are_of_unit f)
-  runs_are_of_unit (new d n f) = (d.of_unit, runs_are_of_unit f)
 
   -- ---- what expressions use is bound before, where it is numbered
 

@@ -1,5 +1,5 @@
 -- What expressions use is bound before: slots and members as they are numbered, names of file scope as units are read.
-use Rattle.std.proofs.Common.{◌≡◌, ℕ, ◌<◌, Bool, true, false, List, [], ◌∷◌, ◌++◌, refl, sym, ap, subst, ◌∙◌, IsTrue, arith}
+use Rattle.std.proofs.Common.{◌≡◌, ℕ, ◌<◌, Bool, true, false, List, [], ◌∷◌, ◌++◌, refl, ap, ◌∙◌, arith}
 use Rattle.std.specs.Prelude.{None, ◌&&◌}
 use Rattle.std.specs.List.{AllZip, AllByRecursion}
 use Rattle.core_meaning.specs.Checking.{Entity, local_entity, local_of_function, file_entity, struct_entity, member_entity, own_entity, Binding}
@@ -15,9 +15,10 @@ use Rattle.entity_numbers.specs.Kinds.{Ties, with_tie, IsUsable, AreMeantAlike, 
 use Rattle.entity_numbers.specs.Bound.{IsOfUnit, AreOfUnit, AreUsedBehind}
 use Rattle.entity_numbers.specs.Laws.{UnitsNameParameters}
 use Rattle.entity_numbers.proofs.Places.{is_first, of_more}
-use Rattle.entity_kinds.specs.Laws.{CountsBindNothing, KindsAreAlike}
+use Rattle.bound_slots.specs.Laws.{SizesBindNothing, SlotsAreOfFunctions}
+use Rattle.entity_kinds.specs.Laws.{KindsAreAlike}
 use Rattle.entity_kinds.proofs.Counts.{itself}
-use Rattle.unit_numbers.specs.Laws.{SlotsAreOfFunctions, UsesAreBoundBefore}
+use Rattle.unit_numbers.specs.Laws.{UsesAreBoundBefore}
 use Rattle.unit_numbers.proofs.Runs.{IsCounted, AreCountedBehind}
 use Rattle.unit_numbers.proofs.Items.{uses_are_counted}
 
@@ -63,8 +64,8 @@ used_from seen before ties (o ∷ os) (j ∷ js) of_ alike used uses counted of_
   used_from (seen ++ identified o j ∷ []) (before ++ j ∷ []) (with_tie ties j.entity j.entity) os js (of_more seen before (identified o j) j of_ refl) alike.1 used.1 uses.1 counted.1 of_unit.1 kinds.1,
 )
 
-pub uses_are_bound_before : UnitsAreDerived → UnitsNameParameters → CountsBindNothing → KindsAreAlike → SlotsAreOfFunctions → JudgementsBindAlike → FileNamesAreUsedAlike → UsesAreOfBefore → UsesAreBoundBefore
+pub uses_are_bound_before : UnitsAreDerived → UnitsNameParameters → SizesBindNothing → KindsAreAlike → SlotsAreOfFunctions → JudgementsBindAlike → FileNamesAreUsedAlike → UsesAreOfBefore → UsesAreBoundBefore
 uses_are_bound_before derived named counts kinds slots alike files uses tree w globals structs numbers unit js e =
     used_from [] [] [] (bindings_of tree) js tt (alike tree w globals structs numbers unit js e) (files.each tree w globals structs numbers unit js e) (uses tree)
-    (uses_are_counted derived named counts tree w.unit globals structs numbers unit js e) (slots tree w.unit globals structs numbers unit js e)
+    (uses_are_counted derived named counts tree w.unit globals structs numbers unit js e) (slots tree globals structs numbers unit js e)
     (kinds tree tree w.unit (itself tree) globals globals structs structs numbers numbers unit unit js js e e)

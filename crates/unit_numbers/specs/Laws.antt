@@ -9,7 +9,7 @@ use Rattle.bindings.specs.Laws.{IsWritten}
 use Rattle.renamed_programs.specs.Trees.{SameButNames}
 use Rattle.renamed_programs.specs.Entities.{Correspondence, AreBoundAlike}
 use Rattle.entity_numbers.specs.Numbered.{Counts, AreNumbered, AreNamedSo}
-use Rattle.entity_numbers.specs.Bound.{AreOfUnit, AreUsedBehind}
+use Rattle.entity_numbers.specs.Bound.{AreUsedBehind}
 use Rattle.program_occurrences.specs.Occurrences.{names_of_unit}
 use Rattle.program_occurrences.specs.Links.{bound_numbers}
 
@@ -23,13 +23,7 @@ UnitsAreNumbered =
     (tree : PlainTree) → IsTrue (is_unit tree) → (globals : ℕ) (structs : List Struct) (numbers : Numbers) (unit : UnitState) (bindings : List Binding)
     → judged_unit globals structs numbers tree ≡ fine unit bindings → AreNumbered (counts_behind structs) [] bindings
 
--- There no identifier is bound to a slot without a function,
-abbrev pub SlotsAreOfFunctions : Type 0
-SlotsAreOfFunctions =
-    (tree : PlainTree) → IsTrue (is_unit tree) → (globals : ℕ) (structs : List Struct) (numbers : Numbers) (unit : UnitState) (bindings : List Binding)
-    → judged_unit globals structs numbers tree ≡ fine unit bindings → AreOfUnit bindings
-
--- and what an expression uses is bound before it.
+-- There what an expression uses is bound before it.
 abbrev pub UsesAreBoundBefore : Type 0
 UsesAreBoundBefore =
     (tree : PlainTree) → IsWritten tree → (globals : ℕ) (structs : List Struct) (numbers : Numbers) (unit : UnitState) (bindings : List Binding)

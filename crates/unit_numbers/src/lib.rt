@@ -2,8 +2,8 @@
 //! `specs/`) and the laws, the contracts of functions without a body.
 #![tactic(auto)]
 
-ghost use Rattle.unit_numbers.specs.Laws.{UnitsAreNumbered, SlotsAreOfFunctions, UsesAreBoundBefore, UnitsBindAlike};
-ghost use Rattle.unit_numbers.specs.Rows.{EntitiesAreNumbered, NumbersGoOn, NoneIsLeftOut};
+ghost use Rattle.unit_numbers.specs.Laws.{UnitsAreNumbered, UsesAreBoundBefore, UnitsBindAlike};
+ghost use Rattle.unit_numbers.specs.Rows.{EntitiesAreNumbered, NumbersGoOn, NoneIsLeftOut, KindsStandAtPlaces, MembersAreOfTiedStructs};
 
 /// In a unit of the grammar that is judged well, each entity has the next number of its kind where an identifier is first bound to it:
 /// structs behind those of the units before, members from the first of their struct on, slots from the first of their function on.
@@ -12,28 +12,18 @@ pub fn units_are_numbered()
 {
     tree_derivations::units_are_derived();
     entity_numbers::units_name_parameters();
-    entity_kinds::counts_bind_nothing();
+    bound_slots::sizes_bind_nothing();
 }
 
-/// There no identifier is bound to a slot without a function: the parameters of a declaration that defines none are their own, and
-/// sizes bind nothing.
-pub fn slots_are_of_functions()
-    ensures { SlotsAreOfFunctions }
-{
-    tree_derivations::units_are_derived();
-    entity_numbers::units_name_parameters();
-    entity_kinds::counts_bind_nothing();
-}
-
-/// And what an expression uses is bound before: slots and members as they are numbered, names of file scope as units are read.
+/// There what an expression uses is bound before: slots and members as they are numbered, names of file scope as units are read.
 pub fn uses_are_bound_before()
     ensures { UsesAreBoundBefore }
 {
     tree_derivations::units_are_derived();
     entity_numbers::units_name_parameters();
-    entity_kinds::counts_bind_nothing();
+    bound_slots::sizes_bind_nothing();
     entity_kinds::kinds_are_alike();
-    slots_are_of_functions();
+    bound_slots::slots_are_of_functions();
     bindings::judgements_bind_alike();
     bindings::file_names_are_used_alike();
     bound_names::uses_are_of_before();
@@ -49,7 +39,7 @@ pub fn units_bind_alike()
     bindings::judgements_bind_alike();
     program_occurrences::identifiers_are_bound();
     entity_kinds::kinds_are_alike();
-    slots_are_of_functions();
+    bound_slots::slots_are_of_functions();
     uses_are_bound_before();
 }
 
@@ -58,4 +48,6 @@ pub fn worked_rows()
     ensures numbered { EntitiesAreNumbered }
     ensures further { NumbersGoOn }
     ensures none { NoneIsLeftOut }
+    ensures kinds { KindsStandAtPlaces }
+    ensures members { MembersAreOfTiedStructs }
 {}
