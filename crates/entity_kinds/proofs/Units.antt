@@ -45,7 +45,7 @@ one_more (x ∷ ds) d =
     let e : m + (count_functions ds + n) ≡ (m + count_functions ds) + n = omega arith in
     ap (λ l. m + l) (one_more ds d) ∙ e
 
-still_as_many : (ds es : List Defined) (d e : Defined) → is_function_body d.body ≡ is_function_body e.body → count_functions ds ≡ count_functions es → count_functions (ds ++ d ∷ []) ≡ count_functions (es ++ e ∷ [])
+pub still_as_many : (ds es : List Defined) (d e : Defined) → is_function_body d.body ≡ is_function_body e.body → count_functions ds ≡ count_functions es → count_functions (ds ++ d ∷ []) ≡ count_functions (es ++ e ∷ [])
 still_as_many ds es d e same_ h =
     one_more ds d ∙ ap (λ n. n + (if is_function_body d.body then 1 else 0)) h ∙ ap (λ (b : Bool). count_functions es + (if b then 1 else 0)) same_ ∙ sym (one_more es e)
 

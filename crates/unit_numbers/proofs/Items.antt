@@ -15,7 +15,7 @@ use Rattle.core_meaning.specs.Expressions.{has_terminal}
 use Rattle.core_meaning.specs.Declarations.{based, name_in, behind_word}
 use Rattle.core_meaning.specs.UnitNames.{Defined, function_body, is_function_body, UnitState, Storage, storage_of, with_scope, declared_from, defined_function, count_functions, judged_item, judged_file_items, unit_start, too_big_in, unless_too_big, judged_unit}
 use Rattle.tree_derivations.specs.Derivations.{IsDerived, UnitsAreDerived}
-use Rattle.entity_numbers.specs.Numbered.{Counts, one_more as counted_more}
+use Rattle.entity_numbers.specs.Numbered.{Counts, first_place, one_more as counted_more}
 use Rattle.entity_numbers.specs.Slots.{HasNamedParameters, IsNamedFunction, AreNamedFunctions, HasNamedFunctions}
 use Rattle.entity_numbers.specs.Laws.{UnitsNameParameters}
 use Rattle.bindings.proofs.Types.{Made, MadeSort}
@@ -25,7 +25,7 @@ use Rattle.entity_numbers.proofs.Functions.{function_ends, Ended}
 use Rattle.bound_slots.specs.Laws.{SizesBindNothing}
 use Rattle.entity_kinds.proofs.Tags.{IsTaggedItem, AreTaggedItems, items_tagged}
 use Rattle.unit_numbers.specs.Laws.{UnitsAreNumbered}
-use Rattle.unit_numbers.proofs.Runs.{Has, Runs, done, old, new, IfReached, Reaches, reaches_then, reaches_as, reaches_give, known_then, all_old, Reached, runs_are_numbered, AreCountedBehind, runs_are_counted_behind}
+use Rattle.unit_numbers.proofs.Runs.{Has, Runs, done, old, new, IfReached, Reaches, reaches_then, reaches_as, reaches_give, known_then, all_old, Reached, runs_are_numbered, runs_bind_structs, runs_bind_no_more, AreCountedBehind, runs_are_counted_behind}
 use Rattle.unit_numbers.proofs.Fitting.{tags_from, sense, Fits, fits_base, typed_then, Words, words_take, known_words}
 use Rattle.unit_numbers.proofs.Structs.{Nothing, StructThen, struct_takes}
 use Rattle.unit_numbers.proofs.Names.{Kept, names_declared}
@@ -260,3 +260,21 @@ pub uses_are_counted :
     → judged_unit globals structs numbers tree ≡ fine unit js → AreCountedBehind [] js
 uses_are_counted derived named counts tree is globals structs numbers unit js e =
     let last = unit_runs counts tree (derived tree is) (named tree is) globals structs numbers unit js e in runs_are_counted_behind (length structs) last.to js last.runs
+
+-- the structs of a unit are those that it binds, behind those of the units before
+pub record BindsStructs (before behind : ℕ) (js : List Binding) : Type 0 where
+  pub own : (m : ℕ) → before ≤ m → m < behind → first_place (struct_entity m) js ≡ None → ⊥
+  pub others : (m : ℕ) → behind ≤ m → first_place (struct_entity m) js ≡ None
+  pub no_fewer : before ≤ behind
+
+pub units_bind_structs :
+    UnitsAreDerived → UnitsNameParameters → SizesBindNothing → (tree : PlainTree) → IsTrue (is_unit tree) → (globals : ℕ) (structs : List Struct) (numbers : Numbers) (unit : UnitState) (js : List Binding)
+    → judged_unit globals structs numbers tree ≡ fine unit js → BindsStructs (length structs) (length unit.scope.structs) js
+units_bind_structs derived named counts tree is globals structs numbers unit js e =
+    let last = unit_runs counts tree (derived tree is) (named tree is) globals structs numbers unit js e in
+    let many : last.to.structs ≡ length unit.scope.structs = last.holds.fits.structs in
+    record {
+      own = λ m own less none_. runs_bind_structs (length structs) last.to js last.runs m own (subst (λ n. m < n) (sym many) less) none_;
+      others = λ m more_. runs_bind_no_more (length structs) last.to js last.runs m (subst (λ n. n ≤ m) (sym many) more_);
+      no_fewer = last.holds.fits.below;
+    }

@@ -5,3 +5,4 @@ pub mod Names
 pub mod Items
 pub mod Uses
 pub mod Alike
+pub mod Many

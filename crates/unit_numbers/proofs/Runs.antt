@@ -1,6 +1,7 @@
 -- From what is taken up to a place of a unit to what is taken up to another: what is bound between them is known, or is next.
 use Rattle.std.proofs.Common.{◌≡◌, inl, inr, ℕ, zero, suc, ◌≤◌, ◌<◌, Bool, true, false, List, [], ◌∷◌, ◌++◌, refl, sym, ap, subst, ◌∙◌, arith}
 use Rattle.std.specs.Prelude.{◌⊎◌, Option, Some, None, option_map, ◌==◌, ◌&&◌, if◌then◌else◌}
+use Rattle.std.proofs.lemmas.List.{append_assoc, append-nil}
 use Rattle.std.proofs.lemmas.Bool.{eq-eqb, eqb-true, and_from, false≢true}
 use Rattle.core_meaning.specs.Checking.{Entity, local_entity, local_of_function, file_entity, struct_entity, member_entity, own_entity, Binding, Checked, fine, refused, broken, with_bindings, ◌>>=◌, give}
 use Rattle.bindings.specs.Judged.{same_entity}
@@ -338,3 +339,18 @@ module _ (first : ℕ) where
 
   pub runs_are_counted_behind : (d : Counts) (js : List Binding) → Runs from_nothing js d → AreCountedBehind [] js
   runs_are_counted_behind d js f = used_from f [] none_told
+
+  -- ---- which structs are bound
+
+  told_behind : {c d : Counts} {js : List Binding} → Runs c js d → (before : List Binding) → Told c before → Told d (before ++ js)
+  told_behind (done {c = c}) before t = subst (Told c) (sym (append-nil before)) t
+  told_behind (old {c = c} {d = d} {b = b} {rest = rest} h f) before t =
+      subst (Told d) (append_assoc before (b ∷ []) rest) (told_behind f (before ++ b ∷ []) (still_told c before b (not_both c b.entity h) t))
+  told_behind (new {c = c} {d = d} {b = b} {rest = rest} e n f) before t =
+      subst (Told d) (append_assoc before (b ∷ []) rest) (told_behind f (before ++ b ∷ []) (next_told c before b n t))
+
+  pub runs_bind_structs : (d : Counts) (js : List Binding) → Runs from_nothing js d → (m : ℕ) → first ≤ m → m < d.structs → first_place (struct_entity m) js ≡ None → ⊥
+  runs_bind_structs d js f m own less none_ = (told_behind f [] none_told).seen (struct_entity m) (own, less) none_
+
+  pub runs_bind_no_more : (d : Counts) (js : List Binding) → Runs from_nothing js d → (m : ℕ) → d.structs ≤ m → first_place (struct_entity m) js ≡ None
+  runs_bind_no_more d js f m more_ = (told_behind f [] none_told).unseen (struct_entity m) more_

@@ -39,3 +39,11 @@ UnitsBindAlike =
     → judged_unit globals structs numbers tree ≡ fine unit bindings → judged_unit count others more other ≡ fine after behind
     → bound_numbers (names_of_unit tree (fine unit bindings)) ≡ bound_numbers (names_of_unit other (fine after behind))
     → AreNamedSo named bindings behind → AreBoundAlike named bindings behind
+
+-- Two units that bind alike, behind as many structs, leave as many behind.
+abbrev pub UnitsLeaveAsManyStructs : Type 0
+UnitsLeaveAsManyStructs =
+    (named : Correspondence) (tree other : PlainTree) → IsTrue (is_unit tree) → IsTrue (is_unit other) → (globals count : ℕ) (structs others : List Struct) (numbers more : Numbers)
+    (unit after : UnitState) (bindings behind : List Binding) → length structs ≡ length others
+    → judged_unit globals structs numbers tree ≡ fine unit bindings → judged_unit count others more other ≡ fine after behind
+    → AreBoundAlike named bindings behind → length unit.scope.structs ≡ length after.scope.structs

@@ -2,7 +2,7 @@
 //! `specs/`) and the laws, the contracts of functions without a body.
 #![tactic(auto)]
 
-ghost use Rattle.unit_numbers.specs.Laws.{UnitsAreNumbered, UsesAreBoundBefore, UnitsBindAlike};
+ghost use Rattle.unit_numbers.specs.Laws.{UnitsAreNumbered, UsesAreBoundBefore, UnitsBindAlike, UnitsLeaveAsManyStructs};
 ghost use Rattle.unit_numbers.specs.Rows.{EntitiesAreNumbered, NumbersGoOn, NoneIsLeftOut, KindsStandAtPlaces, MembersAreOfTiedStructs};
 
 /// In a unit of the grammar that is judged well, each entity has the next number of its kind where an identifier is first bound to it:
@@ -41,6 +41,15 @@ pub fn units_bind_alike()
     entity_kinds::kinds_are_alike();
     bound_slots::slots_are_of_functions();
     uses_are_bound_before();
+}
+
+/// Two units that bind alike, behind as many structs, leave as many behind: those that they bind.
+pub fn units_leave_as_many_structs()
+    ensures { UnitsLeaveAsManyStructs }
+{
+    tree_derivations::units_are_derived();
+    entity_numbers::units_name_parameters();
+    bound_slots::sizes_bind_nothing();
 }
 
 /// What identifiers of units by hand are bound to.
