@@ -1,2 +1,4 @@
+mod Walks
 pub mod Steps
 pub mod Readings
+mod Before

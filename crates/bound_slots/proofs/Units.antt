@@ -2,9 +2,7 @@
 -- holds of all trees.
 use Rattle.std.proofs.Common.{◌≡◌, ℕ, Bool, true, false, List, [], ◌∷◌, ◌++◌, refl, sym, subst, ◌∙◌, length}
 use Rattle.std.specs.Prelude.{Option, Some, None, is_some, map, not, ◌&&◌}
-use Rattle.std.specs.List.{AllByRecursion}
 use Rattle.std.proofs.lemmas.Option.{none-some}
-use Rattle.std.proofs.lemmas.List.Elements.{All-from_recursion}
 use Rattle.c_text.specs.Token.{PlainToken}
 use Rattle.c_types.specs.Types.{PlainType, pointer_to}
 use Rattle.c_tree.specs.declared.kinds.Kind.{Kind}
@@ -25,7 +23,8 @@ use Rattle.bindings.proofs.Types.{Made}
 use Rattle.entity_numbers.proofs.Blocks.{every_tag, all_made, any_base}
 use Rattle.entity_numbers.proofs.Uses.{All, AllOf, Binds, Gives, Allows, then_binds, if_binds, gives, unless_then, unless_binds, some_then, gives_then, gives_binds, binds_give, gives_if, some_gives}
 use Rattle.entity_numbers.proofs.Initialisers.{object_gives, whole_object_binds, initial_binds}
-use Rattle.bound_slots.specs.Laws.{IsNoFreeSlot, SlotsAreOfFunctions}
+use Rattle.entity_numbers.specs.Bound.{IsOfUnit, AreOfUnit}
+use Rattle.bound_slots.specs.Laws.{SlotsAreOfFunctions}
 use Rattle.bound_slots.proofs.Constants.{Only}
 use Rattle.bound_slots.proofs.Sizes.{size_quiet}
 
@@ -34,7 +33,7 @@ use Rattle.bound_slots.proofs.Sizes.{size_quiet}
 abbrev IsOutside : Scope → Type 0
 IsOutside s = s.blocks ≡ []
 
-allows : (s : Scope) → IsOutside s → Allows IsNoFreeSlot every_tag s
+allows : (s : Scope) → IsOutside s → Allows IsOfUnit every_tag s
 allows s out = record {
   locals = λ name l e. absurd (none-some l (subst (λ bs. local_in bs name ≡ Some l) out e));
   files = λ name n e. (tt, ((any_base s).files name n e).1);
@@ -42,21 +41,21 @@ allows s out = record {
 }
 
 abbrev Free : {A : Type 0} → Checked A → Type 0
-Free c = Binds IsNoFreeSlot c
+Free c = Binds IsOfUnit c
 
 abbrev Leaves : {A : Type 0} → (A → Type 0) → Checked A → Type 0
-Leaves P c = Gives IsNoFreeSlot P c
+Leaves P c = Gives IsOfUnit P c
 
 -- one judgement, and then another that leaves this
 then_leaves : {A B : Type 0} (P : B → Type 0) (c : Checked A) (f : A → Checked B) → Free c → ((x : A) → Leaves P (f x)) → Leaves P (c >>= f)
-then_leaves P c f h g = gives_then IsNoFreeSlot Anything P c f (binds_give IsNoFreeSlot c h) (λ x y. g x)
+then_leaves P c f h g = gives_then IsOfUnit Anything P c f (binds_give IsOfUnit c h) (λ x y. g x)
 
 -- the same, where this holds of its result
 after_leaves : {A B : Type 0} (Q : A → Type 0) (P : B → Type 0) (c : Checked A) (f : A → Checked B) → Leaves Q c → ((x : A) → Q x → Leaves P (f x)) → Leaves P (c >>= f)
-after_leaves Q P c f h g = gives_then IsNoFreeSlot Q P c f h g
+after_leaves Q P c f h g = gives_then IsOfUnit Q P c f h g
 
 after_free : {A B : Type 0} (Q : A → Type 0) (c : Checked A) (f : A → Checked B) → Leaves Q c → ((x : A) → Q x → Free (f x)) → Free (c >>= f)
-after_free Q c f h g = gives_binds IsNoFreeSlot Anything (c >>= f) (after_leaves Q Anything c f h (λ x q. binds_give IsNoFreeSlot (f x) (g x q)))
+after_free Q c f h g = gives_binds IsOfUnit Anything (c >>= f) (after_leaves Q Anything c f h (λ x q. binds_give IsOfUnit (f x) (g x q)))
 
 leaves : {A : Type 0} (P : A → Type 0) (x : A) → P x → Leaves P (give x)
 leaves P x h = record { given_ = (tt, h) }
@@ -73,11 +72,11 @@ tag_leaves true s tag None = record { given_ = ((tt, tt), refl) }
 
 words_leave : (declaring : Bool) (s : Scope) (words : PlainTrees) → Leaves (HasBlocksOf s) (based declaring s words)
 words_leave declaring s words =
-    gives_if IsNoFreeSlot (HasBlocksOf s) (has_terminal t.Struct words) _ _
-    (some_gives IsNoFreeSlot (HasBlocksOf s) (name_in words) (λ tag. based_on_tag declaring s tag (s.tags tag.text)) (λ tag. tag_leaves declaring s tag (s.tags tag.text))) (record { given_ = (tt, refl) })
+    gives_if IsOfUnit (HasBlocksOf s) (has_terminal t.Struct words) _ _
+    (some_gives IsOfUnit (HasBlocksOf s) (name_in words) (λ tag. based_on_tag declaring s tag (s.tags tag.text)) (λ tag. tag_leaves declaring s tag (s.tags tag.text))) (record { given_ = (tt, refl) })
 
 type_free : (s : Scope) → IsOutside s → (ty : PlainType) (kind : Kind) (parts : PlainTrees) (name : PlainToken) (o : Option PlainTree) → Free (object_type s ty kind parts name o)
-type_free s out ty kind parts name o = gives_binds IsNoFreeSlot (Made every_tag) (object_type s ty kind parts name o) (object_gives IsNoFreeSlot every_tag s (allows s out) ty kind parts name o (all_made ty))
+type_free s out ty kind parts name o = gives_binds IsOfUnit (Made every_tag) (object_type s ty kind parts name o) (object_gives IsOfUnit every_tag s (allows s out) ty kind parts name o (all_made ty))
 
 -- ---- parameters of a declaration
 
@@ -85,7 +84,7 @@ size_free : (s : Scope) (tree : PlainTree) (behind : PlainToken) → Free (judge
 size_free s tree behind = by (judged_count s tree behind) (size_quiet s tree behind)
   where
     by : (c : Checked ℕ) → Only (Unit {0} × Unit {0}) (λ n. true) c → Free c
-    by (fine n js) h = record { all = subst (All IsNoFreeSlot) (sym (h.only refl).1) tt }
+    by (fine n js) h = record { all = subst (All IsOfUnit) (sym (h.only refl).1) tt }
     by (refused kind token) h = record { all = tt }
     by broken h = record { all = tt }
 
@@ -95,28 +94,28 @@ given_size_free s name (Some size) = size_free s size name
 
 parameter_type_free : (s : Scope) (ty : PlainType) (kind : Kind) (parts : PlainTrees) (name : PlainToken) → Free (parameter_type s ty kind parts name)
 parameter_type_free s ty k.ArrayDeclarator parts name =
-    unless_then IsNoFreeSlot (is_complete s.structs (starred parts ty)) Incomplete name _
-    (λ x. then_binds IsNoFreeSlot (size_of_parameter s name (behind_word t.OpenBracket parts)) _
-    (if_binds IsNoFreeSlot (is_left_out (behind_word t.OpenBracket parts)) _ _ (gives IsNoFreeSlot 0) (given_size_free s name (behind_word t.OpenBracket parts)))
-    (λ count. gives IsNoFreeSlot (pointer_to (starred parts ty))))
+    unless_then IsOfUnit (is_complete s.structs (starred parts ty)) Incomplete name _
+    (λ x. then_binds IsOfUnit (size_of_parameter s name (behind_word t.OpenBracket parts)) _
+    (if_binds IsOfUnit (is_left_out (behind_word t.OpenBracket parts)) _ _ (gives IsOfUnit 0) (given_size_free s name (behind_word t.OpenBracket parts)))
+    (λ count. gives IsOfUnit (pointer_to (starred parts ty))))
 parameter_type_free s ty k.Declarator parts name = record { all = tt }
 parameter_type_free s ty _ parts name = record { all = tt }
 
 judged_free : (s : Scope) (ty : PlainType) (at : PlainToken) → Free (judged_parameter false s ty at)
-judged_free s ty at = unless_then IsNoFreeSlot (may_be_parameter false s ty) Incomplete at _ (λ x. unless_binds IsNoFreeSlot (is_small s.structs ty) BadConstant at)
+judged_free s ty at = unless_then IsOfUnit (may_be_parameter false s ty) Incomplete at _ (λ x. unless_binds IsOfUnit (is_small s.structs ty) BadConstant at)
 
 own_free : (o : Option PlainToken) → Free (declares_name o own_entity)
 own_free None = record { all = tt }
 own_free (Some name) = record { all = (tt, tt) }
 
 declared_free : (s : Scope) (before : List Parameter) (ty : PlainType) (first : PlainToken) (tree : PlainTree) → Free (declared_parameter false s before ty first tree)
-declared_free s before ty first (node k.Absent parts) = then_binds IsNoFreeSlot (judged_parameter false s ty first) _ (judged_free s ty first) (λ x. gives IsNoFreeSlot (record { name = None; ty = ty }))
+declared_free s before ty first (node k.Absent parts) = then_binds IsOfUnit (judged_parameter false s ty first) _ (judged_free s ty first) (λ x. gives IsOfUnit (record { name = None; ty = ty }))
 declared_free s before ty first (node kind parts) =
-    unless_then IsNoFreeSlot (is_new_parameter before (name_in parts)) Redeclared (token_of (name_in parts) first) _
-    (λ x. then_binds IsNoFreeSlot (declares_name (name_in parts) own_entity) _ (own_free (name_in parts))
-    (λ bound. then_binds IsNoFreeSlot (parameter_type s ty kind parts (token_of (name_in parts) first)) _ (parameter_type_free s ty kind parts (token_of (name_in parts) first))
-    (λ whole. then_binds IsNoFreeSlot (judged_parameter false s whole (token_of (name_in parts) first)) _ (judged_free s whole (token_of (name_in parts) first))
-    (λ y. gives IsNoFreeSlot (record { name = name_in parts; ty = whole })))))
+    unless_then IsOfUnit (is_new_parameter before (name_in parts)) Redeclared (token_of (name_in parts) first) _
+    (λ x. then_binds IsOfUnit (declares_name (name_in parts) own_entity) _ (own_free (name_in parts))
+    (λ bound. then_binds IsOfUnit (parameter_type s ty kind parts (token_of (name_in parts) first)) _ (parameter_type_free s ty kind parts (token_of (name_in parts) first))
+    (λ whole. then_binds IsOfUnit (judged_parameter false s whole (token_of (name_in parts) first)) _ (judged_free s whole (token_of (name_in parts) first))
+    (λ y. gives IsOfUnit (record { name = name_in parts; ty = whole })))))
 declared_free s before ty first (leaf token) = record { all = tt }
 
 one_free : (s : Scope) (before : List Parameter) (tree : PlainTree) (behind : PlainToken) → Free (one_parameter false s before tree behind)
@@ -127,13 +126,13 @@ one_free s before _ behind = record { all = tt }
 
 list_free : (parts : PlainTrees) (s : Scope) (before : List Parameter) (behind : PlainToken) → Free (parameters_from false s before parts behind)
 list_free none s before behind = record { all = tt }
-list_free (more tree none) s before behind = then_binds IsNoFreeSlot (one_parameter false s before tree behind) _ (one_free s before tree behind) (λ p. gives IsNoFreeSlot (before ++ p ∷ []))
+list_free (more tree none) s before behind = then_binds IsOfUnit (one_parameter false s before tree behind) _ (one_free s before tree behind) (λ p. gives IsOfUnit (before ++ p ∷ []))
 list_free (more tree (more comma rest)) s before behind =
-    then_binds IsNoFreeSlot (one_parameter false s before tree behind) _ (one_free s before tree behind)
+    then_binds IsOfUnit (one_parameter false s before tree behind) _ (one_free s before tree behind)
     (λ p. list_free rest (with_parameter s (length before) p.name p.ty) (before ++ p ∷ []) behind)
 
 all_free : (s : Scope) (tree : PlainTree) (behind : PlainToken) → Free (parameters_in false s tree behind)
-all_free s (node k.Parameters parts) behind = if_binds IsNoFreeSlot (is_lone_void parts) _ _ (record { all = tt }) (list_free parts (with_block s) [] behind)
+all_free s (node k.Parameters parts) behind = if_binds IsOfUnit (is_lone_void parts) _ _ (record { all = tt }) (list_free parts (with_block s) [] behind)
 all_free s _ behind = record { all = tt }
 
 parameters_free : (s : Scope) (o : Option PlainTree) (behind : PlainToken) → Free (parameters_of false s o behind)
@@ -148,7 +147,7 @@ SameBlocks s x = x.blocks ≡ s.blocks
 as_leaves : (s : Scope) (name : PlainToken) (sort : Sort) (internal : Bool) (o : Option FileName) → Leaves (SameBlocks s) (declared_as s name sort internal o)
 as_leaves s name sort internal (Some visible) =
     then_leaves (SameBlocks s) (unless_so (same_sort visible.sort sort && same_bool visible.internal internal) Redeclared name) (λ same. give s)
-    (unless_binds IsNoFreeSlot (same_sort visible.sort sort && same_bool visible.internal internal) Redeclared name) (λ x. leaves (SameBlocks s) s refl)
+    (unless_binds IsOfUnit (same_sort visible.sort sort && same_bool visible.internal internal) Redeclared name) (λ x. leaves (SameBlocks s) s refl)
 as_leaves s name sort internal None = record { given_ = (tt, refl) }
 
 name_leaves : (s : Scope) (name : PlainToken) (sort : Sort) (storage : Storage) → Leaves (SameBlocks s) (with_name s name sort storage)
@@ -160,14 +159,14 @@ StaysOutside unit = IsOutside unit.scope
 
 global_free : (storage : Storage) (initialised : Bool) (s : Scope) → IsOutside s → (ty : PlainType) (name : PlainToken) (rest : PlainTrees) → Free (judged_global storage initialised s ty name rest)
 global_free storage initialised s out ty name rest =
-    if_binds IsNoFreeSlot (may_be_incomplete storage initialised s.structs ty rest && not (is_complete s.structs ty)) _ _ (record { all = tt }) (whole_object_binds IsNoFreeSlot every_tag s (allows s out) ty name)
+    if_binds IsOfUnit (may_be_incomplete storage initialised s.structs ty rest && not (is_complete s.structs ty)) _ _ (record { all = tt }) (whole_object_binds IsOfUnit every_tag s (allows s out) ty name)
 
 value_leaves :
     (globals : ℕ) (unit : UnitState) → StaysOutside unit → (ty : PlainType) (name : PlainToken) (initialiser : PlainTree)
     → Leaves StaysOutside (initial unit.scope (Some globals) ty [] initialiser name >>= (λ parts. or_broken (constant_parts globals parts) >>= (λ values. give (with_defined unit name.text (object_body values)))))
 value_leaves globals unit out ty name initialiser =
-    then_leaves StaysOutside (initial unit.scope (Some globals) ty [] initialiser name) _ (initial_binds IsNoFreeSlot every_tag unit.scope (allows unit.scope out) (Some globals) ty [] initialiser name)
-    (λ parts. some_gives IsNoFreeSlot StaysOutside (constant_parts globals parts) (λ values. give (with_defined unit name.text (object_body values))) (λ values. leaves StaysOutside (with_defined unit name.text (object_body values)) out))
+    then_leaves StaysOutside (initial unit.scope (Some globals) ty [] initialiser name) _ (initial_binds IsOfUnit every_tag unit.scope (allows unit.scope out) (Some globals) ty [] initialiser name)
+    (λ parts. some_gives IsOfUnit StaysOutside (constant_parts globals parts) (λ values. give (with_defined unit name.text (object_body values))) (λ values. leaves StaysOutside (with_defined unit name.text (object_body values)) out))
 
 definition_leaves : (globals : ℕ) (unit : UnitState) → StaysOutside unit → (storage : Storage) (ty : PlainType) (name : PlainToken) (o : Option PlainTree) → Leaves StaysOutside (defined_object globals unit storage ty name o)
 definition_leaves globals unit out by_extern ty name None = record { given_ = (tt, out) }
@@ -198,7 +197,7 @@ no_value_free (Some value) name = record { all = tt }
 
 new_free : (s : Scope) (storage : Storage) (result : PlainType) (parts : PlainTrees) (name : PlainToken) → Free (new_function false s storage result parts name)
 new_free s storage result parts name =
-    unless_then IsNoFreeSlot (may_be_function storage result (s.file_names name.text)) Redeclared name _ (λ x. parameters_free s (behind_word t.OpenParenthesis parts) name)
+    unless_then IsOfUnit (may_be_function storage result (s.file_names name.text)) Redeclared name _ (λ x. parameters_free s (behind_word t.OpenParenthesis parts) name)
 
 function_leaves : (unit : UnitState) → StaysOutside unit → (storage : Storage) (ty : PlainType) (parts : PlainTrees) (name : PlainToken) (o : Option PlainTree) → Leaves StaysOutside (declared_function unit storage ty parts name o)
 function_leaves unit out storage ty parts name o =
@@ -210,9 +209,9 @@ function_leaves unit out storage ty parts name o =
 
 one_leaves : (globals : ℕ) (unit : UnitState) → StaysOutside unit → (storage : Storage) (ty : PlainType) (tree : PlainTree) (o : Option PlainTree) (rest : PlainTrees) → Leaves StaysOutside (declared_one globals unit storage ty tree o rest)
 one_leaves globals unit out storage ty (node k.FunctionDeclarator parts) o rest =
-    some_gives IsNoFreeSlot StaysOutside (name_in parts) (λ name. declared_function unit storage ty parts name o) (λ name. function_leaves unit out storage ty parts name o)
+    some_gives IsOfUnit StaysOutside (name_in parts) (λ name. declared_function unit storage ty parts name o) (λ name. function_leaves unit out storage ty parts name o)
 one_leaves globals unit out storage ty (node kind parts) o rest =
-    some_gives IsNoFreeSlot StaysOutside (name_in parts) (λ name. declared_object globals unit storage ty kind parts name o rest) (λ name. object_leaves globals unit out storage ty kind parts name o rest)
+    some_gives IsOfUnit StaysOutside (name_in parts) (λ name. declared_object globals unit storage ty kind parts name o rest) (λ name. object_leaves globals unit out storage ty kind parts name o rest)
 one_leaves globals unit out storage ty (leaf token) o rest = record { given_ = tt }
 
 declarators_leave : (parts : PlainTrees) (globals : ℕ) (unit : UnitState) → StaysOutside unit → (storage : Storage) (ty : PlainType) (rest : PlainTrees) → Leaves StaysOutside (declared_from globals unit storage ty parts rest)
@@ -220,11 +219,11 @@ declarators_leave none globals unit out storage ty rest = record { given_ = tt }
 declarators_leave (more tree none) globals unit out storage ty rest = one_leaves globals unit out storage ty tree None rest
 declarators_leave (more tree (more sign none)) globals unit out storage ty rest = record { given_ = tt }
 declarators_leave (more tree (more sign (more next none))) globals unit out storage ty rest =
-    gives_if IsNoFreeSlot StaysOutside (is_word (t.Assign ∷ []) sign) _ _ (one_leaves globals unit out storage ty tree (Some next) rest)
+    gives_if IsOfUnit StaysOutside (is_word (t.Assign ∷ []) sign) _ _ (one_leaves globals unit out storage ty tree (Some next) rest)
     (after_leaves StaysOutside StaysOutside (declared_one globals unit storage ty tree None rest) (λ first. declared_from globals first storage ty (more next none) rest) (one_leaves globals unit out storage ty tree None rest)
     (λ first i. declarators_leave (more next none) globals first i storage ty rest))
 declarators_leave (more tree (more sign (more next (more comma others)))) globals unit out storage ty rest =
-    gives_if IsNoFreeSlot StaysOutside (is_word (t.Assign ∷ []) sign) _ _
+    gives_if IsOfUnit StaysOutside (is_word (t.Assign ∷ []) sign) _ _
     (after_leaves StaysOutside StaysOutside (declared_one globals unit storage ty tree (Some next) rest) (λ first. declared_from globals first storage ty others rest) (one_leaves globals unit out storage ty tree (Some next) rest)
     (λ first i. declarators_leave others globals first i storage ty rest))
     (after_leaves StaysOutside StaysOutside (declared_one globals unit storage ty tree None rest) (λ first. declared_from globals first storage ty (more next (more comma others)) rest) (one_leaves globals unit out storage ty tree None rest)
@@ -234,20 +233,20 @@ declarators_leave (more tree (more sign (more next (more comma others)))) global
 
 member_free : (s : Scope) → IsOutside s → (number : ℕ) (before : Members) (ty : PlainType) (kind : Kind) (parts : PlainTrees) (name : PlainToken) → Free (declared_member s number before ty kind parts name)
 member_free s out number before ty kind parts name =
-    unless_then IsNoFreeSlot (not (is_some (before.numbers name.text))) Redeclared name _
-    (λ new. then_binds IsNoFreeSlot (declares (member_entity number (length before.members))) _ (record { all = (tt, tt) })
-    (λ bound. then_binds IsNoFreeSlot (object_type s ty kind parts name None) _ (type_free s out ty kind parts name None)
-    (λ whole. unless_then IsNoFreeSlot (is_complete s.structs whole) Incomplete name _ (λ complete. gives IsNoFreeSlot (with_member s.structs before name.text whole)))))
+    unless_then IsOfUnit (not (is_some (before.numbers name.text))) Redeclared name _
+    (λ new. then_binds IsOfUnit (declares (member_entity number (length before.members))) _ (record { all = (tt, tt) })
+    (λ bound. then_binds IsOfUnit (object_type s ty kind parts name None) _ (type_free s out ty kind parts name None)
+    (λ whole. unless_then IsOfUnit (is_complete s.structs whole) Incomplete name _ (λ complete. gives IsOfUnit (with_member s.structs before name.text whole)))))
 
 one_member_free : (s : Scope) → IsOutside s → (number : ℕ) (before : Members) (ty : PlainType) (tree : PlainTree) → Free (one_member s number before ty tree)
-one_member_free s out number before ty (node kind parts) = some_then IsNoFreeSlot (name_in parts) (λ name. declared_member s number before ty kind parts name) (λ name. member_free s out number before ty kind parts name)
+one_member_free s out number before ty (node kind parts) = some_then IsOfUnit (name_in parts) (λ name. declared_member s number before ty kind parts name) (λ name. member_free s out number before ty kind parts name)
 one_member_free s out number before ty (leaf token) = record { all = tt }
 
 members_free : (parts : PlainTrees) (s : Scope) → IsOutside s → (number : ℕ) (before : Members) (ty : PlainType) → Free (members_from s number before ty parts)
 members_free none s out number before ty = record { all = tt }
 members_free (more tree none) s out number before ty = one_member_free s out number before ty tree
 members_free (more tree (more comma rest)) s out number before ty =
-    then_binds IsNoFreeSlot (one_member s number before ty tree) _ (one_member_free s out number before ty tree) (λ first. members_free rest s out number first ty)
+    then_binds IsOfUnit (one_member s number before ty tree) _ (one_member_free s out number before ty tree) (λ first. members_free rest s out number first ty)
 
 abbrev LeftOutside : AllMembers → Type 0
 LeftOutside x = IsOutside x.scope
@@ -262,8 +261,8 @@ all_leave (more _ rest) s out number before = record { given_ = tt }
 
 struct_leaves : (unit : UnitState) → StaysOutside unit → (words members : PlainTrees) → Leaves StaysOutside (defined_struct unit words members)
 struct_leaves unit out words members =
-    some_gives IsNoFreeSlot StaysOutside (name_in words) _
-    (λ tag. then_leaves StaysOutside (unless_so (not (is_defined_tag unit.scope (unit.scope.tags tag.text))) Redeclared tag) _ (unless_binds IsNoFreeSlot (not (is_defined_tag unit.scope (unit.scope.tags tag.text))) Redeclared tag)
+    some_gives IsOfUnit StaysOutside (name_in words) _
+    (λ tag. then_leaves StaysOutside (unless_so (not (is_defined_tag unit.scope (unit.scope.tags tag.text))) Redeclared tag) _ (unless_binds IsOfUnit (not (is_defined_tag unit.scope (unit.scope.tags tag.text))) Redeclared tag)
     (λ new. after_leaves (HasBlocksOf unit.scope) StaysOutside (based true unit.scope words) _ (words_leave true unit.scope words)
     (λ base same. after_leaves LeftOutside StaysOutside (all_members base.scope (number_of_struct base.ty) (record { members = []; numbers = Rattle.core_meaning.specs.Entities.no_entry; scalars = 0 }) members)
     (λ all. give (with_scope unit (record all.scope { structs = with_members_at (number_of_struct base.ty) all.known all.scope.structs })))
@@ -272,7 +271,7 @@ struct_leaves unit out words members =
 
 -- ---- functions: their slots have their number
 
-numbered_free : (n : ℕ) (e : Entity) → IsNoFreeSlot (numbered n e)
+numbered_free : (n : ℕ) (e : Entity) → IsOfUnit (numbered n e)
 numbered_free n (local_entity slot) = tt
 numbered_free n (local_of_function f slot) = tt
 numbered_free n (file_entity name) = tt
@@ -280,7 +279,7 @@ numbered_free n (struct_entity number) = tt
 numbered_free n (member_entity struct number) = tt
 numbered_free n own_entity = tt
 
-each_numbered_free : (n : ℕ) (js : List Binding) → All IsNoFreeSlot (map (numbered_binding n) js)
+each_numbered_free : (n : ℕ) (js : List Binding) → All IsOfUnit (map (numbered_binding n) js)
 each_numbered_free n [] = tt
 each_numbered_free n (j ∷ js) = (numbered_free n j.entity, each_numbered_free n js)
 
@@ -334,7 +333,7 @@ item_leaves globals unit out (node k.Declaration (more (node words_kind words) (
 item_leaves globals unit out (node k.Function (more (node words_kind words) (more (node list_kind (more (node kind parts) none)) (more body none)))) behind =
     after_leaves (HasBlocksOf unit.scope) StaysOutside (based false unit.scope words) (λ base. or_broken (name_in parts) >>= (λ name. in_function (count_functions unit.defined) (defined_function unit (storage_of words) base.ty parts name body)))
     (words_leave false unit.scope words)
-    (λ base same. some_gives IsNoFreeSlot StaysOutside (name_in parts) (λ name. in_function (count_functions unit.defined) (defined_function unit (storage_of words) base.ty parts name body))
+    (λ base same. some_gives IsOfUnit StaysOutside (name_in parts) (λ name. in_function (count_functions unit.defined) (defined_function unit (storage_of words) base.ty parts name body))
     (λ name. in_function_leaves StaysOutside (count_functions unit.defined) (defined_function unit (storage_of words) base.ty parts name body) (defined_leaves unit out (storage_of words) base.ty parts name body)))
 item_leaves globals unit out _ behind = record { given_ = tt }
 
@@ -350,13 +349,12 @@ small_free (Some name) = record { all = tt }
 unit_free : (globals : ℕ) (structs : List Struct) (numbers : Numbers) (tree : PlainTree) → Free (judged_unit globals structs numbers tree)
 unit_free globals structs numbers (node kind parts) =
     after_free StaysOutside (judged_file_items globals (unit_start structs numbers) parts) (λ unit. unless_too_big (too_big_in unit.scope parts) >>= (λ small. give unit)) (items_leave parts globals (unit_start structs numbers) refl)
-    (λ unit out. then_binds IsNoFreeSlot (unless_too_big (too_big_in unit.scope parts)) (λ small. give unit) (small_free (too_big_in unit.scope parts)) (λ small. gives IsNoFreeSlot unit))
+    (λ unit out. then_binds IsOfUnit (unless_too_big (too_big_in unit.scope parts)) (λ small. give unit) (small_free (too_big_in unit.scope parts)) (λ small. gives IsOfUnit unit))
 unit_free globals structs numbers (leaf token) = record { all = tt }
 
-each_free : (js : List Binding) → All IsNoFreeSlot js → AllByRecursion (λ b. IsNoFreeSlot b.entity) js
+each_free : (js : List Binding) → All IsOfUnit js → AreOfUnit js
 each_free [] h = tt
 each_free (j ∷ js) h = (h.0, each_free js h.1)
 
 pub slots_are_of_functions : SlotsAreOfFunctions
-slots_are_of_functions globals structs numbers tree unit js e =
-    All-from_recursion (λ b. IsNoFreeSlot b.entity) js (each_free js (subst (AllOf IsNoFreeSlot) e (unit_free globals structs numbers tree).all))
+slots_are_of_functions tree globals structs numbers unit js e = each_free js (subst (AllOf IsOfUnit) e (unit_free globals structs numbers tree).all)

@@ -1,11 +1,12 @@
 -- LAWS, each the contract of a function of this crate.
-use Rattle.std.specs.Prelude.{◌≡◌, ℕ, List, [], All}
+use Rattle.std.specs.Prelude.{◌≡◌, ℕ, List, []}
 use Rattle.c_text.specs.Token.{PlainToken}
 use Rattle.c_tree.specs.Trees.{PlainTree}
-use Rattle.core_meaning.specs.Checking.{Entity, local_entity, Binding, fine}
+use Rattle.core_meaning.specs.Checking.{Binding, fine}
 use Rattle.core_meaning.specs.Entities.{Struct, Numbers, Scope}
 use Rattle.core_meaning.specs.Constancy.{judged_count}
 use Rattle.core_meaning.specs.UnitNames.{UnitState, judged_unit}
+use Rattle.entity_numbers.specs.Bound.{AreOfUnit}
 
 -- The size of an array binds nothing where it is judged well, whatever is visible: it is constant (6.6, 6.7.6.2).
 abbrev pub SizesBindNothing : Type 0
@@ -13,14 +14,9 @@ SizesBindNothing =
     (scope : Scope) (tree : PlainTree) (behind : PlainToken) (count : ℕ) (bindings : List Binding) → judged_count scope tree behind ≡ fine count bindings
     → bindings ≡ []
 
--- it isn't a slot that is no function's
-abbrev pub IsNoFreeSlot : Entity → Type 0
-IsNoFreeSlot (local_entity slot) = ⊥
-IsNoFreeSlot other = Unit {0}
-
 -- In a unit that is judged well, each slot to which an identifier is bound is a function's. A declaration's parameters have slots of none,
 -- but only the sizes of further ones could name them.
 abbrev pub SlotsAreOfFunctions : Type 0
 SlotsAreOfFunctions =
-    (globals : ℕ) (structs : List Struct) (numbers : Numbers) (tree : PlainTree) (unit : UnitState) (bindings : List Binding)
-    → judged_unit globals structs numbers tree ≡ fine unit bindings → All (λ b. IsNoFreeSlot b.entity) bindings
+    (tree : PlainTree) (globals : ℕ) (structs : List Struct) (numbers : Numbers) (unit : UnitState) (bindings : List Binding)
+    → judged_unit globals structs numbers tree ≡ fine unit bindings → AreOfUnit bindings

@@ -56,7 +56,7 @@ next_in_turn n e is =
 pub in_turn : {n m : ℕ} {js : List Binding} → Slots Anything n js m → AreSlotsInTurn n js m
 in_turn no_more = refl
 in_turn (known {n = n} {m = m} {b = b} {rest = rest} h f) = let p = known_in_turn n b.entity h in (p.0, subst (λ l. AreSlotsInTurn l rest m) p.1 (in_turn f))
-in_turn (next {n = n} {m = m} {b = b} {rest = rest} e f) = let p = next_in_turn n b.entity e in (p.0, subst (λ l. AreSlotsInTurn l rest m) p.1 (in_turn f))
+in_turn (next {n = n} {m = m} {b = b} {rest = rest} e d f) = let p = next_in_turn n b.entity e in (p.0, subst (λ l. AreSlotsInTurn l rest m) p.1 (in_turn f))
 
 pub blocks_take_slots_in_turn : BlocksTakeSlotsInTurn
 blocks_take_slots_in_turn around slots items judged bindings visible e =

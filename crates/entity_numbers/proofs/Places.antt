@@ -7,7 +7,7 @@ use Rattle.std.proofs.lemmas.Bool.{eq-eqb, and_from}
 use Rattle.std.proofs.lemmas.List.{append_assoc}
 use Rattle.core_meaning.specs.Checking.{Entity, local_entity, local_of_function, file_entity, struct_entity, member_entity, own_entity, Binding}
 use Rattle.bindings.specs.Judged.{same_entity, Identified, first_with, number_or}
-use Rattle.entity_numbers.specs.Numbered.{first_place, AreMatched, HaveSameFirsts}
+use Rattle.entity_numbers.specs.Numbered.{first_place, HaveSameFirsts}
 use Rattle.entity_numbers.specs.Firsts.{AreOf, AreInOrder, first_number, AreFirstAlike}
 use Rattle.entity_numbers.specs.Laws.{FirstsAreBoundAlike}
 use Rattle.entity_numbers.proofs.Matched.{numbered_are_bound_alike}
@@ -101,7 +101,7 @@ same_place from n (i ∷ xs) (j ∷ ys) [] others a b f g s x y e = absurd x
 same_place from n (i ∷ xs) (j ∷ ys) (p ∷ before) [] a b f g s x y e = absurd y
 
 -- one without a place is the first itself
-is_first :
+pub is_first :
     (xs : List Identified) (before : List Binding) (e : Entity) (n : ℕ) → AreOf xs before → first_place e before ≡ None → number_or (first_with e xs) n ≡ n
 is_first [] [] e n x none_ = refl
 is_first [] (p ∷ before) e n x none_ = absurd x
@@ -122,7 +122,7 @@ is_first (i ∷ xs) (p ∷ before) e n x none_ =
 
 -- ---- identifier by identifier
 
-of_more : (xs : List Identified) (before : List Binding) (i : Identified) (b : Binding) → AreOf xs before → i.entity ≡ b.entity → AreOf (xs ++ i ∷ []) (before ++ b ∷ [])
+pub of_more : (xs : List Identified) (before : List Binding) (i : Identified) (b : Binding) → AreOf xs before → i.entity ≡ b.entity → AreOf (xs ++ i ∷ []) (before ++ b ∷ [])
 of_more [] [] i b x e = (e, tt)
 of_more [] (p ∷ before) i b x e = absurd x
 of_more (x ∷ xs) [] i b h e = absurd h
@@ -138,14 +138,13 @@ numbers_more (x ∷ xs) (y ∷ ys) i j h e = (h.0, numbers_more xs ys i j h.1 e)
 
 matched :
     (from : ℕ) (xs ys rest behind : List Identified) (before others : List Binding) (i j : Identified) (a b : Entity) → i.entity ≡ a → j.entity ≡ b → AreBelow 0 from xs → AreBelow 0 from ys → from ≤ i.number
-    → AllZip (λ (i j : Identified). i.number ≡ j.number) xs ys → AreOf xs before → AreOf ys others → AreFirstAlike (xs ++ i ∷ rest) (ys ++ j ∷ behind) i j → AreMatched before others a b
+    → AllZip (λ (i j : Identified). i.number ≡ j.number) xs ys → AreOf xs before → AreOf ys others → AreFirstAlike (xs ++ i ∷ rest) (ys ++ j ∷ behind) i j → first_place a before ≡ first_place b others
 matched from xs ys rest behind before others i j a b p q f g less s x y h =
     let first_ : number_or (first_with i.entity xs) i.number ≡ number_or (first_with j.entity ys) i.number =
     sym (first_up_to xs i rest) ∙ h.first ∙ first_up_to ys j behind ∙ ap (number_or (first_with j.entity ys)) (sym h.number) in
     let place : first_place i.entity before ≡ first_place j.entity others =
     same_place 0 i.number xs ys before others i.entity j.entity (below_further 0 from i.number xs less f) (below_further 0 from i.number ys less g) s x y first_ in
-    subst (λ c. AreMatched before others c b) p (subst (λ c. AreMatched before others i.entity c) q
-    (record { first = place; kind = λ none_. h.kind (first_up_to xs i rest ∙ is_first xs before i.entity i.number x none_) }))
+    ap (λ e. first_place e before) (sym p) ∙ place ∙ ap (λ e. first_place e others) q
 
 matched_from :
     (from : ℕ) (all whole xs ys rest behind : List Identified) (before others js ks : List Binding) → all ≡ xs ++ rest → whole ≡ ys ++ behind → AreBelow 0 from xs → AreBelow 0 from ys
@@ -169,6 +168,6 @@ matched_from from all whole xs ys (i ∷ rest) (j ∷ behind) before others [] k
 matched_from from all whole xs ys (i ∷ rest) (j ∷ behind) before others (p ∷ js) [] d e f g s x y o u v h = absurd v
 
 pub firsts_are_bound_alike : FirstsAreBoundAlike
-firsts_are_bound_alike named counts identified others bindings behind x y o h f g names =
+firsts_are_bound_alike named counts identified others bindings behind x y o h f g kinds of_unit used names =
     numbered_are_bound_alike named counts bindings behind f g
-    (matched_from 0 identified others [] [] identified others [] [] bindings behind refl refl (omega arith) (omega arith) tt tt tt o x y h) names
+    (matched_from 0 identified others [] [] identified others [] [] bindings behind refl refl (omega arith) (omega arith) tt tt tt o x y h) kinds of_unit used names

@@ -30,16 +30,16 @@ module _ (K : Sense) where
   Knows n (local_entity slot) = slot < n
   Knows n other = K.knows other
 
-  -- each is known or has the next slot; so many slots are taken before, and so many behind
+  -- each is known, or declares the next slot; so many slots are taken before, and so many behind
   pub data Slots : ℕ → List Binding → ℕ → Type 0 where
     no_more : {n : ℕ} → Slots n [] n
     known : {n m : ℕ} {b : Binding} {rest : List Binding} → Knows n b.entity → Slots n rest m → Slots n (b ∷ rest) m
-    next : {n m : ℕ} {b : Binding} {rest : List Binding} → b.entity ≡ local_entity n → Slots (suc n) rest m → Slots n (b ∷ rest) m
+    next : {n m : ℕ} {b : Binding} {rest : List Binding} → b.entity ≡ local_entity n → b.in_expression ≡ false → Slots (suc n) rest m → Slots n (b ∷ rest) m
 
   pub slots_append : {n m o : ℕ} {js ks : List Binding} → Slots n js m → Slots m ks o → Slots n (js ++ ks) o
   slots_append no_more g = g
   slots_append (known h f) g = known h (slots_append f g)
-  slots_append (next h f) g = next h (slots_append f g)
+  slots_append (next h d f) g = next h d (slots_append f g)
 
   all_known : (n : ℕ) (js : List Binding) → All (Knows n) js → Slots n js n
   all_known n [] h = no_more
@@ -159,7 +159,7 @@ module _ (K : Sense) where
 
   pub slot_then :
       {B : Type 0} (more_ : B → ℕ) (W : B → Type 0) (n : ℕ) (f : Unit {0} → Checked B) → Takes more_ W (suc n) (f tt) → Takes more_ W n (declares (local_entity n) >>= f)
-  slot_then more_ W n f h = record { taken = behind more_ W n (suc n) (record { entity = local_entity n; in_expression = false } ∷ []) (f tt) (next refl no_more) h.taken }
+  slot_then more_ W n f h = record { taken = behind more_ W n (suc n) (record { entity = local_entity n; in_expression = false } ∷ []) (f tt) (next refl refl no_more) h.taken }
 
   local_takes :
       (s : Scope) (slots : List PlainType) (ty : PlainType) (kind : Kind) (parts : PlainTrees) (name : PlainToken) (o : Option PlainTree) → Made K.tags ty → Visible (length slots) s
@@ -257,7 +257,7 @@ module _ (K : Sense) where
   slots_grow : {n m : ℕ} {js : List Binding} → Slots n js m → n ≤ m
   slots_grow (no_more {n = n}) = let e : n ≡ n = refl in omega arith
   slots_grow (known h f) = slots_grow f
-  slots_grow (next {n = n} {m = m} e f) = let less : suc n ≤ m = slots_grow f in omega (arith, less)
+  slots_grow (next {n = n} {m = m} e d f) = let less : suc n ≤ m = slots_grow f in omega (arith, less)
 
   pub grown : {A : Type 0} (size : A → ℕ) (V : A → Type 0) (n : ℕ) (c : Checked A) → Takes size V n c → Takes size (λ x. V x × (n ≤ size x)) n c
   grown size V n (fine x js) h = record { taken = (h.taken.0, (h.taken.1, slots_grow h.taken.0)) }

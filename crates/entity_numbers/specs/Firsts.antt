@@ -3,7 +3,6 @@ use Rattle.std.specs.Prelude.{◌≡◌, ℕ, suc, ◌≤◌, List, [], ◌∷�
 use Rattle.std.specs.List.{AllZip}
 use Rattle.core_meaning.specs.Checking.{Binding}
 use Rattle.bindings.specs.Judged.{Identified, first_with, number_or}
-use Rattle.entity_numbers.specs.Numbered.{SameKind}
 
 -- identifiers with the entities to which these bindings bind them
 abbrev pub AreOf : List Identified → List Binding → Type 0
@@ -18,12 +17,10 @@ AreInOrder from (i ∷ rest) = (from ≤ i.number) × AreInOrder (suc i.number) 
 abbrev pub first_number : List Identified → Identified → ℕ
 first_number all i = number_or (first_with i.entity all) i.number
 
--- Two identifiers have one number, and so have the first ones that stand for the same; where they are the first themselves, they stand for
--- entities of one kind.
+-- two identifiers have one number, and so have the first ones that stand for the same
 pub record AreFirstAlike (all others : List Identified) (i j : Identified) : Type 0 where
   pub number : i.number ≡ j.number
   pub first : first_number all i ≡ first_number others j
-  pub kind : first_number all i ≡ i.number → SameKind i.entity j.entity
 
 -- identifier by identifier
 abbrev pub HaveFirstsAlike : List Identified → List Identified → Type 0

@@ -14,14 +14,17 @@ use Rattle.bindings.specs.Judged.{Identified}
 use Rattle.renamed_programs.specs.Entities.{Correspondence, AreBoundAlike}
 use Rattle.entity_numbers.specs.Numbered.{Counts, AreNumbered, HaveSameFirsts, AreNamedSo}
 use Rattle.entity_numbers.specs.Firsts.{AreOf, AreInOrder, HaveFirstsAlike}
+use Rattle.entity_numbers.specs.Kinds.{AreKindsAlike}
+use Rattle.entity_numbers.specs.Bound.{AreOfUnit, AreUsedBehind}
 use Rattle.entity_numbers.specs.Slots.{AreSlotsInTurn, AreVisibleTaken, HasNamedParameters, HasNamedFunctions}
 
 -- Two lists of bindings that are numbered from the same counts correspond entity by entity, where each two identifiers at one place are bound
--- to what is first bound at one place, and there to entities of one kind.
+-- to what is first bound at one place, and stand for things of one kind if no expression uses them; what one uses is bound before.
 abbrev pub NumberedAreBoundAlike : Type 0
 NumberedAreBoundAlike =
     (named : Correspondence) (counts : Counts) (bindings others : List Binding) → AreNumbered counts [] bindings → AreNumbered counts [] others
-    → HaveSameFirsts [] [] bindings others → AreNamedSo named bindings others → AreBoundAlike named bindings others
+    → HaveSameFirsts [] [] bindings others → AreKindsAlike [] bindings others → AreOfUnit bindings → AreUsedBehind [] bindings
+    → AreNamedSo named bindings others → AreBoundAlike named bindings others
 
 -- So do the bindings of two lists of identifiers that are in the order of the text, with the same numbers, and whose first ones have the same
 -- numbers.
@@ -29,7 +32,7 @@ abbrev pub FirstsAreBoundAlike : Type 0
 FirstsAreBoundAlike =
     (named : Correspondence) (counts : Counts) (identified others : List Identified) (bindings behind : List Binding) → AreOf identified bindings → AreOf others behind
     → AreInOrder 0 identified → HaveFirstsAlike identified others → AreNumbered counts [] bindings → AreNumbered counts [] behind
-    → AreNamedSo named bindings behind → AreBoundAlike named bindings behind
+    → AreKindsAlike [] bindings behind → AreOfUnit bindings → AreUsedBehind [] bindings → AreNamedSo named bindings behind → AreBoundAlike named bindings behind
 
 -- The items of a block take slots in the order of the text: each identifier in them is bound to a slot that is taken or to the next, and behind
 -- them all are taken that they have.

@@ -2,7 +2,7 @@
 -- bound to them.
 use Rattle.std.specs.Prelude.{◌≡◌, ℕ, suc, ◌==◌, List, [], ◌∷◌, ◌++◌, Option, Some, None, option_map, IsTrue, if◌then◌else◌}
 use Rattle.std.specs.List.{AllZip}
-use Rattle.core_meaning.specs.Checking.{Entity, local_entity, local_of_function, file_entity, struct_entity, member_entity, own_entity, Binding}
+use Rattle.core_meaning.specs.Checking.{Entity, local_of_function, file_entity, struct_entity, member_entity, Binding}
 use Rattle.bindings.specs.Judged.{same_entity}
 use Rattle.renamed_programs.specs.Entities.{Correspondence}
 
@@ -53,29 +53,13 @@ AreNumbered counts before (b ∷ rest) =
 
 -- ---- two lists of bindings
 
--- Entities of one kind; slots of one function, members of one struct. A slot that is no function's is that of a parameter of a declaration,
--- which is numbered in its list.
-abbrev pub SameKind : Entity → Entity → Type 0
-SameKind (local_entity m) (local_entity n) = m ≡ n
-SameKind (local_of_function f m) (local_of_function g n) = f ≡ g
-SameKind (file_entity a) (file_entity b) = Unit {0}
-SameKind (struct_entity m) (struct_entity n) = Unit {0}
-SameKind (member_entity s m) (member_entity t n) = s ≡ t
-SameKind own_entity own_entity = Unit {0}
-SameKind a b = ⊥
-
--- two identifiers at one place are bound to what is first bound at one place, and to entities of one kind where that is their own place
-pub record AreMatched (before others : List Binding) (a b : Entity) : Type 0 where
-  pub first : first_place a before ≡ first_place b others
-  pub kind : first_place a before ≡ None → SameKind a b
-
--- identifier by identifier, behind the bindings before
+-- each two identifiers at one place are bound to what is first bound at one place, behind the bindings before
 abbrev pub HaveSameFirsts : List Binding → List Binding → List Binding → List Binding → Type 0
 HaveSameFirsts before others [] [] = Unit {0}
 HaveSameFirsts before others [] (k ∷ ks) = ⊥
 HaveSameFirsts before others (j ∷ js) [] = ⊥
 HaveSameFirsts before others (j ∷ js) (k ∷ ks) =
-    AreMatched before others j.entity k.entity × HaveSameFirsts (before ++ j ∷ []) (others ++ k ∷ []) js ks
+    (first_place j.entity before ≡ first_place k.entity others) × HaveSameFirsts (before ++ j ∷ []) (others ++ k ∷ []) js ks
 
 -- names of file scope at one place correspond
 abbrev pub AreNamedAt : Correspondence → Entity → Entity → Type 0

@@ -16,7 +16,8 @@ use Rattle.bindings.specs.Laws.{IsWritten}
 use Rattle.program_occurrences.specs.Occurrences.{Identifier, identifiers_from, with_entities, UnitNames, judged_bindings, names_of_unit, judged_behind, Occurrence, occurrence_among, occurrences_of}
 use Rattle.program_occurrences.specs.Laws.{DeclarationsAreOccurrences, identifier_of, IdentifiersAreBound, IsBoundTo, IsBoundBy, IsOccurrenceOf, OccurrencesAreBound}
 use Rattle.bound_names.specs.Laws.{IsNamed, IsBoundToName, IdentifiersKeepNames}
-use Rattle.bound_slots.specs.Laws.{IsNoFreeSlot, SlotsAreOfFunctions}
+use Rattle.entity_numbers.specs.Bound.{IsOfUnit, AreOfUnit}
+use Rattle.bound_slots.specs.Laws.{SlotsAreOfFunctions}
 use Rattle.occurrence_names.specs.Laws.{KeepsName, OccurrencesKeepNames}
 
 abbrev pub In : {X : Type 0} → X → List X → Type 0
@@ -82,7 +83,7 @@ at P x (y ∷ xs) a (inl e) = subst P (sym e) a.0
 at P x (y ∷ xs) a (inr i) = at P x xs a.1 i
 
 -- what is no free slot is bound to what declares it
-bound-by : (all : List Identified) (b : Bound) (o : Occurrence) (e : Entity) → IsNoFreeSlot e → IsBoundBy all b o e → IsBoundTo all b o
+bound-by : (all : List Identified) (b : Bound) (o : Occurrence) (e : Entity) → IsOfUnit e → IsBoundBy all b o e → IsBoundTo all b o
 bound-by all b o (local_entity slot) plain is = absurd plain
 bound-by all b o (local_of_function f slot) plain is = is
 bound-by all b o (file_entity name) plain is = is
@@ -96,15 +97,15 @@ named-by all bs name undeclared o is named = absurd is
 named-by all bs name (member_use which) o is named = named is.tag.token.text o.declared_by.number is.bound
 
 -- no occurrence stands for a free slot where no identifier is bound to one
-identified-free : (is : List Identifier) (js : List Binding) (i : Identified) → AllByRecursion (λ b. IsNoFreeSlot b.entity) js → In i (with_entities is js) → IsNoFreeSlot i.entity
+identified-free : (is : List Identifier) (js : List Binding) (i : Identified) → AreOfUnit js → In i (with_entities is js) → IsOfUnit i.entity
 identified-free [] js i free among = absurd among
 identified-free (first ∷ is) [] i free among = absurd among
-identified-free (first ∷ is) (j ∷ js) i free (inl e) = subst (λ (x : Identified). IsNoFreeSlot x.entity) (sym e) free.0
+identified-free (first ∷ is) (j ∷ js) i free (inl e) = subst (λ (x : Identified). IsOfUnit x.entity) (sym e) free.0
 identified-free (first ∷ is) (j ∷ js) i free (inr more) = identified-free is js i free.1 more
 
-occurrence-free : (all is : List Identified) (o : Occurrence) → ((i : Identified) → In i is → IsNoFreeSlot i.entity) → In o (map (occurrence_among all) is) → IsNoFreeSlot o.identifier.entity
+occurrence-free : (all is : List Identified) (o : Occurrence) → ((i : Identified) → In i is → IsOfUnit i.entity) → In o (map (occurrence_among all) is) → IsOfUnit o.identifier.entity
 occurrence-free all [] o free among = absurd among
-occurrence-free all (i ∷ is) o free (inl e) = subst (λ (x : Occurrence). IsNoFreeSlot x.identifier.entity) (sym e) (free i (inl refl))
+occurrence-free all (i ∷ is) o free (inl e) = subst (λ (x : Occurrence). IsOfUnit x.identifier.entity) (sym e) (free i (inl refl))
 occurrence-free all (i ∷ is) o free (inr more) = occurrence-free all is o (λ x among. free x (inr among)) more
 
 module _ (declared : DeclarationsAreOccurrences) (identified : IdentifiersAreBound) (bound : OccurrencesAreBound) (kept : IdentifiersKeepNames) (slots : SlotsAreOfFunctions) (tree : PlainTree) (written : IsWritten tree) (structs : List Struct) (state : UnitState) (js : List Binding) (judged : judged_behind structs tree ≡ fine state js) where
@@ -125,12 +126,11 @@ module _ (declared : DeclarationsAreOccurrences) (identified : IdentifiersAreBou
       (one-number 0 (spelled tree) (identifier_of a) (identifier_of b) e
       (subst (In (identifier_of a)) all (in-map identifier_of a (bindings_of tree) i)) (subst (In (identifier_of b)) all (in-map identifier_of b (bindings_of tree) j)))
 
-  free : (o : Occurrence) → In o (occurrences_of unit) → IsNoFreeSlot o.identifier.entity
+  free : (o : Occurrence) → In o (occurrences_of unit) → IsOfUnit o.identifier.entity
   free o i =
       occurrence-free unit.identified unit.identified o
       (λ x among. identified-free (identifiers_from 0 (spelled tree)) (judged_bindings (judged_behind structs tree)) x
-      (subst (λ c. AllByRecursion (λ b. IsNoFreeSlot b.entity) (judged_bindings c)) (sym judged)
-      (recursion_from_All (λ b. IsNoFreeSlot b.entity) js (slots 0 structs (no_numbers 0) tree state js judged))) among) i
+      (subst (λ c. AreOfUnit (judged_bindings c)) (sym judged) (slots tree 0 structs (no_numbers 0) state js judged)) among) i
 
   keeps : (o : Occurrence) → In o (occurrences_of unit) → Contains (occurrences_of unit) o → KeepsName o
   keeps o i c =

@@ -1,4 +1,4 @@
--- Units whose identifiers have the same firsts, of one kind, bind them alike.
+-- Units that differ only in names, and whose identifiers have the same firsts, bind them alike.
 use Rattle.std.proofs.Common.{◌≡◌, ℕ, ◌+◌, suc, ◌≤◌, Bool, true, false, List, [], ◌∷◌, ◌++◌, map, refl, sym, ap, subst, ◌∙◌, arith}
 use Rattle.std.specs.Prelude.{Option, Some, None, if◌then◌else◌}
 use Rattle.std.specs.List.{AllZip}
@@ -9,13 +9,15 @@ use Rattle.bindings.specs.Visible.{Occurrence as BoundIdentifier}
 use Rattle.bindings.specs.Bindings.{is_name, bindings_of}
 use Rattle.bindings.specs.Judged.{Identified, first_with, number_or, identified, AreAlike}
 use Rattle.bindings.specs.Laws.{JudgementsBindAlike}
-use Rattle.entity_numbers.specs.Numbered.{AreNumbered, SameKind}
+use Rattle.entity_numbers.specs.Numbered.{AreNumbered}
 use Rattle.entity_numbers.specs.Firsts.{AreOf, AreInOrder, AreFirstAlike}
 use Rattle.entity_numbers.specs.Laws.{FirstsAreBoundAlike}
 use Rattle.program_occurrences.specs.Occurrences.{Identifier, identifiers_from, with_entities, or_itself, Occurrence, occurrence_among}
 use Rattle.program_occurrences.specs.Links.{BoundNumber}
 use Rattle.program_occurrences.specs.Laws.{identifier_of, IdentifiersAreBound}
-use Rattle.unit_numbers.specs.Laws.{counts_behind, UnitsAreNumbered, AreOfOneKind, UnitsBindAlike}
+use Rattle.unit_numbers.specs.Laws.{counts_behind, UnitsAreNumbered, UsesAreBoundBefore, UnitsBindAlike}
+use Rattle.bound_slots.specs.Laws.{SlotsAreOfFunctions}
+use Rattle.entity_kinds.specs.Laws.{KindsAreAlike}
 
 -- ---- each identifier has the entity to which it is bound
 
@@ -52,35 +54,28 @@ itself_number i None = refl
 itself_number i (Some first) = refl
 
 firsts_alike :
-    (all others xs ys : List Identified) (js ks : List Binding) → AreOf xs js → AreOf ys ks → map number_of (map (occurrence_among all) xs) ≡ map number_of (map (occurrence_among others) ys)
-    → AreOfOneKind js ks → AllZip (AreFirstAlike all others) xs ys
-firsts_alike all others [] [] js ks x y e h = tt
-firsts_alike all others [] (b ∷ ys) [] [] x y e h = absurd y
-firsts_alike all others [] (b ∷ ys) [] (k ∷ ks) x y e h = absurd h
-firsts_alike all others [] (b ∷ ys) (j ∷ js) ks x y e h = absurd x
-firsts_alike all others (a ∷ xs) [] [] ks x y e h = absurd x
-firsts_alike all others (a ∷ xs) [] (j ∷ js) [] x y e h = absurd h
-firsts_alike all others (a ∷ xs) [] (j ∷ js) (k ∷ ks) x y e h = absurd y
-firsts_alike all others (a ∷ xs) (b ∷ ys) [] ks x y e h = absurd x
-firsts_alike all others (a ∷ xs) (b ∷ ys) (j ∷ js) [] x y e h = absurd y
-firsts_alike all others (a ∷ xs) (b ∷ ys) (j ∷ js) (k ∷ ks) x y e h =
+    (all others xs ys : List Identified) → map number_of (map (occurrence_among all) xs) ≡ map number_of (map (occurrence_among others) ys)
+    → AllZip (AreFirstAlike all others) xs ys
+firsts_alike all others [] [] e = tt
+firsts_alike all others [] (b ∷ ys) e = absurd cc
+firsts_alike all others (a ∷ xs) [] e = absurd cc
+firsts_alike all others (a ∷ xs) (b ∷ ys) e =
     let first : number_of (occurrence_among all a) ≡ number_of (occurrence_among others b) = cc in
-    let rest : map number_of (map (occurrence_among all) xs) ≡ map number_of (map (occurrence_among others) ys) = cc in
-    let kinds : SameKind a.entity b.entity = subst (λ z. SameKind z b.entity) (sym x.0) (subst (λ z. SameKind j.entity z) (sym y.0) h.0) in (
+    let rest : map number_of (map (occurrence_among all) xs) ≡ map number_of (map (occurrence_among others) ys) = cc in (
       record {
         number = ap (λ (n : BoundNumber). n.identifier) first;
         first = sym (itself_number a (first_with a.entity all)) ∙ ap (λ (n : BoundNumber). n.declared_by) first ∙ itself_number b (first_with b.entity others);
-        kind = λ own. kinds;
       },
-      firsts_alike all others xs ys js ks x.1 y.1 rest h.1,
+      firsts_alike all others xs ys rest,
     )
 
-pub units_bind_alike : UnitsAreNumbered → FirstsAreBoundAlike → JudgementsBindAlike → IdentifiersAreBound → UnitsBindAlike
-units_bind_alike numbered firsts alike bound named tree other w v globals count structs others numbers more_ unit after js ks lengths e f same kinds names =
+pub units_bind_alike : UnitsAreNumbered → FirstsAreBoundAlike → JudgementsBindAlike → IdentifiersAreBound → KindsAreAlike → SlotsAreOfFunctions → UsesAreBoundBefore → UnitsBindAlike
+units_bind_alike numbered firsts alike bound kinds slots uses named tree other w v differ globals count structs others numbers more_ unit after js ks lengths e f same names =
     let xs : List Identified = with_entities (identifiers_from 0 (spelled tree)) js in
     let ys : List Identified = with_entities (identifiers_from 0 (spelled other)) ks in
     let x : AreOf xs js = subst (λ is. AreOf (with_entities is js) js) (bound tree w.unit) (of_bound [] (bindings_of tree) js (alike tree w globals structs numbers unit js e)) in
     let y : AreOf ys ks = subst (λ is. AreOf (with_entities is ks) ks) (bound other v.unit) (of_bound [] (bindings_of other) ks (alike other v count others more_ after ks f)) in
     let second : AreNumbered (counts_behind structs) [] ks =
     subst (λ n. AreNumbered (record { structs = n; members = λ s. 0; slots = λ g. 0 }) [] ks) (sym lengths) (numbered other v.unit count others more_ after ks f) in
-    firsts named (counts_behind structs) xs ys js ks x y (in_order (spelled tree) 0 js 0 (omega arith)) (firsts_alike xs ys xs ys js ks x y same kinds) (numbered tree w.unit globals structs numbers unit js e) second names
+    firsts named (counts_behind structs) xs ys js ks x y (in_order (spelled tree) 0 js 0 (omega arith)) (firsts_alike xs ys xs ys same) (numbered tree w.unit globals structs numbers unit js e) second
+    (kinds tree other w.unit differ globals count structs others numbers more_ unit after js ks e f) (slots tree globals structs numbers unit js e) (uses tree w globals structs numbers unit js e) names

@@ -67,7 +67,7 @@ module _ (first : ℕ) where
     pub fresh : (n : ℕ) → length s.structs ≤ n → c.members n ≡ 0
     pub types : (n k : ℕ) (found : Struct) (m : PlainMember) → first ≤ n → slice_get s.structs n ≡ Some found → slice_get found.members k ≡ Some m → Made tags_from m.ty
     pub files : (name : List ℕ) (n : FileName) → s.file_names name ≡ Some n → MadeSort tags_from n.sort
-    pub locals : (name : List ℕ) (l : Local) → local_in s.blocks name ≡ Some l → Made tags_from l.ty
+    pub locals : (name : List ℕ) (l : Local) → local_in s.blocks name ≡ Some l → ⊥
 
   pub fits_base : (is_open : ℕ → Type 0) (c : Counts) (s : Scope) → Fits is_open c s → Base (sense c) s
   fits_base is_open c s h = record {
@@ -77,7 +77,7 @@ module _ (first : ℕ) where
   }
 
   pub fits_allows : (is_open : ℕ → Type 0) (c : Counts) (s : Scope) → Fits is_open c s → Allows (Has first c) tags_from s
-  fits_allows is_open c s h = let b = fits_base is_open c s h in record { locals = λ name l e. (tt, h.locals name l e); files = b.files; members = b.members }
+  fits_allows is_open c s h = let b = fits_base is_open c s h in record { locals = λ name l e. absurd (h.locals name l e); files = b.files; members = b.members }
 
   pub given_then : {A B : Type 0} (W : B → Counts → Type 0) (c : Counts) (x : A) (f : A → Checked B) → Reaches first W c (f x) → Reaches first W c (give x >>= f)
   given_then W c x f h = record { reached = further first W c c [] (f x) done h.reached }
@@ -165,7 +165,7 @@ module _ (first : ℕ) where
         record {
           reached = record {
             to = record c { structs = suc c.structs };
-            runs = new (sym h.structs) done;
+            runs = new (record { unused = refl }) (sym h.structs) done;
             holds = record {
               words = record { fits = new_fits tag.text h; blocks = refl; slots = refl; members = refl; more_structs = omega (arith, l); made = tag_from (length s.structs) h.below };
               number = length s.structs;

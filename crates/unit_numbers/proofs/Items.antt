@@ -1,60 +1,36 @@
 -- The items of a unit, one after the other, and the law on units.
-use Rattle.std.proofs.Common.{◌≡◌, ℕ, ◌+◌, suc, ◌≤◌, ◌<◌, Bool, true, false, List, [], ◌∷◌, ◌++◌, map, refl, sym, ap, subst, ◌∙◌, length, arith}
+use Rattle.std.proofs.Common.{◌≡◌, ℕ, ◌+◌, suc, ◌≤◌, ◌<◌, Bool, true, false, List, [], ◌∷◌, ◌++◌, map, refl, sym, ap, subst, ◌∙◌, length, IsTrue, arith}
 use Rattle.std.specs.Prelude.{Option, Some, None, slice_get, ◌==◌, if◌then◌else◌}
 use Rattle.std.proofs.lemmas.Bool.{eq-eqb, eqb-true}
 use Rattle.std.proofs.lemmas.Option.{none-some}
 use Rattle.c_text.specs.Token.{PlainToken}
 use Rattle.c_types.specs.Types.{PlainType}
-use Rattle.c_tree.specs.declared.kinds.Kind.{Kind}
 use Rattle.c_tree.specs.declared.kinds.Kind.TheVariants as k
 use Rattle.c_tree.specs.declared.terminals.Terminal.TheVariants as t
+use Rattle.c_tree.specs.Grammar.{is_unit}
 use Rattle.c_tree.specs.Trees.{PlainTree, PlainTrees, leaf, node, none, more}
-use Rattle.c_tree.specs.Grammar.{file_item, tag}
 use Rattle.core_meaning.specs.Checking.{Entity, local_entity, local_of_function, file_entity, struct_entity, member_entity, own_entity, Binding, Checked, fine, refused, broken, ◌>>=◌, give, or_broken, in_function, numbered, numbered_binding}
 use Rattle.core_meaning.specs.Entities.{Table, Struct, FileName, Numbers, Scope, local_in}
 use Rattle.core_meaning.specs.Expressions.{has_terminal}
 use Rattle.core_meaning.specs.Declarations.{based, name_in, behind_word}
 use Rattle.core_meaning.specs.UnitNames.{Defined, function_body, is_function_body, UnitState, Storage, storage_of, with_scope, declared_from, defined_function, count_functions, judged_item, judged_file_items, unit_start, too_big_in, unless_too_big, judged_unit}
-use Rattle.tree_derivations.specs.Derivations.{Derivation, single, made_of, a_row, a_part, some_words, Each, no_more, one_more, UnitsAreDerived}
-use Rattle.bindings.proofs.Words.{tag_form}
-use Rattle.entity_numbers.specs.Numbered.{Counts, one_more as counted_more, AreNumbered}
-use Rattle.entity_numbers.specs.Slots.{HasNamedParameters, IsNamedFunction, AreNamedFunctions}
+use Rattle.tree_derivations.specs.Derivations.{IsDerived, UnitsAreDerived}
+use Rattle.entity_numbers.specs.Numbered.{Counts, first_place, one_more as counted_more}
+use Rattle.entity_numbers.specs.Slots.{HasNamedParameters, IsNamedFunction, AreNamedFunctions, HasNamedFunctions}
 use Rattle.entity_numbers.specs.Laws.{UnitsNameParameters}
 use Rattle.bindings.proofs.Types.{Made, MadeSort}
 use Rattle.entity_numbers.proofs.Uses.{Sense, Gives, some_binds}
 use Rattle.entity_numbers.proofs.Slots.{Base, BasedOn, Knows, Slots, no_more as no_slot, known as known_slot, next as next_slot}
 use Rattle.entity_numbers.proofs.Functions.{function_ends, Ended}
+use Rattle.bound_slots.specs.Laws.{SizesBindNothing}
+use Rattle.entity_kinds.proofs.Tags.{IsTaggedItem, AreTaggedItems, items_tagged}
 use Rattle.unit_numbers.specs.Laws.{UnitsAreNumbered}
-use Rattle.unit_numbers.proofs.Runs.{Has, Runs, done, old, new, IfReached, Reaches, reaches_then, reaches_as, reaches_give, known_then, all_old, runs_are_numbered}
+use Rattle.unit_numbers.proofs.Runs.{Has, Runs, done, old, new, IfReached, Reaches, reaches_then, reaches_as, reaches_give, known_then, all_old, Reached, runs_are_numbered, runs_bind_structs, runs_bind_no_more, AreCountedBehind, runs_are_counted_behind}
 use Rattle.unit_numbers.proofs.Fitting.{tags_from, sense, Fits, fits_base, typed_then, Words, words_take, known_words}
 use Rattle.unit_numbers.proofs.Structs.{Nothing, StructThen, struct_takes}
 use Rattle.unit_numbers.proofs.Names.{Kept, names_declared}
 
--- ---- what the grammar says of definitions of structs: their words name one
-
-abbrev IsTaggedItem : PlainTree → Type 0
-IsTaggedItem (node k.StructDefinition (more (node tag_kind words) rest)) = has_terminal t.Struct words ≡ true
-IsTaggedItem other = Unit {0}
-
-abbrev AreTaggedItems : PlainTrees → Type 0
-AreTaggedItems none = Unit {0}
-AreTaggedItems (more tree rest) = IsTaggedItem tree × AreTaggedItems rest
-
-tag_has : {kind : Kind} {words : PlainTrees} → Derivation tag (node kind words) → has_terminal t.Struct words ≡ true
-tag_has (made_of k.Specifiers {parts = parts} b a (some_words are)) = (tag_form parts are).has
-tag_has (made_of _ b a s) = absurd cc
-
-item_tagged : {tree : PlainTree} → Derivation file_item tree → IsTaggedItem tree
-item_tagged (single is) = absurd cc
-item_tagged (made_of k.StructDefinition b a (a_row (a_part {tree = node kind words} w row))) = tag_has w
-item_tagged (made_of k.StructDefinition b a (a_row (a_part {tree = leaf token} w row))) = tt
-item_tagged (made_of _ b a s) = tt
-
-items_tagged : {parts : PlainTrees} → Each file_item parts → AreTaggedItems parts
-items_tagged no_more = tt
-items_tagged (one_more d each) = (item_tagged d, items_tagged each)
-
-module _ (first : ℕ) where
+module _ (counts : SizesBindNothing) (first : ℕ) where
   -- ---- functions
 
   -- what is known in a function, but for its slots
@@ -86,13 +62,13 @@ module _ (first : ℕ) where
   slots_run f c d (known_slot {n = n} {b = b} h run) s m l =
       let r = slots_run f c d run s m l in
       record { to = r.to; runs = old (still_known f c d n b.entity s m l h) r.runs; structs = r.structs; members = r.members; others = r.others }
-  slots_run f c d (next_slot {n = n} {b = b} {rest = rest} is run) s m l =
+  slots_run f c d (next_slot {n = n} {b = b} {rest = rest} is unused run) s m l =
       let e : Counts = record d { slots = counted_more f d.slots } in
       let up : counted_more f d.slots f ≡ suc n = ap (λ (y : Bool). if y then suc (d.slots f) else d.slots f) (eq-eqb f f refl) ∙ ap suc l in
       let r = slots_run f c e run s m up in
       record {
         to = r.to;
-        runs = subst (λ x. Runs first d (record b { entity = numbered f x } ∷ map (numbered_binding f) rest) r.to) (sym is) (new (sym l) r.runs);
+        runs = subst (λ x. Runs first d (record b { entity = numbered f x } ∷ map (numbered_binding f) rest) r.to) (sym is) (new (record { unused = unused }) (sym l) r.runs);
         structs = r.structs;
         members = r.members;
         others = λ g other. r.others g other ∙ elsewhere g other;
@@ -138,9 +114,9 @@ module _ (first : ℕ) where
   declaration_takes globals unit c words declarators behind h =
       reaches_then first (Words first Nothing c unit.scope) Between c (based true unit.scope words) (λ base. declared_from globals (with_scope unit base.scope) (storage_of words) base.ty declarators behind)
       (words_take first Nothing c unit.scope words h.fits)
-      (λ base d v. reaches_as first (λ x e. (e ≡ d) × Kept (sense first d) (λ name. tt) tt (λ slot. tt) (with_scope unit base.scope) x) Between d (declared_from globals (with_scope unit base.scope) (storage_of words) base.ty declarators behind)
-      (given_reaches (Kept (sense first d) (λ name. tt) tt (λ slot. tt) (with_scope unit base.scope)) d (declared_from globals (with_scope unit base.scope) (storage_of words) base.ty declarators behind)
-      (names_declared (sense first d) (λ name. tt) tt (λ slot. tt) declarators globals (with_scope unit base.scope) (storage_of words) base.ty behind v.made (record { base = fits_base first Nothing d base.scope v.fits; locals = v.fits.locals })))
+      (λ base d v. reaches_as first (λ x e. (e ≡ d) × Kept (sense first d) counts (λ name. tt) tt (with_scope unit base.scope) x) Between d (declared_from globals (with_scope unit base.scope) (storage_of words) base.ty declarators behind)
+      (given_reaches (Kept (sense first d) counts (λ name. tt) tt (with_scope unit base.scope)) d (declared_from globals (with_scope unit base.scope) (storage_of words) base.ty declarators behind)
+      (names_declared (sense first d) counts (λ name. tt) tt declarators globals (with_scope unit base.scope) (storage_of words) base.ty behind v.made (record { base = fits_base first Nothing d base.scope v.fits; outside = v.fits.locals })))
       (λ x e z. subst (λ y. Between x y) (sym z.0) (record {
         fits = kept_fits d base.scope x.scope z.1.scope.blocks z.1.scope.structs z.1.scope.tags (λ name n is. (z.1.scope.files (λ other m f. (tt, v.fits.files other m f)) name n is).1) v.fits;
         outside = z.1.scope.blocks ∙ v.blocks ∙ h.outside;
@@ -244,8 +220,8 @@ module _ (first : ℕ) where
   small_takes (Some name) unit c h = record { reached = tt }
 
 -- before the first item
-start_between : (structs : List Struct) (numbers : Numbers) → Between (length structs) (unit_start structs numbers) (record { structs = length structs; members = λ s. 0; slots = λ f. 0 })
-start_between structs numbers = record {
+start_between : (counts : SizesBindNothing) (structs : List Struct) (numbers : Numbers) → Between counts (length structs) (unit_start structs numbers) (record { structs = length structs; members = λ s. 0; slots = λ f. 0 })
+start_between counts structs numbers = record {
   fits = record {
     structs = refl;
     below = omega arith;
@@ -261,19 +237,44 @@ start_between structs numbers = record {
   fresh = λ f far. refl;
 }
 
-unit_numbered :
-    (tree : PlainTree) → Rattle.tree_derivations.specs.Derivations.IsDerived tree → Rattle.entity_numbers.specs.Slots.HasNamedFunctions tree → (globals : ℕ) (structs : List Struct) (numbers : Numbers) (unit : UnitState) (js : List Binding)
-    → judged_unit globals structs numbers tree ≡ fine unit js → AreNumbered (record { structs = length structs; members = λ s. 0; slots = λ f. 0 }) [] js
-unit_numbered (leaf token) derived named globals structs numbers unit js e = absurd derived
-unit_numbered (node k.Unit parts) derived named globals structs numbers unit js e =
+-- what a unit binds, from nothing on
+unit_runs :
+    (counts : SizesBindNothing) (tree : PlainTree) → IsDerived tree → HasNamedFunctions tree → (globals : ℕ) (structs : List Struct) (numbers : Numbers) (unit : UnitState) (js : List Binding)
+    → judged_unit globals structs numbers tree ≡ fine unit js → Reached (length structs) (Between counts (length structs)) (record { structs = length structs; members = λ s. 0; slots = λ f. 0 }) unit js
+unit_runs counts (leaf token) derived named globals structs numbers unit js e = absurd derived
+unit_runs counts (node k.Unit parts) derived named globals structs numbers unit js e =
     let first : ℕ = length structs in
     let start : Counts = record { structs = length structs; members = λ s. 0; slots = λ f. 0 } in
-    let r = reaches_then first (Between first) (Between first) start (judged_file_items globals (unit_start structs numbers) parts) (λ x. unless_too_big (too_big_in x.scope parts) >>= (λ small. give x))
-    (items_take first parts globals (unit_start structs numbers) start (items_tagged derived) named (start_between structs numbers))
-    (λ x d v. small_takes first (too_big_in x.scope parts) x d v) in
-    let last = subst (λ j. IfReached first (Between first) start j) e r.reached in
-    runs_are_numbered first last.to js last.runs
-unit_numbered (node _ parts) derived named globals structs numbers unit js e = absurd derived
+    let r = reaches_then first (Between counts first) (Between counts first) start (judged_file_items globals (unit_start structs numbers) parts) (λ x. unless_too_big (too_big_in x.scope parts) >>= (λ small. give x))
+    (items_take counts first parts globals (unit_start structs numbers) start (items_tagged derived) named (start_between counts structs numbers))
+    (λ x d v. small_takes counts first (too_big_in x.scope parts) x d v) in
+    subst (λ j. IfReached first (Between counts first) start j) e r.reached
+unit_runs counts (node _ parts) derived named globals structs numbers unit js e = absurd derived
 
-pub units_are_numbered : UnitsAreDerived → UnitsNameParameters → UnitsAreNumbered
-units_are_numbered derived named tree is globals structs numbers unit js e = unit_numbered tree (derived tree is) (named tree is) globals structs numbers unit js e
+pub units_are_numbered : UnitsAreDerived → UnitsNameParameters → SizesBindNothing → UnitsAreNumbered
+units_are_numbered derived named counts tree is globals structs numbers unit js e =
+    let last = unit_runs counts tree (derived tree is) (named tree is) globals structs numbers unit js e in runs_are_numbered (length structs) last.to js last.runs
+
+pub uses_are_counted :
+    UnitsAreDerived → UnitsNameParameters → SizesBindNothing → (tree : PlainTree) → IsTrue (is_unit tree) → (globals : ℕ) (structs : List Struct) (numbers : Numbers) (unit : UnitState) (js : List Binding)
+    → judged_unit globals structs numbers tree ≡ fine unit js → AreCountedBehind [] js
+uses_are_counted derived named counts tree is globals structs numbers unit js e =
+    let last = unit_runs counts tree (derived tree is) (named tree is) globals structs numbers unit js e in runs_are_counted_behind (length structs) last.to js last.runs
+
+-- the structs of a unit are those that it binds, behind those of the units before
+pub record BindsStructs (before behind : ℕ) (js : List Binding) : Type 0 where
+  pub own : (m : ℕ) → before ≤ m → m < behind → first_place (struct_entity m) js ≡ None → ⊥
+  pub others : (m : ℕ) → behind ≤ m → first_place (struct_entity m) js ≡ None
+  pub no_fewer : before ≤ behind
+
+pub units_bind_structs :
+    UnitsAreDerived → UnitsNameParameters → SizesBindNothing → (tree : PlainTree) → IsTrue (is_unit tree) → (globals : ℕ) (structs : List Struct) (numbers : Numbers) (unit : UnitState) (js : List Binding)
+    → judged_unit globals structs numbers tree ≡ fine unit js → BindsStructs (length structs) (length unit.scope.structs) js
+units_bind_structs derived named counts tree is globals structs numbers unit js e =
+    let last = unit_runs counts tree (derived tree is) (named tree is) globals structs numbers unit js e in
+    let many : last.to.structs ≡ length unit.scope.structs = last.holds.fits.structs in
+    record {
+      own = λ m own less none_. runs_bind_structs (length structs) last.to js last.runs m own (subst (λ n. m < n) (sym many) less) none_;
+      others = λ m more_. runs_bind_no_more (length structs) last.to js last.runs m (subst (λ n. n ≤ m) (sym many) more_);
+      no_fewer = last.holds.fits.below;
+    }

@@ -1,6 +1,7 @@
 -- From what is taken up to a place of a unit to what is taken up to another: what is bound between them is known, or is next.
 use Rattle.std.proofs.Common.{◌≡◌, inl, inr, ℕ, zero, suc, ◌≤◌, ◌<◌, Bool, true, false, List, [], ◌∷◌, ◌++◌, refl, sym, ap, subst, ◌∙◌, arith}
 use Rattle.std.specs.Prelude.{◌⊎◌, Option, Some, None, option_map, ◌==◌, ◌&&◌, if◌then◌else◌}
+use Rattle.std.proofs.lemmas.List.{append_assoc, append-nil}
 use Rattle.std.proofs.lemmas.Bool.{eq-eqb, eqb-true, and_from, false≢true}
 use Rattle.core_meaning.specs.Checking.{Entity, local_entity, local_of_function, file_entity, struct_entity, member_entity, own_entity, Binding, Checked, fine, refused, broken, with_bindings, ◌>>=◌, give}
 use Rattle.bindings.specs.Judged.{same_entity}
@@ -8,24 +9,42 @@ use Rattle.bindings.proofs.Histories.{same_is}
 use Rattle.entity_numbers.specs.Numbered.{Counts, one_more, with_entity, IsNext, first_place, IsNumbered, counted, AreNumbered}
 use Rattle.entity_numbers.proofs.Uses.{All, Binds}
 
+-- entities that are numbered in the order of the text
+abbrev pub IsCounted : Entity → Type 0
+IsCounted (local_of_function f slot) = Unit {0}
+IsCounted (struct_entity n) = Unit {0}
+IsCounted (member_entity s n) = Unit {0}
+IsCounted other = ⊥
+
+-- to what an expression uses another identifier is bound before, if it is numbered
+abbrev pub AreCountedBehind : List Binding → List Binding → Type 0
+AreCountedBehind before [] = Unit {0}
+AreCountedBehind before (b ∷ rest) =
+    (b.in_expression ≡ true → IsCounted b.entity → first_place b.entity before ≡ None → ⊥) × AreCountedBehind (before ++ b ∷ []) rest
+
 -- the structs from this number on are the unit's own
 module _ (first : ℕ) where
   -- what is taken already
   abbrev pub Has : Counts → Entity → Type 0
+  Has c (local_entity slot) = ⊥
   Has c (local_of_function f slot) = slot < c.slots f
   Has c (struct_entity n) = (first ≤ n) × (n < c.structs)
   Has c (member_entity s n) = (first ≤ s) × (n < c.members s)
   Has c other = Unit {0}
 
+  -- what declares isn't used by an expression
+  pub record Declares (b : Binding) : Type 0 where
+    pub unused : b.in_expression ≡ false
+
   pub data Runs : Counts → List Binding → Counts → Type 0 where
     done : {c : Counts} → Runs c [] c
     old : {c d : Counts} {b : Binding} {rest : List Binding} → Has c b.entity → Runs c rest d → Runs c (b ∷ rest) d
-    new : {c d : Counts} {b : Binding} {rest : List Binding} → IsNext c b.entity → Runs (with_entity c b.entity) rest d → Runs c (b ∷ rest) d
+    new : {c d : Counts} {b : Binding} {rest : List Binding} → Declares b → IsNext c b.entity → Runs (with_entity c b.entity) rest d → Runs c (b ∷ rest) d
 
   pub runs_append : {c d e : Counts} {js ks : List Binding} → Runs c js d → Runs d ks e → Runs c (js ++ ks) e
   runs_append done g = g
   runs_append (old h f) g = old h (runs_append f g)
-  runs_append (new h f) g = new h (runs_append f g)
+  runs_append (new d h f) g = new d h (runs_append f g)
 
   pub all_old : (c : Counts) (js : List Binding) → All (Has c) js → Runs c js c
   all_old c [] h = done
@@ -157,7 +176,7 @@ module _ (first : ℕ) where
   known_stays c before (local_of_function f slot) h t = some_stays c (local_of_function f slot) (first_place (local_of_function f slot) before) (t.seen (local_of_function f slot) h)
   known_stays c before (struct_entity n) h t = some_stays c (struct_entity n) (first_place (struct_entity n) before) (t.seen (struct_entity n) h)
   known_stays c before (member_entity s n) h t = some_stays c (member_entity s n) (first_place (member_entity s n) before) (t.seen (member_entity s n) h)
-  known_stays c before (local_entity slot) h t = uncounted c (local_entity slot) (first_place (local_entity slot) before) tt refl
+  known_stays c before (local_entity slot) h t = absurd h
   known_stays c before (file_entity name) h t = uncounted c (file_entity name) (first_place (file_entity name) before) tt refl
   known_stays c before own_entity h t = uncounted c own_entity (first_place own_entity before) tt refl
 
@@ -284,15 +303,54 @@ module _ (first : ℕ) where
   numbered_from (old {c = c} {b = b} {rest = rest} h f) before t =
       let p = known_stays c before b.entity h t in
       (p.0, subst (λ x. AreNumbered x (before ++ b ∷ []) rest) (sym p.1) (numbered_from f (before ++ b ∷ []) (still_told c before b (not_both c b.entity h) t)))
-  numbered_from (new {c = c} {b = b} {rest = rest} n f) before t =
+  numbered_from (new {c = c} {b = b} {rest = rest} d n f) before t =
       let p = next_takes c before b.entity n t in
       (p.0, subst (λ x. AreNumbered x (before ++ b ∷ []) rest) (sym p.1) (numbered_from f (before ++ b ∷ []) (next_told c before b n t)))
 
-  pub runs_are_numbered : (d : Counts) (js : List Binding) → Runs (record { structs = first; members = λ s. 0; slots = λ f. 0 }) js d → AreNumbered (record { structs = first; members = λ s. 0; slots = λ f. 0 }) [] js
-  runs_are_numbered d js f = numbered_from f [] (record { below = omega arith; seen = nothing; unseen = λ e w. refl })
+  abbrev from_nothing : Counts
+  from_nothing = record { structs = first; members = λ s. 0; slots = λ f. 0 }
+
+  none_told : Told from_nothing []
+  none_told = record { below = omega arith; seen = nothing; unseen = λ e w. refl }
     where
-      nothing : (e : Entity) → Within (record { structs = first; members = λ s. 0; slots = λ f. 0 }) e → first_place e [] ≡ None → ⊥
+      nothing : (e : Entity) → Within from_nothing e → first_place e [] ≡ None → ⊥
       nothing (local_of_function f slot) w none_ = let less : slot < 0 = w in omega (arith, less)
       nothing (struct_entity n) w none_ = let more_ : first ≤ n = w.0 in let less : n < first = w.1 in omega (arith, more_, less)
       nothing (member_entity s n) w none_ = let less : n < 0 = w.1 in omega (arith, less)
       nothing _ w none_ = w
+
+  pub runs_are_numbered : (d : Counts) (js : List Binding) → Runs from_nothing js d → AreNumbered from_nothing [] js
+  runs_are_numbered d js f = numbered_from f [] none_told
+
+  -- ---- what expressions use is bound before, where it is numbered
+
+  counted_within : (c : Counts) (e : Entity) → IsCounted e → Has c e → Within c e
+  counted_within c (local_of_function f slot) i h = h
+  counted_within c (struct_entity n) i h = h
+  counted_within c (member_entity s n) i h = h
+  counted_within c _ i h = absurd i
+
+  used_from : {c d : Counts} {js : List Binding} → Runs c js d → (before : List Binding) → Told c before → AreCountedBehind before js
+  used_from done before t = tt
+  used_from (old {c = c} {b = b} {rest = rest} h f) before t =
+      (λ used counted none_. t.seen b.entity (counted_within c b.entity counted h) none_, used_from f (before ++ b ∷ []) (still_told c before b (not_both c b.entity h) t))
+  used_from (new {c = c} {b = b} {rest = rest} d n f) before t =
+      (λ used counted none_. false≢true (sym d.unused ∙ used), used_from f (before ++ b ∷ []) (next_told c before b n t))
+
+  pub runs_are_counted_behind : (d : Counts) (js : List Binding) → Runs from_nothing js d → AreCountedBehind [] js
+  runs_are_counted_behind d js f = used_from f [] none_told
+
+  -- ---- which structs are bound
+
+  told_behind : {c d : Counts} {js : List Binding} → Runs c js d → (before : List Binding) → Told c before → Told d (before ++ js)
+  told_behind (done {c = c}) before t = subst (Told c) (sym (append-nil before)) t
+  told_behind (old {c = c} {d = d} {b = b} {rest = rest} h f) before t =
+      subst (Told d) (append_assoc before (b ∷ []) rest) (told_behind f (before ++ b ∷ []) (still_told c before b (not_both c b.entity h) t))
+  told_behind (new {c = c} {d = d} {b = b} {rest = rest} e n f) before t =
+      subst (Told d) (append_assoc before (b ∷ []) rest) (told_behind f (before ++ b ∷ []) (next_told c before b n t))
+
+  pub runs_bind_structs : (d : Counts) (js : List Binding) → Runs from_nothing js d → (m : ℕ) → first ≤ m → m < d.structs → first_place (struct_entity m) js ≡ None → ⊥
+  runs_bind_structs d js f m own less none_ = (told_behind f [] none_told).seen (struct_entity m) (own, less) none_
+
+  pub runs_bind_no_more : (d : Counts) (js : List Binding) → Runs from_nothing js d → (m : ℕ) → d.structs ≤ m → first_place (struct_entity m) js ≡ None
+  runs_bind_no_more d js f m more_ = (told_behind f [] none_told).unseen (struct_entity m) more_

@@ -114,7 +114,7 @@ module _ (first : ℕ) where
         known_then first (Inside s) c (unless_so (not (is_some (known.numbers name.text))) Redeclared name) _ (unless_binds (Has first c) (not (is_some (known.numbers name.text))) Redeclared name)
         (λ x. reaches_then first (λ y e. e ≡ d) (Inside s) c (declares (member_entity number (length known.members)))
         (λ bound. object_type s ty kind parts name None >>= (λ whole. unless_so (is_complete s.structs whole) Incomplete name >>= (λ complete. give (with_member s.structs known name.text whole))))
-        (record { reached = record { to = d; runs = new h.counted done; holds = refl } })
+        (record { reached = record { to = d; runs = new (record { unused = refl }) h.counted done; holds = refl } })
         (λ y e is. subst (λ z. Reaches first (Inside s) z (object_type s ty kind parts name None >>= (λ whole. unless_so (is_complete s.structs whole) Incomplete name >>= (λ complete. give (with_member s.structs known name.text whole))))) (sym is)
         (typed_then first (Made (tags_from first)) (Inside s) d (object_type s ty kind parts name None) (λ whole. unless_so (is_complete s.structs whole) Incomplete name >>= (λ complete. give (with_member s.structs known name.text whole)))
         (object_gives (Has first d) (tags_from first) s (fits_allows first (Open number) d s fits_) ty kind parts name None made)

@@ -1,0 +1,4 @@
+pub mod Twice
+pub mod Expressions
+pub mod Declarations
+pub mod Units

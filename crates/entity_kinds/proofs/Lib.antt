@@ -1,0 +1,9 @@
+pub mod Pairs
+pub mod Expressions
+pub mod Counts
+pub mod Initialisers
+pub mod Declarators
+pub mod Statements
+pub mod Tags
+pub mod Members
+pub mod Units
