@@ -61,7 +61,7 @@ itself_number : (i : Identified) (o : Option Identified) → (or_itself i o).num
 itself_number i None = refl
 itself_number i (Some first) = refl
 
-firsts_alike :
+pub firsts_alike :
     (all others xs ys : List Identified) → map number_of (map (occurrence_among all) xs) ≡ map number_of (map (occurrence_among others) ys)
     → AllZip (AreFirstAlike all others) xs ys
 firsts_alike all others [] [] e = tt
