@@ -1,7 +1,8 @@
 -- The laws on judged units.
 use Rattle.std.proofs.Common.{◌≡◌, ℕ, ◌+◌, Bool, true, false, List, [], ◌∷◌, ◌++◌, refl, sym, ap, subst, ◌∙◌, length, IsTrue}
-use Rattle.std.specs.Prelude.{not, ◌&&◌, ◌||◌}
-use Rattle.std.specs.List.{AllZip}
+use Rattle.std.specs.Prelude.{not, ◌&&◌, ◌||◌, Option, Some, None, is_some, if◌then◌else◌}
+use Rattle.std.proofs.lemmas.Option.{none-some}
+use Rattle.std.specs.List.{AllByRecursion, AllZip}
 use Rattle.std.specs.Str.{bytes_eq}
 use Rattle.std.specs.Cmp.Lexicographic.{bytes_decides}
 use Rattle.std.proofs.lemmas.Bool.{false≢true, and_parts, and_from}
@@ -10,29 +11,67 @@ use Rattle.c_tree.specs.declared.kinds.Kind.TheVariants as k
 use Rattle.c_tree.specs.Trees.{PlainTree, leaf, node}
 use Rattle.core_meaning.specs.declared.refusals.TypeKind.TheVariants.{Undeclared}
 use Rattle.core_meaning.specs.Checking.{Entity, file_entity, Binding as JudgedBinding, Checked, fine, refused, broken, with_bindings, ◌>>=◌, give}
-use Rattle.core_meaning.specs.Entities.{Struct, Numbers}
+use Rattle.core_meaning.specs.Entities.{Struct, FileName, Numbers}
 use Rattle.core_meaning.specs.UnitNames.{UnitState, judged_unit}
 use Rattle.core_meaning.specs.Linking.{is_use_of, uses_in, Units, closed, judged_units, no_numbers, numbers_in, literals_of, listed}
 use Rattle.tree_derivations.specs.Derivations.{UnitsAreDerived}
 use Rattle.bindings.specs.Visible.{Binding, bound_to, undeclared, member_use, Occurrence, uses_among}
 use Rattle.bindings.specs.Bindings.{bindings_of}
-use Rattle.bindings.specs.Judged.{Identified, identified, AreAlike, is_file_entity, IsUsedAlike, IsFirstUndeclared, AreDeclared}
-use Rattle.bindings.proofs.Histories.{is_declared}
-use Rattle.bindings.specs.Laws.{IsWritten, AreWritten, JudgementsBindAlike, FileNamesAreUsedAlike, UndeclaredIsFirst, DeclaredIsUnrefused, UnitsAreJudged, ProgramsAreJudged}
+use Rattle.bindings.specs.Judged.{same_entity, Identified, first_with, identified, AreAlike, is_file_entity, IsUsedAlike, IsFirstUndeclared, AreDeclared}
+use Rattle.bindings.proofs.Histories.{recorded, Grows, recorded_grows, is_declared}
+use Rattle.bindings.specs.Laws.{IsWritten, AreWritten, JudgementsBindAlike, FileNamesAreUsedAlike, UndeclaredIsFirst, DeclaredIsUnrefused, UnitsAreJudged, ProgramsAreJudged, IsVisibleIn, BoundNamesAreVisible}
 use Rattle.bindings.proofs.Follows.{used_alike, all_used_alike}
 use Rattle.bindings.proofs.Items.{Bound, Binds}
 use Rattle.bindings.proofs.Pieces.{holds_of}
-use Rattle.bindings.proofs.Units.{Nothing, unit_read}
+use Rattle.bindings.proofs.Units.{AreVisible, unit_read}
 
-written_read : UnitsAreDerived → (tree : PlainTree) → IsWritten tree → (globals : ℕ) (structs : List Struct) (numbers : Numbers) → Binds [] [] (bindings_of tree) Nothing (judged_unit globals structs numbers tree)
+written_read : UnitsAreDerived → (tree : PlainTree) → IsWritten tree → (globals : ℕ) (structs : List Struct) (numbers : Numbers) → Binds [] [] (bindings_of tree) AreVisible (judged_unit globals structs numbers tree)
 written_read derived (leaf token) w globals structs numbers = absurd (derived (leaf token) w.unit)
 written_read derived (node k.Unit parts) w globals structs numbers = unit_read (derived (node k.Unit parts) w.unit) (holds_of (node k.Unit parts) [] w.pieces).0 globals structs numbers
 written_read derived (node kind parts) w globals structs numbers = absurd (derived (node kind parts) w.unit)
 
 pub judgements_bind_alike : UnitsAreDerived → JudgementsBindAlike
 judgements_bind_alike derived tree w globals structs numbers unit js e =
-    let b : Bound [] [] (bindings_of tree) js (Nothing unit) = subst (Binds [] [] (bindings_of tree) Nothing) e (written_read derived tree w globals structs numbers) in
+    let b : Bound [] [] (bindings_of tree) js (AreVisible unit) = subst (Binds [] [] (bindings_of tree) AreVisible) e (written_read derived tree w globals structs numbers) in
     subst (λ os. AreAlike [] os js) (sym b.is) b.alike
+
+-- ---- names of file scope that are bound
+
+some_first : (before : List Identified) (o : Occurrence) (j : JudgedBinding) (e : Entity) → same_entity j.entity e ≡ true → (i : Identified) × (first_with e (before ++ identified o j ∷ []) ≡ Some i)
+some_first [] o j e h = (identified o j, ap (λ (b : Bool). if b then Some (identified o j) else None) h)
+some_first (x ∷ before) o j e h = by (same_entity x.entity e) (some_first before o j e h)
+  where
+    by : (b : Bool) → (i : Identified) × (first_with e (before ++ identified o j ∷ []) ≡ Some i) → (i : Identified) × ((if b then Some x else first_with e (before ++ identified o j ∷ [])) ≡ Some i)
+    by true f = (x, refl)
+    by false f = f
+
+one_visible :
+    (unit : UnitState) (h before : List Identified) (o : Occurrence) (j : JudgedBinding) → ((name : List ℕ) → unit.scope.file_names name ≡ None → first_with (file_entity name) h ≡ None)
+    → Grows (before ++ identified o j ∷ []) h → (e : Entity) → j.entity ≡ e → IsVisibleIn unit e
+one_visible unit h before o j v grows (file_entity name) e = by (unit.scope.file_names name) refl
+  where
+    by : (n : Option FileName) → unit.scope.file_names name ≡ n → IsTrue (is_some n)
+    by (Some n) is = refl
+    by None is =
+        let f = some_first before o j (file_entity name) (ap (λ x. same_entity x (file_entity name)) e ∙ (bytes_decides name name).1 refl) in
+        absurd (none-some f.0 (sym (v name is) ∙ grows (file_entity name) f.0 f.1))
+one_visible unit h before o j v grows _ e = tt
+
+all_visible :
+    (unit : UnitState) (before : List Identified) (os : List Occurrence) (js : List JudgedBinding) → AreAlike before os js
+    → ((name : List ℕ) → unit.scope.file_names name ≡ None → first_with (file_entity name) (recorded before os js) ≡ None) → AllByRecursion (λ j. IsVisibleIn unit j.entity) js
+all_visible unit before [] [] a v = tt
+all_visible unit before [] (j ∷ js) a v = absurd a
+all_visible unit before (o ∷ os) [] a v = absurd a
+all_visible unit before (o ∷ os) (j ∷ js) a v = (
+  one_visible unit (recorded (before ++ identified o j ∷ []) os js) before o j v (recorded_grows (before ++ identified o j ∷ []) os js) j.entity refl,
+  all_visible unit (before ++ identified o j ∷ []) os js a.1 v,
+)
+
+pub bound_names_are_visible : UnitsAreDerived → BoundNamesAreVisible
+bound_names_are_visible derived tree w globals structs numbers unit js e =
+    let b : Bound [] [] (bindings_of tree) js (AreVisible unit) = subst (Binds [] [] (bindings_of tree) AreVisible) e (written_read derived tree w globals structs numbers) in
+    all_visible unit [] b.os js b.alike b.after
 
 -- ---- names of file scope that are used
 
@@ -80,7 +119,7 @@ same_uses name (o ∷ os) (j ∷ js) h =
 
 bound_used : UnitsAreDerived → (tree : PlainTree) → IsWritten tree → (globals : ℕ) (structs : List Struct) (numbers : Numbers) (unit : UnitState) (js : List JudgedBinding) → judged_unit globals structs numbers tree ≡ fine unit js → all_used_alike (bindings_of tree) js ≡ true
 bound_used derived tree w globals structs numbers unit js e =
-    let b : Bound [] [] (bindings_of tree) js (Nothing unit) = subst (Binds [] [] (bindings_of tree) Nothing) e (written_read derived tree w globals structs numbers) in
+    let b : Bound [] [] (bindings_of tree) js (AreVisible unit) = subst (Binds [] [] (bindings_of tree) AreVisible) e (written_read derived tree w globals structs numbers) in
     subst (λ os. all_used_alike os js ≡ true) (sym b.is) b.used
 
 pub file_names_are_used_alike : UnitsAreDerived → FileNamesAreUsedAlike
@@ -91,7 +130,7 @@ file_names_are_used_alike derived = record {
 
 pub undeclared_is_first : UnitsAreDerived → UndeclaredIsFirst
 undeclared_is_first derived tree w globals structs numbers at e =
-    let u : Binds [] [] (bindings_of tree) (Nothing {A = UnitState}) (refused Undeclared at) = subst (Binds [] [] (bindings_of tree) Nothing) e (written_read derived tree w globals structs numbers) in
+    let u : Binds [] [] (bindings_of tree) AreVisible (refused Undeclared at) = subst (Binds [] [] (bindings_of tree) AreVisible) e (written_read derived tree w globals structs numbers) in
     subst (IsFirstUndeclared at) (sym u.is) u.first
 
 first_isnt_declared : (at : PlainToken) (os : List Occurrence) → AreDeclared os → IsFirstUndeclared at os → ⊥
@@ -117,7 +156,7 @@ declared_is_unrefused derived = record {
 }
 
 pub units_are_judged : UnitsAreDerived → UnitsAreJudged
-units_are_judged derived tree w globals structs numbers e = subst (Binds [] [] (bindings_of tree) Nothing) e (written_read derived tree w globals structs numbers)
+units_are_judged derived tree w globals structs numbers e = subst (Binds [] [] (bindings_of tree) AreVisible) e (written_read derived tree w globals structs numbers)
 
 -- ---- programs
 

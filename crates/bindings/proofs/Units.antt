@@ -15,7 +15,7 @@ use Rattle.core_meaning.specs.UnitNames.{UnitState, storage_of, with_scope, decl
 use Rattle.tree_derivations.specs.Derivations.{Derivation, single, made_of, a_row, at_end, a_word, a_part, some_words, one_or_more, Each, no_more, one_more, Declared, last_plain, last_initialised, next_plain, next_initialised}
 use Rattle.bindings.specs.Visible.{Reading, start, passed, leave}
 use Rattle.bindings.specs.Bindings.{is_name, at_file, read_words, read_declarators, read_declarator, read_closed_suffix, read_suffix, read_declaration, read_statement, read_members, read_item, read_items, read_unit, bindings_of, tag_text}
-use Rattle.bindings.specs.Judged.{Identified}
+use Rattle.bindings.specs.Judged.{Identified, first_with}
 use Rattle.bindings.proofs.Follows.{adds_none, adds_both, Follows, follows_both, follows_as}
 use Rattle.bindings.proofs.Spellings.{Holds, AllHold}
 use Rattle.bindings.proofs.Types.{Made}
@@ -252,20 +252,21 @@ start_between structs numbers = record {
   fresh = λ f s far. refl;
 }
 
-abbrev pub Nothing : {A : Type 0} → A → List Identified → Type 0
-Nothing x h = Unit {0}
+-- no identifier is bound to a name of file scope that isn't visible
+abbrev pub AreVisible : UnitState → List Identified → Type 0
+AreVisible unit h = (name : List ℕ) → unit.scope.file_names name ≡ None → first_with (file_entity name) h ≡ None
 
-small_binds : (o : Option PlainToken) (unit : UnitState) (h : List Identified) (found : List Rattle.bindings.specs.Visible.Occurrence) → Binds h found found Nothing (unless_too_big o >>= (λ small. give unit))
-small_binds None unit h found = record { os = []; is = sym (append-nil found); alike = tt; used = refl; after = tt }
-small_binds (Some name) unit h found = tt
+small_binds : (o : Option PlainToken) (unit : UnitState) (h : List Identified) (found : List Rattle.bindings.specs.Visible.Occurrence) → AreVisible unit h → Binds h found found AreVisible (unless_too_big o >>= (λ small. give unit))
+small_binds None unit h found v = record { os = []; is = sym (append-nil found); alike = tt; used = refl; after = v }
+small_binds (Some name) unit h found v = tt
 
 pub unit_read :
     {parts : PlainTrees} → Each file_item parts → AllHold parts → (globals : ℕ) (structs : List Struct) (numbers : Numbers)
-    → Binds [] [] (bindings_of (node k.Unit parts)) Nothing (judged_unit globals structs numbers (node k.Unit parts))
+    → Binds [] [] (bindings_of (node k.Unit parts)) AreVisible (judged_unit globals structs numbers (node k.Unit parts))
 unit_read {parts} each holds globals structs numbers =
     let last : Reading = read_items parts start in
-    binds_both [] [] last.found last.found (λ x g. Between x last g) Nothing (judged_file_items globals (unit_start structs numbers) parts)
+    binds_both [] [] last.found last.found (λ x g. Between x last g) AreVisible (judged_file_items globals (unit_start structs numbers) parts)
     (λ unit. unless_too_big (too_big_in unit.scope parts) >>= (λ small. give unit))
     (items_read each holds globals (unit_start structs numbers) start [] (start_between structs numbers))
-    (λ unit g v. small_binds (too_big_in unit.scope parts) unit g last.found)
+    (λ unit g v. small_binds (too_big_in unit.scope parts) unit g last.found (λ name e. v.rel.no_first name e refl))
     (adds_none last.found)

@@ -1,12 +1,12 @@
 -- What holds of the bindings of units and of how they are judged; each is the contract of a function of this crate.
-use Rattle.std.specs.Prelude.{◌≡◌, ℕ, List, [], ◌∷◌, Some, IsTrue}
-use Rattle.std.specs.List.{AllZip}
+use Rattle.std.specs.Prelude.{◌≡◌, ℕ, List, [], ◌∷◌, Some, is_some, IsTrue}
+use Rattle.std.specs.List.{AllByRecursion, AllZip}
 use Rattle.c_text.specs.Token.{PlainToken}
 use Rattle.c_text.specs.Pieces.{piece_of, token}
 use Rattle.c_tree.specs.Trees.{PlainTree, spelled}
 use Rattle.c_tree.specs.Grammar.{is_unit}
 use Rattle.core_meaning.specs.declared.refusals.TypeKind.TheVariants.{Undeclared}
-use Rattle.core_meaning.specs.Checking.{Binding as JudgedBinding, fine, refused, broken}
+use Rattle.core_meaning.specs.Checking.{Entity, file_entity, Binding as JudgedBinding, fine, refused, broken}
 use Rattle.core_meaning.specs.Entities.{Struct, Numbers}
 use Rattle.core_meaning.specs.UnitNames.{UnitState, judged_unit}
 use Rattle.core_meaning.specs.Linking.{uses_in, judged_program}
@@ -42,6 +42,17 @@ pub record FileNamesAreUsedAlike : Type 0 where
   pub names :
       (tree : PlainTree) → IsWritten tree → (globals : ℕ) (structs : List Struct) (numbers : Numbers) (unit : UnitState) (js : List JudgedBinding)
       → judged_unit globals structs numbers tree ≡ fine unit js → (name : List ℕ) → uses_in js name ≡ uses_among (bindings_of tree) name
+
+-- a name of file scope is visible at the end of the unit
+abbrev pub IsVisibleIn : UnitState → Entity → Type 0
+IsVisibleIn unit (file_entity name) = IsTrue (is_some (unit.scope.file_names name))
+IsVisibleIn unit other = Unit {0}
+
+-- and what identifiers are bound to is visible at its end
+abbrev pub BoundNamesAreVisible : Type 0
+BoundNamesAreVisible =
+    (tree : PlainTree) → IsWritten tree → (globals : ℕ) (structs : List Struct) (numbers : Numbers) (unit : UnitState) (js : List JudgedBinding)
+    → judged_unit globals structs numbers tree ≡ fine unit js → AllByRecursion (λ j. IsVisibleIn unit j.entity) js
 
 -- one that is refused as undeclared is refused at the first identifier that is
 abbrev pub UndeclaredIsFirst : Type 0

@@ -1,5 +1,5 @@
 //! Laws of bindings. Each function is its contract, and leans on how units are derived.
-ghost use Rattle.bindings.specs.Laws.{JudgementsBindAlike, FileNamesAreUsedAlike, UndeclaredIsFirst, DeclaredIsUnrefused, UnitsAreJudged, ProgramsAreJudged};
+ghost use Rattle.bindings.specs.Laws.{JudgementsBindAlike, FileNamesAreUsedAlike, UndeclaredIsFirst, DeclaredIsUnrefused, UnitsAreJudged, ProgramsAreJudged, BoundNamesAreVisible};
 
 /// Where a unit is judged well, the judgement binds its identifiers as the bindings of the unit do: each to what the first
 /// identifier of its entity declares. So none is undeclared.
@@ -41,6 +41,13 @@ pub fn units_are_judged()
 /// So are the units of a program together.
 pub fn programs_are_judged()
     ensures { ProgramsAreJudged }
+{
+    tree_derivations::units_are_derived();
+}
+
+/// In a unit that is judged well, each name of file scope to which an identifier is bound is visible at its end.
+pub fn bound_names_are_visible()
+    ensures { BoundNamesAreVisible }
 {
     tree_derivations::units_are_derived();
 }

@@ -6,7 +6,7 @@ mod laws;
 mod rows;
 
 pub use laws::{
-    declared_is_unrefused, file_names_are_used_alike, judgements_bind_alike, programs_are_judged,
-    undeclared_is_first, units_are_judged,
+    bound_names_are_visible, declared_is_unrefused, file_names_are_used_alike,
+    judgements_bind_alike, programs_are_judged, undeclared_is_first, units_are_judged,
 };
 pub use rows::worked_rows;

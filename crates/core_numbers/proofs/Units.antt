@@ -244,4 +244,4 @@ pub bindings_need_no_numbers : CountsNeedNoNames → SizesBindNothing → Bindin
 bindings_need_no_numbers nameless counts tree globals count structs numbers others unit other js ks e f =
     let both = (unit_same nameless counts others globals count tree structs numbers).holds in
     let last = subst (λ d. Sides (SameUnits nameless counts others) (fine unit js) d) f (subst (λ c. Sides (SameUnits nameless counts others) c (judged_unit count structs others tree)) e both) in
-    record { bound = last.0; structs = ap (λ (x : UnitState). x.scope.structs) (sym last.1.is) }
+    record { bound = last.0; structs = ap (λ (x : UnitState). x.scope.structs) (sym last.1.is); names = ap (λ (x : UnitState). x.scope.file_names) (sym last.1.is) }

@@ -5,10 +5,11 @@ use Rattle.core_meaning.specs.Checking.{Binding, fine}
 use Rattle.core_meaning.specs.Entities.{Struct, Numbers}
 use Rattle.core_meaning.specs.UnitNames.{UnitState, judged_unit}
 
--- the same bindings, and the same structs behind the unit
+-- the same bindings, and the same structs and names of file scope behind the unit
 pub record AreBoundTheSame (unit other : UnitState) (bindings behind : List Binding) : Type 0 where
   pub bound : bindings ≡ behind
   pub structs : unit.scope.structs ≡ other.scope.structs
+  pub names : unit.scope.file_names ≡ other.scope.file_names
 
 -- A unit that is judged well with some numbers, and with others, behind the same structs, binds its identifiers the same.
 abbrev pub BindingsNeedNoNumbers : Type 0

@@ -20,8 +20,8 @@ IsUsable (struct_entity n) = ⊥
 IsUsable own_entity = ⊥
 IsUsable other = Unit {0}
 
--- Two names of file scope, two tags, two parameters of declarations; slots of functions with one number; members of structs that are named at
--- one place before.
+-- Two names of file scope, two tags, two parameters of declarations; slots of functions with one number, or of no function yet; members of
+-- structs that are named at one place before.
 abbrev pub AreDeclaredAlike : Ties → Entity → Entity → Type 0
 AreDeclaredAlike ties (local_entity m) (local_entity n) = Unit {0}
 AreDeclaredAlike ties (local_of_function f m) (local_of_function g n) = f ≡ g

@@ -6,7 +6,7 @@
 ghost use Rattle.entity_numbers.specs.Laws.{NumberedAreBoundAlike, FirstsAreBoundAlike, BlocksTakeSlotsInTurn, FunctionsTakeSlotsInTurn, UnitsNameParameters};
 
 /// Two lists of bindings that are numbered from the same counts correspond entity by entity, where each two identifiers at one
-/// place are bound to what is first bound at one place, and there to entities of one kind.
+/// place are bound to what is first bound at one place, and stand for things of one kind if no expression uses them.
 pub fn numbered_are_bound_alike()
     ensures { NumberedAreBoundAlike }
 {}

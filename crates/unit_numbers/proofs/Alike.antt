@@ -3,12 +3,14 @@ use Rattle.std.proofs.Common.{◌≡◌, ℕ, ◌+◌, suc, ◌≤◌, Bool, tru
 use Rattle.std.specs.Prelude.{Option, Some, None, if◌then◌else◌}
 use Rattle.std.specs.List.{AllZip}
 use Rattle.c_text.specs.Token.{PlainToken}
-use Rattle.c_tree.specs.Trees.{spelled}
-use Rattle.core_meaning.specs.Checking.{Binding}
+use Rattle.c_tree.specs.Trees.{PlainTree, spelled}
+use Rattle.core_meaning.specs.Checking.{Binding, fine}
+use Rattle.core_meaning.specs.Entities.{Struct, Numbers}
+use Rattle.core_meaning.specs.UnitNames.{UnitState, judged_unit}
 use Rattle.bindings.specs.Visible.{Occurrence as BoundIdentifier}
 use Rattle.bindings.specs.Bindings.{is_name, bindings_of}
 use Rattle.bindings.specs.Judged.{Identified, first_with, number_or, identified, AreAlike}
-use Rattle.bindings.specs.Laws.{JudgementsBindAlike}
+use Rattle.bindings.specs.Laws.{IsWritten, JudgementsBindAlike}
 use Rattle.entity_numbers.specs.Numbered.{AreNumbered}
 use Rattle.entity_numbers.specs.Firsts.{AreOf, AreInOrder, AreFirstAlike}
 use Rattle.entity_numbers.specs.Laws.{FirstsAreBoundAlike}
@@ -27,13 +29,20 @@ of_bound before [] (j ∷ js) h = absurd h
 of_bound before (o ∷ os) [] h = absurd h
 of_bound before (o ∷ os) (j ∷ js) h = (refl, of_bound (before ++ identified o j ∷ []) os js h.1)
 
+-- so in a unit that is judged well
+pub identified_of :
+    JudgementsBindAlike → IdentifiersAreBound → (tree : PlainTree) → IsWritten tree → (globals : ℕ) (structs : List Struct) (numbers : Numbers) (unit : UnitState) (js : List Binding)
+    → judged_unit globals structs numbers tree ≡ fine unit js → AreOf (with_entities (identifiers_from 0 (spelled tree)) js) js
+identified_of alike bound tree w globals structs numbers unit js e =
+    subst (λ is. AreOf (with_entities is js) js) (bound tree w.unit) (of_bound [] (bindings_of tree) js (alike tree w globals structs numbers unit js e))
+
 -- ---- identifiers stand in the order of the text
 
 next_order : (n : ℕ) (token : PlainToken) (others : List Identifier) (js : List Binding) (from : ℕ) → from ≤ n → ((js : List Binding) → AreInOrder (suc n) (with_entities others js)) → AreInOrder from (with_entities (record { number = n; token = token } ∷ others) js)
 next_order n token others [] from less further = tt
 next_order n token others (j ∷ js) from less further = (less, further js)
 
-in_order : (tokens : List PlainToken) (n : ℕ) (js : List Binding) (from : ℕ) → from ≤ n → AreInOrder from (with_entities (identifiers_from n tokens) js)
+pub in_order : (tokens : List PlainToken) (n : ℕ) (js : List Binding) (from : ℕ) → from ≤ n → AreInOrder from (with_entities (identifiers_from n tokens) js)
 in_order [] n js from less = tt
 in_order (token ∷ rest) n js from less =
     by (is_name token) (λ ks. in_order rest (n + 1) ks (suc n) (omega arith)) (in_order rest (n + 1) js from (omega (arith, less)))
@@ -53,7 +62,7 @@ itself_number : (i : Identified) (o : Option Identified) → (or_itself i o).num
 itself_number i None = refl
 itself_number i (Some first) = refl
 
-firsts_alike :
+pub firsts_alike :
     (all others xs ys : List Identified) → map number_of (map (occurrence_among all) xs) ≡ map number_of (map (occurrence_among others) ys)
     → AllZip (AreFirstAlike all others) xs ys
 firsts_alike all others [] [] e = tt
@@ -73,8 +82,8 @@ pub units_bind_alike : UnitsAreNumbered → FirstsAreBoundAlike → JudgementsBi
 units_bind_alike numbered firsts alike bound kinds slots uses named tree other w v differ globals count structs others numbers more_ unit after js ks lengths e f same names =
     let xs : List Identified = with_entities (identifiers_from 0 (spelled tree)) js in
     let ys : List Identified = with_entities (identifiers_from 0 (spelled other)) ks in
-    let x : AreOf xs js = subst (λ is. AreOf (with_entities is js) js) (bound tree w.unit) (of_bound [] (bindings_of tree) js (alike tree w globals structs numbers unit js e)) in
-    let y : AreOf ys ks = subst (λ is. AreOf (with_entities is ks) ks) (bound other v.unit) (of_bound [] (bindings_of other) ks (alike other v count others more_ after ks f)) in
+    let x : AreOf xs js = identified_of alike bound tree w globals structs numbers unit js e in
+    let y : AreOf ys ks = identified_of alike bound other v count others more_ after ks f in
     let second : AreNumbered (counts_behind structs) [] ks =
     subst (λ n. AreNumbered (record { structs = n; members = λ s. 0; slots = λ g. 0 }) [] ks) (sym lengths) (numbered other v.unit count others more_ after ks f) in
     firsts named (counts_behind structs) xs ys js ks x y (in_order (spelled tree) 0 js 0 (omega arith)) (firsts_alike xs ys xs ys same) (numbered tree w.unit globals structs numbers unit js e) second
