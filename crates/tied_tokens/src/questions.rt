@@ -9,7 +9,7 @@ ghost use Rattle.tied_tokens.specs.Reached.{IsPossible};
 ghost use Rattle.tied_tokens.specs.Search.{TellsModel};
 
 use crate::ties::TiedTokens;
-use cond_formula::{Formula, NoMemory};
+use cond_formula::{Config, Formula, NoMemory};
 use std::alloc::{AllocError, Global};
 use verdict_query::{Verdict, ask};
 
@@ -24,6 +24,39 @@ fn is_some(verdict: Verdict) -> Result<bool, NoMemory>
     }
 }
 
+/// Sets of features in which many conditions are true that are true anywhere: none, all, and every other one.
+const TRIED: [u128; 4] = [
+    0,
+    u128::MAX,
+    0x5555_5555_5555_5555_5555_5555_5555_5555,
+    0xaaaa_aaaa_aaaa_aaaa_aaaa_aaaa_aaaa_aaaa,
+];
+
+/// Whether the configuration is admitted and accepted, and makes the condition true.
+fn is_found_in(all: &TiedTokens<'_>, when: &Formula, c: Config) -> bool
+    ensures { IsTrue result → IsPossible (plain_tied_tokens all.now) (condition_of when.now) }
+{
+    if !all.model.admits(c) {
+        return false;
+    }
+    if !all.accepted.value(c) {
+        return false;
+    }
+    when.value(c)
+}
+
+/// Whether one of the sets that are tried does so, which saves the solver many questions.
+fn is_found(all: &TiedTokens<'_>, when: &Formula) -> bool
+    ensures { IsTrue result → IsPossible (plain_tied_tokens all.now) (condition_of when.now) }
+{
+    for bits in TRIED {
+        if is_found_in(all, when, Config { bits }) {
+            return true;
+        }
+    }
+    false
+}
+
 /// Whether some configuration that is admitted and accepted makes the condition true.
 pub(crate) fn is_possible(
     alloc: Global,
@@ -35,6 +68,9 @@ pub(crate) fn is_possible(
     requires condition { VarsBelow 128 (condition_of when.now) }
     ensures { IfOk result (λ b. IsTrue b ↔ IsPossible (plain_tied_tokens all.now) (condition_of when.now)) }
 {
+    if is_found(all, when) {
+        return Ok(true);
+    }
     let accepted = all.accepted.try_clone(alloc)?;
     let when = when.try_clone(alloc)?;
     let question = Formula::and(alloc, accepted, when)?;
