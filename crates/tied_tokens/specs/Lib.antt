@@ -1,0 +1,4 @@
+pub mod Tokens
+pub mod Ties
+pub mod Reached
+pub mod Search

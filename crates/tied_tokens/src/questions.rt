@@ -1,0 +1,78 @@
+//! Whether a condition is true in some configuration that counts.
+
+ghost use Rattle.std.specs.Prelude.{◌≡◌, ◌↔◌, IsTrue, IfOk};
+ghost use Rattle.cond_formula.specs.Conditions.{condition_of, Condition, VarsBelow};
+ghost use Rattle.feature_model.specs.ModelView.{admitted};
+ghost use Rattle.verdict_query.specs.Verdicts.{where_admitted, IsVerdict};
+ghost use Rattle.tied_tokens.specs.Ties.{plain_tied_tokens};
+ghost use Rattle.tied_tokens.specs.Reached.{IsPossible};
+ghost use Rattle.tied_tokens.specs.Search.{TellsModel};
+
+use crate::ties::TiedTokens;
+use cond_formula::{Config, Formula, NoMemory};
+use std::alloc::{AllocError, Global};
+use verdict_query::{Verdict, ask};
+
+/// Whether a configuration is answered.
+fn is_some(verdict: Verdict) -> Result<bool, NoMemory>
+    ensures { (admitted condition : Condition) → IsVerdict admitted condition verdict → IfOk result (TellsModel (where_admitted admitted condition)) }
+{
+    match verdict {
+        Verdict::Least(_) => Ok(true),
+        Verdict::Never(_) => Ok(false),
+        Verdict::Memory => Err(AllocError),
+    }
+}
+
+/// Sets of features in which many conditions are true that are true anywhere: none, all, and every other one.
+const TRIED: [u128; 4] = [
+    0,
+    u128::MAX,
+    0x5555_5555_5555_5555_5555_5555_5555_5555,
+    0xaaaa_aaaa_aaaa_aaaa_aaaa_aaaa_aaaa_aaaa,
+];
+
+/// Whether the configuration is admitted and accepted, and makes the condition true.
+fn is_found_in(all: &TiedTokens<'_>, when: &Formula, c: Config) -> bool
+    ensures { IsTrue result → IsPossible (plain_tied_tokens all.now) (condition_of when.now) }
+{
+    if !all.model.admits(c) {
+        return false;
+    }
+    if !all.accepted.value(c) {
+        return false;
+    }
+    when.value(c)
+}
+
+/// Whether one of the sets that are tried does so, which saves the solver many questions.
+fn is_found(all: &TiedTokens<'_>, when: &Formula) -> bool
+    ensures { IsTrue result → IsPossible (plain_tied_tokens all.now) (condition_of when.now) }
+{
+    for bits in TRIED {
+        if is_found_in(all, when, Config { bits }) {
+            return true;
+        }
+    }
+    false
+}
+
+/// Whether some configuration that is admitted and accepted makes the condition true.
+pub(crate) fn is_possible(
+    alloc: Global,
+    all: &TiedTokens<'_>,
+    when: &Formula,
+) -> Result<bool, NoMemory>
+    requires model { VarsBelow 128 (admitted all.now.model.now) }
+    requires accepted { VarsBelow 128 (condition_of all.now.accepted.now) }
+    requires condition { VarsBelow 128 (condition_of when.now) }
+    ensures { IfOk result (λ b. IsTrue b ↔ IsPossible (plain_tied_tokens all.now) (condition_of when.now)) }
+{
+    if is_found(all, when) {
+        return Ok(true);
+    }
+    let accepted = all.accepted.try_clone(alloc)?;
+    let when = when.try_clone(alloc)?;
+    let question = Formula::and(alloc, accepted, when)?;
+    is_some(ask(alloc, all.model, &question))
+}
