@@ -2,7 +2,7 @@
 //! definitions (in `specs/`) and the laws, the contracts of functions without a body of their own.
 #![tactic(auto)]
 
-ghost use Rattle.program_names.specs.Laws.{UnitsOfProgramsBindAlike, NamesAreOneToOne};
+ghost use Rattle.program_names.specs.Laws.{UnitsOfProgramsBindAlike, NamesAreOneToOne, NamesAreLinkedAlike};
 
 /// The units of two programs that differ only in names bind alike, where each identifier is declared by the one at the same place.
 pub fn units_of_programs_bind_alike()
@@ -21,3 +21,13 @@ pub fn units_of_programs_bind_alike()
 pub fn names_are_one_to_one()
     ensures { NamesAreOneToOne }
 {}
+
+/// Where declarations are linked as before, and `main` is written where it was, they are linked alike.
+pub fn names_are_linked_alike()
+    ensures { NamesAreLinkedAlike }
+{
+    program_occurrences::units_of_programs_are_judged();
+    bindings::bound_names_are_visible();
+    occurrence_names::file_names_are_written();
+    core_numbers::bindings_need_no_numbers();
+}
