@@ -15,14 +15,11 @@ use Rattle.entity_numbers.specs.Firsts.{AreInOrder, first_number, AreFirstAlike}
 use Rattle.program_occurrences.specs.Occurrences.{UnitNames, structs_behind, judged_behind, judged_bindings, names_behind, names_of_units}
 use Rattle.program_occurrences.specs.Links.{bound_numbers}
 use Rattle.unit_numbers.proofs.Alike.{in_order, firsts_alike}
+use Rattle.occurrence_names.proofs.Kept.{In}
 use Rattle.program_names.specs.Names.{are_names, stand_at_one_place, names_at_places}
 use Rattle.program_names.specs.Laws.{NamesAreOneToOne}
 
 -- ---- identifiers among others
-
-abbrev In : Identified → List Identified → Type 0
-In i [] = ⊥
-In i (j ∷ rest) = (i ≡ j) ⊎ In i rest
 
 later : (from : ℕ) (i : Identified) (all : List Identified) → AreInOrder from all → In i all → from ≤ i.number
 later from i [] order among = absurd among
@@ -30,7 +27,7 @@ later from i (j ∷ rest) order (inl e) = subst (λ (k : Identified). from ≤ k
 later from i (j ∷ rest) order (inr among) = let less : suc j.number ≤ i.number = later (suc j.number) i rest order.1 among in let first : from ≤ j.number = order.0 in omega (arith, less, first)
 
 -- one number, one identifier
-one_number : (from : ℕ) (i j : Identified) (all : List Identified) → AreInOrder from all → In i all → In j all → i.number ≡ j.number → i ≡ j
+pub one_number : (from : ℕ) (i j : Identified) (all : List Identified) → AreInOrder from all → In i all → In j all → i.number ≡ j.number → i ≡ j
 one_number from i j [] order a b e = absurd a
 one_number from i j (k ∷ rest) order (inl a) (inl b) e = a ∙ sym b
 one_number from i j (k ∷ rest) order (inl a) (inr b) e =
@@ -40,13 +37,13 @@ one_number from i j (k ∷ rest) order (inr a) (inl b) e =
 one_number from i j (k ∷ rest) order (inr a) (inr b) e = one_number (suc k.number) i j rest order.1 a b e
 
 -- the first that stands for a name
-record First (e : Entity) (all : List Identified) : Type 0 where
-  first : Identified
-  found : first_with e all ≡ Some first
-  among : In first all
-  stands : first.entity ≡ e
+pub record First (e : Entity) (all : List Identified) : Type 0 where
+  pub first : Identified
+  pub found : first_with e all ≡ Some first
+  pub among : In first all
+  pub stands : first.entity ≡ e
 
-first_of : (i : Identified) (all : List Identified) → same_entity i.entity i.entity ≡ true → In i all → First i.entity all
+pub first_of : (i : Identified) (all : List Identified) → same_entity i.entity i.entity ≡ true → In i all → First i.entity all
 first_of i [] same_ among = absurd among
 first_of i (j ∷ rest) same_ among = by (same_entity j.entity i.entity) refl (λ m. first_of i rest same_ m) among
   where
@@ -58,7 +55,7 @@ first_of i (j ∷ rest) same_ among = by (same_entity j.entity i.entity) refl (�
     by false e further (inl a) = absurd (false≢true (sym e ∙ ap (λ (k : Identified). same_entity k.entity i.entity) (sym a) ∙ same_))
     by false e further (inr a) = more_ (further a) e
 
-first_is : (i : Identified) (all : List Identified) (f : First i.entity all) → first_number all i ≡ f.first.number
+pub first_is : (i : Identified) (all : List Identified) (f : First i.entity all) → first_number all i ≡ f.first.number
 first_is i all f = ap (λ o. number_or o i.number) f.found
 
 -- identifiers that stand for one thing have one first, and those that have one first stand for one thing
@@ -78,21 +75,21 @@ one_entity i j all order s t a b e =
 
 -- ---- names at one place
 
-record Standing (all others : List Identified) (a b : List ℕ) : Type 0 where
-  one : Identified
-  other : Identified
-  among : In one all
-  among_others : In other others
-  is : one.entity ≡ file_entity a
-  was : other.entity ≡ file_entity b
-  first : first_number all one ≡ first_number others other
+pub record Standing (all others : List Identified) (a b : List ℕ) : Type 0 where
+  pub one : Identified
+  pub other : Identified
+  pub among : In one all
+  pub among_others : In other others
+  pub is : one.entity ≡ file_entity a
+  pub was : other.entity ≡ file_entity b
+  pub first : first_number all one ≡ first_number others other
 
-names_are : (a b : List ℕ) (e f : Entity) → are_names a b e f ≡ true → (e ≡ file_entity a) × (f ≡ file_entity b)
+pub names_are : (a b : List ℕ) (e f : Entity) → are_names a b e f ≡ true → (e ≡ file_entity a) × (f ≡ file_entity b)
 names_are a b (file_entity x) (file_entity y) h =
     let both = and_parts (bytes_eq x a) (bytes_eq y b) h in (ap file_entity ((bytes_decides x a).0 both.0), ap file_entity ((bytes_decides y b).0 both.1))
 names_are a b _ _ h = absurd (false≢true h)
 
-standing :
+pub standing :
     (a b : List ℕ) (all others xs ys : List Identified) → ((i : Identified) → In i xs → In i all) → ((j : Identified) → In j ys → In j others) → AllZip (AreFirstAlike all others) xs ys → stand_at_one_place a b xs ys ≡ true
     → Standing all others a b
 standing a b all others [] ys f g h e = absurd (false≢true e)
@@ -103,10 +100,10 @@ standing a b all others (i ∷ xs) (j ∷ ys) f g h e = by (are_names a b i.enti
     by true n further e = let names = names_are a b i.entity j.entity n in record { one = i; other = j; among = f i (inl refl); among_others = g j (inl refl); is = names.0; was = names.1; first = h.0.first }
     by false n further e = further e
 
-same_file : (i : Identified) (a : List ℕ) → i.entity ≡ file_entity a → same_entity i.entity i.entity ≡ true
+pub same_file : (i : Identified) (a : List ℕ) → i.entity ≡ file_entity a → same_entity i.entity i.entity ≡ true
 same_file i a e = subst (λ x. same_entity x x ≡ true) (sym e) ((bytes_decides a a).1 refl)
 
-same_name : (a b : List ℕ) → file_entity a ≡ file_entity b → a ≡ b
+pub same_name : (a b : List ℕ) → file_entity a ≡ file_entity b → a ≡ b
 same_name a b e = cc
 
 unit_one_to_one : (unit other : UnitNames) → AreInOrder 0 unit.identified → AreInOrder 0 other.identified → bound_numbers unit ≡ bound_numbers other → IsOneToOne (λ a b. stand_at_one_place a b unit.identified other.identified)
@@ -133,7 +130,7 @@ unit_one_to_one unit other order orders numbers =
 no_names : IsOneToOne (λ a b. false)
 no_names = record { forth = λ a b c h g. absurd (false≢true h); back = λ a b c h g. absurd (false≢true h) }
 
-abbrev AreOrdered : List UnitNames → Type 0
+abbrev pub AreOrdered : List UnitNames → Type 0
 AreOrdered units = AllByRecursion (λ (u : UnitNames). AreInOrder 0 u.identified) units
 
 units_one_to_one :
@@ -144,7 +141,7 @@ units_one_to_one (unit ∷ units) [] f g e index = no_names
 units_one_to_one (unit ∷ units) (other ∷ others) f g e zero = let head : bound_numbers unit ≡ bound_numbers other = cc in unit_one_to_one unit other f.0 g.0 head
 units_one_to_one (unit ∷ units) (other ∷ others) f g e (suc index) = let tail : map bound_numbers units ≡ map bound_numbers others = cc in units_one_to_one units others f.1 g.1 tail index
 
-all_ordered : (structs : List Struct) (trees : List PlainTree) → AreOrdered (names_behind structs trees)
+pub all_ordered : (structs : List Struct) (trees : List PlainTree) → AreOrdered (names_behind structs trees)
 all_ordered structs [] = tt
 all_ordered structs (tree ∷ rest) = (in_order (spelled tree) 0 (judged_bindings (judged_behind structs tree)) 0 (omega arith), all_ordered (structs_behind structs (judged_behind structs tree)) rest)
 
