@@ -28,15 +28,19 @@ module _ (sources : SourcesAreRenamed) (of_sources : TreesAreOfSources) (project
   trees-after others are =
       subst (λ s. AreTreesOf s (present_files project on) others) (sources.sources r project files on) ((of_sources project (renamed_files r 0 files) on others).0 are)
 
+  trees-renamed : ProductsHaveRenamedTrees → MayBeRenamed r (sources_of project files on) (present_files project on) → (trees others : List PlainTree) → AreTrees project files on trees → AreTrees project (renamed_files r 0 files) on others → others ≡ renamed_all r trees
+  trees-renamed products may trees others are are' =
+      products.no_others r (sources_of project files on) (present_files project on) trees others may (trees-before trees are) (trees-after others are')
+
   names-alone : ProductsHaveRenamedTrees → MayBeRenamed r (sources_of project files on) (present_files project on) → (trees others : List PlainTree) → AreTrees project files on trees → AreTrees project (renamed_files r 0 files) on others → AllZip SameButNames trees others
   names-alone products may trees others are are' =
-      let same : others ≡ renamed_all r trees =
-      products.no_others r (sources_of project files on) (present_files project on) trees others may (trees-before trees are) (trees-after others are') in
-      subst (λ (l : List PlainTree). AllZip SameButNames trees l) (sym same)
+      subst (λ (l : List PlainTree). AllZip SameButNames trees l) (sym (trees-renamed products may trees others are are'))
       (products.same_but_names r (sources_of project files on) (present_files project on) trees may (trees-before trees are))
 
 pub run-alike : SourcesAreRenamed → TreesAreOfSources → ProductsHaveRenamedTrees → RenamedProductsRunAlike → TouchedProjectsRunAlike
 run-alike sources of_sources products alike = record {
+  renamed_trees = λ project files on r p q there may before after.
+      trees-renamed sources of_sources project files on r products (may-be sources of_sources project files on r there may) before.trees after.trees before.are_trees after.are_trees;
   same_but_names = λ project files on r p q there may before after.
       names-alone sources of_sources project files on r products (may-be sources of_sources project files on r there may) before.trees after.trees before.are_trees after.are_trees;
   one_program = λ project files on r p q there may before after bound.
