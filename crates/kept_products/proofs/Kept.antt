@@ -15,7 +15,7 @@ use Rattle.reference_classes.specs.Preconditions.{not_accepted, IsTouched, broke
 use Rattle.untouched_projects.specs.Untouched.{ReadNoRenamed, IsUntouched}
 use Rattle.untouched_projects.specs.Laws.{UntouchedProjectsKeepPrograms, UntouchedProjectsKeepRefusals}
 use Rattle.untouched_classes.specs.Laws.{ClassesAreTouchedOrNot}
-use Rattle.renamed_classes.specs.Renaming.{MayBeMade, BindingsTellNames}
+use Rattle.renamed_classes.specs.Renaming.{MayBeMade}
 use Rattle.renamed_classes.specs.Laws.{ClassesFitFiles, TouchedClassesKeepPrograms}
 use Rattle.kept_products.specs.Laws.{RenamingsKeepProducts}
 
@@ -45,11 +45,11 @@ module _ (laws : ProductLaws) (project : PlainProject) (files : List PlainFile) 
       may.unhindered capture c admitted
       (record { touched = touched; stands_in_the_way = not_accepted (λ p is. laws.one.not_both project (renamed_files r 0 files) (has c) p stage is known) })
 
-  keeps-programs : (p : PlainProgram) → BindingsTellNames project files r c → IsProgram project files (has c) p ↔ IsProgram project (renamed_files r 0 files) (has c) p
-  keeps-programs p tell = by which
+  keeps-programs : (p : PlainProgram) → IsProgram project files (has c) p ↔ IsProgram project (renamed_files r 0 files) (has c) p
+  keeps-programs p = by which
     where
       by : IsTouched project files place c ⊎ ReadNoRenamed r project files (has c) → IsProgram project files (has c) p ↔ IsProgram project (renamed_files r 0 files) (has c) p
-      by (inl touched) = laws.touched project files place new r c p may admitted touched tell
+      by (inl touched) = laws.touched project files place new r c p may admitted touched
       by (inr unread) = laws.programs r project files (has c) p (untouched unread)
 
   keeps-refusals : (stage : Stage) → IsRefusedAt project files (has c) stage ↔ IsRefusedAt project (renamed_files r 0 files) (has c) stage
@@ -61,6 +61,6 @@ module _ (laws : ProductLaws) (project : PlainProject) (files : List PlainFile) 
 
 pub products-kept : ProductLaws → RenamingsKeepProducts
 products-kept laws = record {
-  programs = λ project files place new r c p may admitted tell. keeps-programs laws project files place new r c may admitted p tell;
+  programs = λ project files place new r c p may admitted. keeps-programs laws project files place new r c may admitted p;
   refusals = λ project files place new r c stage may admitted. keeps-refusals laws project files place new r c may admitted stage;
 }

@@ -9,14 +9,14 @@ use Rattle.project_program.specs.Programs.{IsProgram, IsRefusedAt}
 use Rattle.command_projects.specs.Least.{IsAdmitted}
 use Rattle.renamings.specs.Renamings.{Renaming, renamed_files}
 use Rattle.program_occurrences.specs.Classes.{PlainFileToken}
-use Rattle.renamed_classes.specs.Renaming.{MayBeMade, BindingsTellNames}
+use Rattle.renamed_classes.specs.Renaming.{MayBeMade}
 
 -- A class is renamed as it may be. Then each configuration that the project admits is accepted exactly where it was, and has the program
 -- that it had and no other; or the same stage refuses it.
 pub record RenamingsKeepProducts : Type 0 where
   pub programs :
       (project : PlainProject) (files : List PlainFile) (place : PlainFileToken) (new : List ℕ) (r : Renaming) (c : List Bool) (p : PlainProgram)
-      → MayBeMade project files place new r → IsAdmitted project c → BindingsTellNames project files r c
+      → MayBeMade project files place new r → IsAdmitted project c
       → IsProgram project files (has c) p ↔ IsProgram project (renamed_files r 0 files) (has c) p
   pub refusals :
       (project : PlainProject) (files : List PlainFile) (place : PlainFileToken) (new : List ℕ) (r : Renaming) (c : List Bool) (stage : Stage)

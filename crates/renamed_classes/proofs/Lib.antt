@@ -5,4 +5,6 @@ mod TextLines
 mod OneName
 mod Fits
 mod NoMacros
+mod MainAlike
+mod Told
 mod Touched

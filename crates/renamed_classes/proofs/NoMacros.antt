@@ -28,22 +28,23 @@ read-then s number file span name defined x are misplaced told =
     let d = defined x are misplaced told in
     record { read = d.read; token = d.token; among = d.among; within = d.within; file_is = d.file_is; span_is = d.span_is; holds = tt }
 
-module _ (project : PlainProject) (files : List PlainFile) (place : PlainFileToken) (new : List ℕ) (r : Renaming) (c : List Bool) (renames : RenamesClass project files place new r) (unhindered : Nowhere project (Breaks project files place r macro_name)) (admitted : IsAdmitted project c) where
-  in-class : (file : ℕ) (span : PlainSpan) → IsTrue (is_renamed r file span) → InClass project files place (record { file = file; span = span })
-  in-class file span renamed = by (cases_lt file (length files))
-    where
-      by : (file < length files) ⊎ (length files ≤ file) → InClass project files place (record { file = file; span = span })
-      by (inl below) = (renames.members (record { file = file; span = span }) below).0 renamed
-      by (inr past) =
-          let none : is_renamed r file span ≡ false = ap (λ (spans : List PlainSpan). list_any (same_span span) spans) (renames.elsewhere file past) in
-          let no : false ≡ true = sym none ∙ renamed in
-          absurd (false≢true no)
+-- what is renamed is of the class
+pub in-class : (project : PlainProject) (files : List PlainFile) (place : PlainFileToken) (new : List ℕ) (r : Renaming) → RenamesClass project files place new r → (file : ℕ) (span : PlainSpan) → IsTrue (is_renamed r file span) → InClass project files place (record { file = file; span = span })
+in-class project files place new r renames file span renamed = by (cases_lt file (length files))
+  where
+    by : (file < length files) ⊎ (length files ≤ file) → InClass project files place (record { file = file; span = span })
+    by (inl below) = (renames.members (record { file = file; span = span }) below).0 renamed
+    by (inr past) =
+        let none : is_renamed r file span ≡ false = ap (λ (spans : List PlainSpan). list_any (same_span span) spans) (renames.elsewhere file past) in
+        let no : false ≡ true = sym none ∙ renamed in
+        absurd (false≢true no)
 
+module _ (project : PlainProject) (files : List PlainFile) (place : PlainFileToken) (new : List ℕ) (r : Renaming) (c : List Bool) (renames : RenamesClass project files place new r) (unhindered : Nowhere project (Breaks project files place r macro_name)) (admitted : IsAdmitted project c) where
   module _ (unit : ℕ) (present : Contains (present_units project (has c)) unit) where
     not-defined : (name : List ℕ) → (IsReadAsMacro project files place c name → IsReadAsMacro project files place c r.old ⊎ IsReadAsMacro project files place c r.new) → (file : ℕ) (span : PlainSpan) → IsTrue (is_renamed r file span) → IsDefinedAt (sources_of project files (has c)) (file_of project unit) file span name → ⊥
     not-defined name which file span renamed defined =
         let token : PlainFileToken = record { file = file; span = span } in
-        let member : InClass project files place token = in-class file span renamed in
+        let member : InClass project files place token = in-class project files place new r renames file span renamed in
         unhindered c admitted (record {
           touched = record { token = token; member = member; unit = unit; present = present; active = read-then (sources_of project files (has c)) (file_of project unit) file span name defined };
           stands_in_the_way = which (record { token = token; member = member; unit = unit; present = present; defined = defined });

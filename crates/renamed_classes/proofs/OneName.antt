@@ -93,7 +93,7 @@ module _ (spelt : TokensAreSpelt) (in_files : SourcesAreRenamed) (project : Plai
         trees-written places tokens trees (λ other i. among other (suc i.0, omega (arith, i.1), i.2)) given.1 parsed.1,
       )
 
-product-written : (spelt : TokensAreSpelt) (in_files : SourcesAreRenamed) {project : PlainProject} {files : List PlainFile} {c : List Bool} → HasItsFiles project files → (product : Product project files c) → AreWritten product.is_program.trees
+pub product-written : (spelt : TokensAreSpelt) (in_files : SourcesAreRenamed) {project : PlainProject} {files : List PlainFile} {c : List Bool} → HasItsFiles project files → (product : Product project files c) → AreWritten product.is_program.trees
 product-written spelt in_files {project} {files} {c} there product =
     let are = product.is_program.are_trees in
     trees-written spelt in_files project files (has c) there (present_units project (has c)) are.tokens product.is_program.trees (λ place i. i) are.preprocessed are.parsed

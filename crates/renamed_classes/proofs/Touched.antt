@@ -9,14 +9,15 @@ use Rattle.command_projects.specs.Least.{IsAdmitted}
 use Rattle.renamings.specs.Renamings.{Renaming, renamed_files}
 use Rattle.program_occurrences.specs.Classes.{PlainFileToken}
 use Rattle.reference_classes.specs.Products.{Product, names_in}
-use Rattle.reference_classes.specs.Preconditions.{HasNoProgram, not_accepted, bound_otherwise, IsTouched, broken, in_macro_body, macro_name, capture}
+use Rattle.reference_classes.specs.Preconditions.{HasNoProgram, not_accepted, bound_otherwise, IsTouched, broken, capture}
 use Rattle.product_programs.specs.Laws.{ProgramsAreFound}
 use Rattle.renamed_sources.specs.Projects.{HasItsFiles}
 use Rattle.renamed_sources.specs.Laws.{SourcesAreRenamed}
 use Rattle.renamed_projects.specs.Projects.{MayBeRenamedIn}
 use Rattle.renamed_projects.specs.Laws.{TouchedProjectsRunAlike}
-use Rattle.renamed_classes.specs.Renaming.{MayBeMade, BindingsTellNames}
-use Rattle.renamed_classes.specs.Laws.{ClassNamesAreFree, ClassesFitFiles, NamesAreNoMacros, BoundAlikeOrNot, TouchedClassesKeepPrograms}
+use Rattle.renamed_classes.specs.Renaming.{MayBeMade}
+use Rattle.renamed_classes.specs.Laws.{ClassNamesAreFree, ClassesFitFiles, NamesAreNoMacros, BoundAlikeOrNot, BindingsAreTold, TouchedClassesKeepPrograms}
+use Rattle.renamed_classes.proofs.Told.{may-be-renamed}
 
 -- the laws that it follows from
 pub record ClassLaws : Type 0 where
@@ -25,16 +26,13 @@ pub record ClassLaws : Type 0 where
   pub fit : ClassesFitFiles
   pub no_macros : NamesAreNoMacros
   pub alike_or_not : BoundAlikeOrNot
+  pub tell : BindingsAreTold
   pub found : ProgramsAreFound
   pub run_alike : TouchedProjectsRunAlike
 
-module _ (laws : ClassLaws) (project : PlainProject) (files : List PlainFile) (place : PlainFileToken) (new : List ℕ) (r : Renaming) (c : List Bool) (may : MayBeMade project files place new r) (admitted : IsAdmitted project c) (touched : IsTouched project files place c) (tell : BindingsTellNames project files r c) where
+module _ (laws : ClassLaws) (project : PlainProject) (files : List PlainFile) (place : PlainFileToken) (new : List ℕ) (r : Renaming) (c : List Bool) (may : MayBeMade project files place new r) (admitted : IsAdmitted project c) (touched : IsTouched project files place c) where
   may-be : MayBeRenamedIn project files (has c) r
-  may-be = record {
-    fits = laws.fit project files place new r may;
-    free = laws.free project files place new r may.has_files may.renames may.found (may.unhindered in_macro_body);
-    no_macros = laws.no_macros project files place new r c may.renames (may.unhindered macro_name) admitted;
-  }
+  may-be = may-be-renamed laws.fit laws.free laws.no_macros project files place new r c may admitted
 
   after-files : HasItsFiles project (renamed_files r 0 files)
   after-files = laws.sources.has_files r project files may.has_files
@@ -50,7 +48,7 @@ module _ (laws : ClassLaws) (project : PlainProject) (files : List PlainFile) (p
       let first : Product project files c = record { admitted = admitted; program = p; is_program = before } in
       let second : Product project (renamed_files r 0 files) c = record { admitted = admitted; program = q; is_program = after } in
       laws.run_alike.one_program project files (has c) r p q may.has_files may-be before after
-      (tell first second (laws.alike_or_not (names_in first) (names_in second)
+      (laws.tell project files place new r c may admitted touched first second (laws.alike_or_not (names_in first) (names_in second)
       (λ not. may.unhindered capture c admitted (record { touched = touched; stands_in_the_way = bound_otherwise first second not }))))
 
   forth : (p : PlainProgram) → IsProgram project files (has c) p → IsProgram project (renamed_files r 0 files) (has c) p
@@ -64,5 +62,5 @@ module _ (laws : ClassLaws) (project : PlainProject) (files : List PlainFile) (p
       subst (IsProgram project files (has c)) (one-program before.program p before.is_program after) before.is_program
 
 pub touched-keep : ClassLaws → TouchedClassesKeepPrograms
-touched-keep laws project files place new r c p may admitted touched tell =
-    (forth laws project files place new r c may admitted touched tell p, back laws project files place new r c may admitted touched tell p)
+touched-keep laws project files place new r c p may admitted touched =
+    (forth laws project files place new r c may admitted touched p, back laws project files place new r c may admitted touched p)

@@ -81,9 +81,16 @@ NamesAreNoMacros =
 abbrev pub BoundAlikeOrNot : Type 0
 BoundAlikeOrNot = (before after : List UnitNames) → ((AreBoundAlike before after → ⊥) → ⊥) → AreBoundAlike before after
 
--- In an admitted configuration that the class touches, a project that is renamed as it may be has the program that it had, and no other.
+-- In an admitted configuration that the class touches, bindings that are as before tell which names correspond, where the renaming may be
+-- made.
+abbrev pub BindingsAreTold : Type 0
+BindingsAreTold =
+    (project : PlainProject) (files : List PlainFile) (place : PlainFileToken) (new : List ℕ) (r : Renaming) (c : List Bool)
+    → MayBeMade project files place new r → IsAdmitted project c → IsTouched project files place c → BindingsTellNames project files r c
+
+-- So in such a configuration a project that is renamed as it may be has the program that it had, and no other.
 abbrev pub TouchedClassesKeepPrograms : Type 0
 TouchedClassesKeepPrograms =
     (project : PlainProject) (files : List PlainFile) (place : PlainFileToken) (new : List ℕ) (r : Renaming) (c : List Bool) (p : PlainProgram)
-    → MayBeMade project files place new r → IsAdmitted project c → IsTouched project files place c → BindingsTellNames project files r c
+    → MayBeMade project files place new r → IsAdmitted project c → IsTouched project files place c
     → IsProgram project files (has c) p ↔ IsProgram project (renamed_files r 0 files) (has c) p

@@ -2,7 +2,7 @@
 //! definitions (in `specs/`) and the laws, each the contract of a function without a body of its own.
 #![tactic(auto)]
 
-ghost use Rattle.renamed_classes.specs.Laws.{ClassesStandOnTextLines, ClassesHaveOneName, ClassNamesAreFree, ClassesFitFiles, NamesAreNoMacros, BoundAlikeOrNot, TouchedClassesKeepPrograms};
+ghost use Rattle.renamed_classes.specs.Laws.{ClassesStandOnTextLines, ClassesHaveOneName, ClassNamesAreFree, ClassesFitFiles, NamesAreNoMacros, BoundAlikeOrNot, BindingsAreTold, TouchedClassesKeepPrograms};
 
 use brought_names::brought_are_named_alike;
 use c_lexer::lines_are_one;
@@ -10,6 +10,7 @@ use copied_tokens::{
     names_are_read, places_tell_tokens, predefined_come_from_bodies, tokens_are_copied,
 };
 use product_programs::programs_are_found;
+use program_names::{names_are_linked_alike, names_are_one_to_one, units_of_programs_bind_alike};
 use program_occurrences::declarations_are_occurrences;
 use renamed_projects::touched_projects_run_alike;
 use renamed_sources::sources_are_renamed;
@@ -72,6 +73,21 @@ pub fn bound_alike_or_not()
     ensures { BoundAlikeOrNot }
 {}
 
+/// In a configuration that the class touches, bindings that are as before tell which names correspond.
+pub fn bindings_tell_names()
+    ensures { BindingsAreTold }
+{
+    sources_are_renamed();
+    class_names_are_free();
+    classes_fit_files();
+    names_are_no_macros();
+    tokens_are_spelt();
+    touched_projects_run_alike();
+    units_of_programs_bind_alike();
+    names_are_one_to_one();
+    names_are_linked_alike();
+}
+
 /// In a configuration that the class touches, a renaming that may be made keeps the program.
 pub fn touched_classes_keep_programs()
     ensures { TouchedClassesKeepPrograms }
@@ -81,6 +97,7 @@ pub fn touched_classes_keep_programs()
     classes_fit_files();
     names_are_no_macros();
     bound_alike_or_not();
+    bindings_tell_names();
     programs_are_found();
     touched_projects_run_alike();
 }

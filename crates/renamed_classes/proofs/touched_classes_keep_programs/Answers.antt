@@ -8,6 +8,7 @@ returns c = touched-keep (record {
   fit = c.classes_fit_files.ensures;
   no_macros = c.names_are_no_macros.ensures;
   alike_or_not = c.bound_alike_or_not.ensures;
+  tell = c.bindings_tell_names.ensures;
   found = c.programs_are_found.ensures;
   run_alike = c.touched_projects_run_alike.ensures;
 })
