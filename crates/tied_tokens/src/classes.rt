@@ -6,12 +6,12 @@ ghost use Rattle.tied_tokens.specs.Tokens.{plain_file_token, plain_file_tokens, 
 ghost use Rattle.tied_tokens.specs.Ties.{plain_tie, plain_tied_tokens, NamesFeaturesBelow};
 ghost use Rattle.tied_tokens.specs.Reached.{IsReached, OccursBy, OccursSomewhere};
 
-use crate::questions::is_possible;
+use crate::questions::{first_tried, is_possible};
 use crate::steps::visit;
 use crate::ties::{Tie, TiedTokens};
 use crate::tokens::{in_order, is_same};
 use c_text::FileToken;
-use cond_formula::NoMemory;
+use cond_formula::{Config, NoMemory};
 use std::alloc::Global;
 
 /// The tokens that are reached, in the order in which they are found.
@@ -24,10 +24,11 @@ fn reached_from(
     ensures { IfOk result (λ found. (token : PlainFileToken) → Contains (plain_file_tokens found.items) token ↔ IsReached (plain_tied_tokens all.now) (plain_file_token place.now) token) }
 {
     let mut found = vec![in alloc; *place]?;
+    let mut tried = first_tried(alloc)?;
     let mut next = 0;
     while next < found.len() {
         let member = found[next];
-        visit(alloc, all, &member, &mut found)?;
+        visit(alloc, all, &member, &mut found, &mut tried)?;
         next += 1;
     }
     Ok(found)
@@ -54,6 +55,7 @@ fn occurs_by(
     all: &TiedTokens<'_>,
     tie: &Tie,
     place: &FileToken,
+    tried: &mut Vec<Config>,
 ) -> Result<bool, NoMemory>
     requires numbered { NamesFeaturesBelow 128 (plain_tied_tokens all.now) }
     requires among { Contains (plain_tied_tokens all.now).ties (plain_tie tie.now) }
@@ -62,7 +64,7 @@ fn occurs_by(
     if !is_same(&tie.identifier, place) {
         return Ok(false);
     }
-    is_possible(alloc, all, &tie.when)
+    is_possible(alloc, all, &tie.when, tried)
 }
 
 /// Whether the token at the place is that of an identifier which is declared, in some configuration that the model admits and that
@@ -75,8 +77,9 @@ pub fn occurs_somewhere(
     requires { NamesFeaturesBelow 128 (plain_tied_tokens all.now) }
     ensures { IfOk result (λ b. IsTrue b ↔ OccursSomewhere (plain_tied_tokens all.now) (plain_file_token place.now)) }
 {
+    let mut tried = first_tried(alloc)?;
     for tie in all.ties {
-        if occurs_by(alloc, all, tie, place)? {
+        if occurs_by(alloc, all, tie, place, &mut tried)? {
             return Ok(true);
         }
     }

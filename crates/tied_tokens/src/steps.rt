@@ -11,7 +11,7 @@ use crate::questions::is_possible;
 use crate::ties::{Tie, TiedTokens};
 use crate::tokens::{is_among, is_same};
 use c_text::FileToken;
-use cond_formula::{Formula, NoMemory};
+use cond_formula::{Config, Formula, NoMemory};
 use std::alloc::Global;
 
 /// Finds the token where the condition is possible. Nothing is asked of a token that is found already.
@@ -21,6 +21,7 @@ fn try_token(
     when: &Formula,
     token: &FileToken,
     found: &mut Vec<FileToken>,
+    tried: &mut Vec<Config>,
 ) -> Result<(), NoMemory>
     requires numbered { NamesFeaturesBelow 128 (plain_tied_tokens all.now) }
     requires condition { VarsBelow 128 (condition_of when.now) }
@@ -29,7 +30,7 @@ fn try_token(
     if is_among(found, token) {
         return Ok(());
     }
-    if is_possible(alloc, all, when)? {
+    if is_possible(alloc, all, when, tried)? {
         found.push(*token)?;
     }
     Ok(())
@@ -42,6 +43,7 @@ fn try_declaration(
     member: &FileToken,
     tie: &Tie,
     found: &mut Vec<FileToken>,
+    tried: &mut Vec<Config>,
 ) -> Result<(), NoMemory>
     requires numbered { NamesFeaturesBelow 128 (plain_tied_tokens all.now) }
     requires among { Contains (plain_tied_tokens all.now).ties (plain_tie tie.now) }
@@ -49,7 +51,7 @@ fn try_declaration(
     ensures leads { OnOk result (LeadsOn (plain_tied_tokens all.now) (plain_file_token member.now) (plain_file_tokens found.new.items) (plain_tie tie.now)) }
 {
     if is_same(&tie.identifier, member) {
-        try_token(alloc, all, &tie.when, &tie.declared_by, found)?;
+        try_token(alloc, all, &tie.when, &tie.declared_by, found, tried)?;
     }
     Ok(())
 }
@@ -61,6 +63,7 @@ fn try_identifier(
     member: &FileToken,
     tie: &Tie,
     found: &mut Vec<FileToken>,
+    tried: &mut Vec<Config>,
 ) -> Result<(), NoMemory>
     requires numbered { NamesFeaturesBelow 128 (plain_tied_tokens all.now) }
     requires among { Contains (plain_tied_tokens all.now).ties (plain_tie tie.now) }
@@ -68,7 +71,7 @@ fn try_identifier(
     ensures leads { OnOk result (LeadsBack (plain_tied_tokens all.now) (plain_file_token member.now) (plain_file_tokens found.new.items) (plain_tie tie.now)) }
 {
     if is_same(&tie.declared_by, member) {
-        try_token(alloc, all, &tie.when, &tie.identifier, found)?;
+        try_token(alloc, all, &tie.when, &tie.identifier, found, tried)?;
     }
     Ok(())
 }
@@ -80,14 +83,15 @@ fn try_tie(
     member: &FileToken,
     tie: &Tie,
     found: &mut Vec<FileToken>,
+    tried: &mut Vec<Config>,
 ) -> Result<(), NoMemory>
     requires numbered { NamesFeaturesBelow 128 (plain_tied_tokens all.now) }
     requires among { Contains (plain_tied_tokens all.now).ties (plain_tie tie.now) }
     ensures grows { OnOk result (Grows (plain_tied_tokens all.now) (plain_file_token member.now) (plain_file_tokens found.old.items) (plain_file_tokens found.new.items)) }
     ensures leads { OnOk result (LeadsInto (plain_tied_tokens all.now) (plain_file_token member.now) (plain_file_tokens found.new.items) (plain_tie tie.now)) }
 {
-    try_declaration(alloc, all, member, tie, found)?;
-    try_identifier(alloc, all, member, tie, found)?;
+    try_declaration(alloc, all, member, tie, found, tried)?;
+    try_identifier(alloc, all, member, tie, found, tried)?;
     Ok(())
 }
 
@@ -97,13 +101,14 @@ fn try_ties(
     all: &TiedTokens<'_>,
     member: &FileToken,
     found: &mut Vec<FileToken>,
+    tried: &mut Vec<Config>,
 ) -> Result<(), NoMemory>
     requires numbered { NamesFeaturesBelow 128 (plain_tied_tokens all.now) }
     ensures grows { OnOk result (Grows (plain_tied_tokens all.now) (plain_file_token member.now) (plain_file_tokens found.old.items) (plain_file_tokens found.new.items)) }
     ensures leads { OnOk result (All (LeadsInto (plain_tied_tokens all.now) (plain_file_token member.now) (plain_file_tokens found.new.items)) (plain_tied_tokens all.now).ties) }
 {
     for tie in all.ties {
-        try_tie(alloc, all, member, tie, found)?;
+        try_tie(alloc, all, member, tie, found, tried)?;
     }
     Ok(())
 }
@@ -115,6 +120,7 @@ fn try_both(
     own: &DeclaredName,
     other: &DeclaredName,
     found: &mut Vec<FileToken>,
+    tried: &mut Vec<Config>,
 ) -> Result<(), NoMemory>
     requires numbered { NamesFeaturesBelow 128 (plain_tied_tokens all.now) }
     requires own { Contains (plain_tied_tokens all.now).names (plain_declared_name own.now) }
@@ -126,7 +132,7 @@ fn try_both(
     let when = own.when.try_clone(alloc)?;
     let also = other.when.try_clone(alloc)?;
     let both = Formula::and(alloc, when, also)?;
-    try_token(alloc, all, &both, &other.token, found)?;
+    try_token(alloc, all, &both, &other.token, found, tried)?;
     Ok(())
 }
 
@@ -137,6 +143,7 @@ fn try_name(
     own: &DeclaredName,
     other: &DeclaredName,
     found: &mut Vec<FileToken>,
+    tried: &mut Vec<Config>,
 ) -> Result<(), NoMemory>
     requires numbered { NamesFeaturesBelow 128 (plain_tied_tokens all.now) }
     requires own { Contains (plain_tied_tokens all.now).names (plain_declared_name own.now) }
@@ -145,7 +152,7 @@ fn try_name(
     ensures leads { OnOk result (NameLeadsInto (plain_tied_tokens all.now) (plain_declared_name own.now) (plain_file_tokens found.new.items) (plain_declared_name other.now)) }
 {
     if is_same_name(&own.name, &other.name) && !is_among(found, &other.token) {
-        try_both(alloc, all, own, other, found)?;
+        try_both(alloc, all, own, other, found, tried)?;
     }
     Ok(())
 }
@@ -156,6 +163,7 @@ fn try_names_from(
     all: &TiedTokens<'_>,
     own: &DeclaredName,
     found: &mut Vec<FileToken>,
+    tried: &mut Vec<Config>,
 ) -> Result<(), NoMemory>
     requires numbered { NamesFeaturesBelow 128 (plain_tied_tokens all.now) }
     requires own { Contains (plain_tied_tokens all.now).names (plain_declared_name own.now) }
@@ -163,7 +171,7 @@ fn try_names_from(
     ensures leads { OnOk result (All (NameLeadsInto (plain_tied_tokens all.now) (plain_declared_name own.now) (plain_file_tokens found.new.items)) (plain_tied_tokens all.now).names) }
 {
     for other in all.names {
-        try_name(alloc, all, own, other, found)?;
+        try_name(alloc, all, own, other, found, tried)?;
     }
     Ok(())
 }
@@ -175,6 +183,7 @@ fn try_own_name(
     member: &FileToken,
     own: &DeclaredName,
     found: &mut Vec<FileToken>,
+    tried: &mut Vec<Config>,
 ) -> Result<(), NoMemory>
     requires numbered { NamesFeaturesBelow 128 (plain_tied_tokens all.now) }
     requires own { Contains (plain_tied_tokens all.now).names (plain_declared_name own.now) }
@@ -182,7 +191,7 @@ fn try_own_name(
     ensures lead { OnOk result (NamesLeadInto (plain_tied_tokens all.now) (plain_file_token member.now) (plain_file_tokens found.new.items) (plain_declared_name own.now)) }
 {
     if is_same(&own.token, member) {
-        try_names_from(alloc, all, own, found)?;
+        try_names_from(alloc, all, own, found, tried)?;
     }
     Ok(())
 }
@@ -193,13 +202,14 @@ fn try_names(
     all: &TiedTokens<'_>,
     member: &FileToken,
     found: &mut Vec<FileToken>,
+    tried: &mut Vec<Config>,
 ) -> Result<(), NoMemory>
     requires numbered { NamesFeaturesBelow 128 (plain_tied_tokens all.now) }
     ensures grows { OnOk result (Grows (plain_tied_tokens all.now) (plain_file_token member.now) (plain_file_tokens found.old.items) (plain_file_tokens found.new.items)) }
     ensures lead { OnOk result (All (NamesLeadInto (plain_tied_tokens all.now) (plain_file_token member.now) (plain_file_tokens found.new.items)) (plain_tied_tokens all.now).names) }
 {
     for own in all.names {
-        try_own_name(alloc, all, member, own, found)?;
+        try_own_name(alloc, all, member, own, found, tried)?;
     }
     Ok(())
 }
@@ -210,12 +220,13 @@ pub(crate) fn visit(
     all: &TiedTokens<'_>,
     member: &FileToken,
     found: &mut Vec<FileToken>,
+    tried: &mut Vec<Config>,
 ) -> Result<(), NoMemory>
     requires numbered { NamesFeaturesBelow 128 (plain_tied_tokens all.now) }
     ensures grows { OnOk result (Grows (plain_tied_tokens all.now) (plain_file_token member.now) (plain_file_tokens found.old.items) (plain_file_tokens found.new.items)) }
     ensures visited { OnOk result (IsVisited (plain_tied_tokens all.now) (plain_file_tokens found.new.items) (plain_file_token member.now)) }
 {
-    try_ties(alloc, all, member, found)?;
-    try_names(alloc, all, member, found)?;
+    try_ties(alloc, all, member, found, tried)?;
+    try_names(alloc, all, member, found, tried)?;
     Ok(())
 }
