@@ -18,11 +18,7 @@ fn where_a() -> Formula {
 }
 
 /// A struct with the member `int m;`.
-fn declare_struct(
-    alloc: Global,
-    tables: &mut Tables,
-    tag: &[u8],
-) -> Result<(), NoMemory> {
+fn declare_struct(alloc: Global, tables: &mut Tables, tag: &[u8]) -> Result<(), NoMemory> {
     let mut members = CondList::empty(alloc);
     let name = Vec::from_slice(alloc, b"m")?;
     members.push(

@@ -5,4 +5,3 @@
 mod bodies;
 #[cfg(test)]
 mod items;
-#[cfg(test)]
