@@ -1,3 +1,4 @@
-mod Constants
-mod Sizes
+pub mod Constants
+pub mod Shapes
+pub mod Sizes
 mod Units

@@ -1,29 +1,26 @@
 -- The size of an array is constant, so it binds nothing. This holds of all trees.
-use Rattle.std.proofs.Common.{◌≡◌, ℕ, ◌+◌, ℤ, Bool, true, false, ◌&&◌, List, length, refl, subst}
-use Rattle.std.specs.Prelude.{Option, Some, None, codes, slice_get, if◌then◌else◌}
-use Rattle.std.specs.Str.{bytes_eq}
+use Rattle.std.proofs.Common.{◌≡◌, ℕ, ◌+◌, ℤ, Bool, true, false, List, length, refl, subst}
+use Rattle.std.specs.Prelude.{Option, Some, None, if◌then◌else◌}
 use Rattle.std.proofs.lemmas.Bool.{false≢true}
 use Rattle.c_text.specs.Token.{PlainToken}
 use Rattle.c_types.specs.Types.{PlainType, char, pointer_to, array_of, structure}
-use Rattle.c_types.specs.Tags.{PlainMember}
 use Rattle.c_types.specs.Integers.{is_integer}
 use Rattle.c_tree.specs.declared.kinds.Kind.TheVariants as k
 use Rattle.c_tree.specs.declared.terminals.Terminal.{Terminal}
 use Rattle.c_tree.specs.declared.terminals.Terminal.TheVariants as t
 use Rattle.c_tree.specs.Terminals.{terminal}
-use Rattle.c_tree.specs.Trees.{PlainTree, PlainTrees, leaf, node, none, more}
-use Rattle.core_meaning.specs.declared.expressions.Operation.TheVariants as operation
-use Rattle.core_meaning.specs.declared.expressions.Change.{Change}
-use Rattle.core_meaning.specs.declared.refusals.TypeKind.TheVariants.{BadOperand, Incomplete, BadConstant, NoMember}
+use Rattle.c_tree.specs.Trees.{PlainTree, leaf, node, none, more}
+use Rattle.core_meaning.specs.declared.refusals.TypeKind.TheVariants.{BadConstant}
 use Rattle.core_meaning.specs.Program.{PlainExpression, PlainPlace, binary, literal, target, update, update_after, assign, no_argument}
-use Rattle.core_meaning.specs.Checking.{Checked, refused, ◌>>=◌, give, unless_so, uses, found_or, or_broken, file_entity}
-use Rattle.core_meaning.specs.Entities.{Struct, Local, Sort, variable, function, FileName, Scope, local_in, entity_number}
-use Rattle.core_meaning.specs.Typing.{Operand, Typed, of_value, of_object, loaded, is_complete, is_pointer, fits_into}
+use Rattle.core_meaning.specs.Checking.{Checked, ◌>>=◌, give, found_or, or_broken}
+use Rattle.core_meaning.specs.Entities.{Local, Sort, variable, function, FileName, Scope, local_in, entity_number}
+use Rattle.core_meaning.specs.Typing.{Operand, Typed, of_value, of_object, loaded}
 use Rattle.core_meaning.specs.Expressions as spec
 use Rattle.core_meaning.specs.Expressions.{Callee, callee, judged, judged_arguments, valued, count_entries, text_bytes, first_text, first_token, arithmetic_words}
 use Rattle.core_meaning.specs.Constancy.{is_constant, constant_value, count_of_value, value_if_constant, judged_count}
 use Rattle.bound_slots.specs.Laws.{SizesBindNothing}
-use Rattle.bound_slots.proofs.Constants.{OnlyOf, Only, weaker, Never, never, never_then, never_given, only_if, only_then, has_constant, is_constant_value, loads, prefixed_only, cast_operand_only, condition_only, combined_by_only, chosen_only, two_only}
+use Rattle.bound_slots.proofs.Shapes.{PassNot, stepped_never, assignment_never, subscript_never, selected_never, called_never, called_without_never}
+use Rattle.bound_slots.proofs.Constants.{OnlyOf, Only, weaker, Never, never, never_then, never_given, only_then, has_constant, is_constant_value, loads, prefixed_only, cast_operand_only, condition_only, combined_by_only, chosen_only, two_only}
 
 abbrev pub Anything : Type 0
 Anything = Unit {0}
@@ -49,90 +46,15 @@ module _ (s : Scope) where
       never_then has_constant (or_broken bytes) (λ bytes. or_broken first >>= (λ first. give (of_object first (array_of char (length bytes + 1)) (literal (entity_number s.numbers.literals bytes)) true)))
       (λ bytes. never_then has_constant (or_broken first) (λ first. give (of_object first (array_of char (length bytes + 1)) (literal (entity_number s.numbers.literals bytes)) true)) (λ first. never_given has_constant _ refl))
 
-  updated_never :
-      (make : Change → PlainPlace → PlainExpression → PlainExpression) → ((c : Change) (p : PlainPlace) (e : PlainExpression) → is_constant (make c p e) ≡ false)
-      → (sign : PlainToken) (left : Operand) (place : PlainPlace) (right : Typed) → Never has_constant (spec.updated s make sign left place right)
-  updated_never make made sign left place right =
-      never_then has_constant (or_broken (spec.compound_operator sign.text)) _
-      (λ op. never_then has_constant (found_or (spec.change_by left.ty (spec.operation_on s.structs op (spec.left_value left place) right)) BadOperand sign) (λ c. give (of_value sign left.ty (make c place right.core)))
-      (λ c. never_given has_constant (of_value sign left.ty (make c place right.core)) (made c place right.core)))
-
-  stepped_never :
-      (make : Change → PlainPlace → PlainExpression → PlainExpression) → ((c : Change) (p : PlainPlace) (e : PlainExpression) → is_constant (make c p e) ≡ false)
-      → (sign : PlainToken) (o : Operand) → Never has_constant (spec.stepped s make sign o)
-  stepped_never make made sign o = never_then has_constant (spec.written_place s sign o) (λ place. spec.updated s make sign o place spec.one) (λ place. updated_never make made sign o place spec.one)
-
-  assigned_never : (sign : PlainToken) (left : Operand) (place : PlainPlace) (right : Typed) → Never has_constant (spec.assignment s sign left place right)
-  assigned_never sign left place right =
-      only_if ⊥ has_constant (spec.is_plain_assignment sign) _ _
-      (never_then has_constant (found_or (fits_into left.ty right) BadOperand sign) (λ core. give (of_value sign left.ty (assign place core))) (λ core. never_given has_constant _ refl))
-      (updated_never update (λ c p e. refl) sign left place right)
-
-  assignment_never : (sign : PlainToken) (first second : Checked Operand)
-      → Never has_constant (first >>= (λ left. spec.written_place s sign left >>= (λ place. second >>= (λ o. loaded s o >>= (λ right. spec.assignment s sign left place right)))))
-  assignment_never sign first second =
-      never_then has_constant first _ (λ left. never_then has_constant (spec.written_place s sign left) _
-      (λ place. never_then has_constant second _ (λ o. never_then has_constant (loaded s o) (λ right. spec.assignment s sign left place right) (λ right. assigned_never sign left place right))))
-
-  element_never : (sign : PlainToken) (ty : PlainType) (core : PlainExpression) → Never has_constant (spec.element_target s sign ty core)
-  element_never sign (pointer_to ty) core = only_if ⊥ has_constant (is_complete s.structs ty) _ _ (record { only = λ e. absurd (false≢true e) }) (record { only = tt })
-  element_never sign _ core = record { only = tt }
-
-  indexed_never : (sign : PlainToken) (a b : Typed) → Never has_constant (spec.indexed s sign a b)
-  indexed_never sign a b =
-      only_if ⊥ has_constant (is_pointer a.ty && is_integer b.ty) _ _ (element_never sign a.ty (binary operation.Forward a.core b.core))
-      (only_if ⊥ has_constant (is_integer a.ty && is_pointer b.ty) _ _ (element_never sign b.ty (binary operation.ForwardBy a.core b.core)) (record { only = tt }))
-
-  subscript_never : (bracket : PlainToken) (first second : Checked Operand)
-      → Never has_constant (first >>= (λ left. loaded s left >>= (λ a. second >>= (λ right. loaded s right >>= (λ b. spec.indexed s bracket a b)))))
-  subscript_never bracket first second =
-      never_then has_constant first _ (λ left. never_then has_constant (loaded s left) _ (λ a. never_then has_constant second _ (λ right. never_then has_constant (loaded s right) (λ b. spec.indexed s bracket a b) (λ b. indexed_never bracket a b))))
-
-  found_never : (name : PlainToken) (place : PlainPlace) (free : Bool) (struct_number : ℕ) (found : Option PlainMember) (number : ℕ) → Never has_constant (spec.member_operand name place free struct_number found number)
-  found_never name place free struct_number None number = record { only = tt }
-  found_never name place free struct_number (Some found) number = record { only = λ e. absurd (false≢true e) }
-
-  member_in_never : (sign name : PlainToken) (place : PlainPlace) (free : Bool) (struct_number : ℕ) (found : Option Struct) → Never has_constant (spec.member_in sign name place free struct_number found)
-  member_in_never sign name place free struct_number None = record { only = tt }
-  member_in_never sign name place free struct_number (Some found) =
-      never_then has_constant (unless_so found.complete Incomplete sign) _
-      (λ complete. never_then has_constant (found_or (found.numbers name.text) NoMember name) (λ number. spec.member_operand name place free struct_number (slice_get found.members number) number)
-      (λ number. found_never name place free struct_number (slice_get found.members number) number))
-
-  member_never : (sign name : PlainToken) (ty : PlainType) (place : PlainPlace) (free : Bool) → Never has_constant (spec.member_of s sign name ty place free)
-  member_never sign name (structure number) place free = member_in_never sign name place free number (slice_get s.structs number)
-  member_never sign name _ place free = record { only = tt }
-
-  target_never : (sign name : PlainToken) (x : Typed) (ty : PlainType) → Never has_constant (spec.member_of_target s sign name x ty)
-  target_never sign name x (pointer_to ty) = member_never sign name ty (target x.core) true
-  target_never sign name x _ = record { only = tt }
-
-  selected_never : (sign name : PlainToken) (o : Operand) → Never has_constant (spec.selected s sign name o)
-  selected_never sign name o =
-      only_if ⊥ has_constant (bytes_eq sign.text (codes ".")) _ _ (member_never sign name o.ty (spec.struct_place o.ty o.designates) (spec.is_free o.designates))
-      (never_then has_constant (loaded s o) (λ x. spec.member_of_target s sign name x x.ty) (λ x. target_never sign name x x.ty))
-
-  refused_never : (bracket : PlainToken) (first : Checked Operand) → Never has_constant (first >>= (λ operand. loaded s operand >>= (λ x. refused BadOperand bracket)))
-  refused_never bracket first = never_then has_constant first _ (λ operand. never_then has_constant (loaded s operand) (λ x. refused BadOperand bracket) (λ x. record { only = tt }))
-
-  called_never : (bracket : PlainToken) (first : Checked Operand) (parts : PlainTrees) (o : Option Callee)
-      → Never has_constant (elim o as (λ x. Checked Operand) [
-        | Some f ↦ uses (file_entity f.name.text) >>= (λ bound. spec.may_be_called s f.signature (count_entries parts) bracket >>= (λ callable. judged_arguments s f.signature.parameters parts bracket >>= (λ arguments. give (spec.result_of_call s f bracket arguments))))
-        | None ↦ first >>= (λ operand. loaded s operand >>= (λ x. refused BadOperand bracket))
-      ])
-  called_never bracket first parts (Some f) =
-      never_then has_constant (uses (file_entity f.name.text)) _ (λ bound. never_then has_constant (spec.may_be_called s f.signature (count_entries parts) bracket) _
-      (λ callable. never_then has_constant (judged_arguments s f.signature.parameters parts bracket) (λ arguments. give (spec.result_of_call s f bracket arguments)) (λ arguments. never_given has_constant _ refl)))
-  called_never bracket first parts None = refused_never bracket first
-
-  called_without_never : (bracket : PlainToken) (first : Checked Operand) (o : Option Callee)
-      → Never has_constant (elim o as (λ x. Checked Operand) [
-        | Some f ↦ uses (file_entity f.name.text) >>= (λ bound. spec.may_be_called s f.signature 0 bracket >>= (λ callable. give (spec.result_of_call s f bracket no_argument)))
-        | None ↦ first >>= (λ operand. loaded s operand >>= (λ x. refused BadOperand bracket))
-      ])
-  called_without_never bracket first (Some f) =
-      never_then has_constant (uses (file_entity f.name.text)) _ (λ bound. never_then has_constant (spec.may_be_called s f.signature 0 bracket) (λ callable. give (spec.result_of_call s f bracket no_argument)) (λ callable. never_given has_constant _ refl))
-  called_without_never bracket first None = refused_never bracket first
+  constant_shapes : PassNot has_constant
+  constant_shapes = record {
+    changed = λ sign ty c p e. refl;
+    changed_after = λ sign ty c p e. refl;
+    assigned = λ sign ty p e. refl;
+    called = λ sign ty number arguments. refl;
+    pointed = λ sign ty e. refl;
+    selected = λ sign ty p number free. refl;
+  }
 
   -- ---- expressions: where one is constant, nothing is bound in it
 
@@ -175,16 +97,16 @@ module _ (s : Scope) where
   quiet (leaf token) = single_quiet token (terminal token)
   quiet (node k.Texts parts) = never Anything has_constant _ (texts_never (text_bytes parts) (first_text parts))
   quiet (node k.Parenthesized (more bracket (more inner (more close none)))) = quiet inner
-  quiet (node k.PostfixStep (more inner (more (leaf sign) none))) = never_quiet (judged s inner) (spec.stepped s update_after sign) (λ o. stepped_never update_after (λ c p e. refl) sign o)
-  quiet (node k.PrefixStep (more (leaf sign) (more inner none))) = never_quiet (judged s inner) (spec.stepped s update sign) (λ o. stepped_never update (λ c p e. refl) sign o)
+  quiet (node k.PostfixStep (more inner (more (leaf sign) none))) = never_quiet (judged s inner) (spec.stepped s update_after sign) (λ o. stepped_never s has_constant constant_shapes update_after constant_shapes.changed_after sign o)
+  quiet (node k.PrefixStep (more (leaf sign) (more inner none))) = never_quiet (judged s inner) (spec.stepped s update sign) (λ o. stepped_never s has_constant constant_shapes update constant_shapes.changed sign o)
   quiet (node k.Prefix (more (leaf sign) (more inner none))) = quiet_then (judged s inner) (spec.prefixed s sign) (quiet inner) (λ o. prefixed_only s sign o)
   quiet (node k.Cast (more (leaf bracket) (more (node words_kind words) (more close (more inner none))))) =
       quiet_then (judged s inner) (λ operand. loaded s operand >>= (λ x. spec.cast_to bracket x (arithmetic_words words))) (quiet inner) (λ o. cast_operand_only s bracket (arithmetic_words words) o)
-  quiet (node k.Selection (more first (more (leaf sign) (more (leaf name) none)))) = never_quiet (judged s first) (spec.selected s sign name) (λ o. selected_never sign name o)
-  quiet (node k.Index (more first (more (leaf bracket) (more second (more close none))))) = never Anything has_constant _ (subscript_never bracket (judged s first) (judged s second))
-  quiet (node k.Call (more first (more (leaf bracket) (more (node k.Arguments parts) (more close none))))) = never Anything has_constant _ (called_never bracket (judged s first) parts (callee s first))
-  quiet (node k.Call (more first (more (leaf bracket) (more (node k.Absent none) (more close none))))) = never Anything has_constant _ (called_without_never bracket (judged s first) (callee s first))
-  quiet (node k.Assignment (more first (more (leaf sign) (more second none)))) = never Anything has_constant _ (assignment_never sign (judged s first) (judged s second))
+  quiet (node k.Selection (more first (more (leaf sign) (more (leaf name) none)))) = never_quiet (judged s first) (spec.selected s sign name) (λ o. selected_never s has_constant constant_shapes sign name o)
+  quiet (node k.Index (more first (more (leaf bracket) (more second (more close none))))) = never Anything has_constant _ (subscript_never s has_constant constant_shapes bracket (judged s first) (judged s second))
+  quiet (node k.Call (more first (more (leaf bracket) (more (node k.Arguments parts) (more close none))))) = never Anything has_constant _ (called_never s has_constant constant_shapes bracket (judged s first) parts (callee s first))
+  quiet (node k.Call (more first (more (leaf bracket) (more (node k.Absent none) (more close none))))) = never Anything has_constant _ (called_without_never s has_constant constant_shapes bracket (judged s first) (callee s first))
+  quiet (node k.Assignment (more first (more (leaf sign) (more second none)))) = never Anything has_constant _ (assignment_never s has_constant constant_shapes sign (judged s first) (judged s second))
   quiet (node k.Conditional (more first (more (leaf question) (more second (more colon (more third none)))))) =
       conditional_quiet question (first_token first question) (judged s first) (judged s second) (judged s third) (quiet first) (quiet second) (quiet third)
   quiet (node kind (more first (more (leaf sign) (more second none)))) =
@@ -195,7 +117,7 @@ module _ (s : Scope) where
 
   -- ---- sizes
 
-  value_quiet : (tree : PlainTree) → Only Anything is_constant_value (valued s tree)
+  pub value_quiet : (tree : PlainTree) → Only Anything is_constant_value (valued s tree)
   value_quiet tree =
       weaker (Anything × Anything) Anything is_constant_value (valued s tree) (λ x. tt)
       (only_then has_constant is_constant_value Anything Anything (judged s tree) (loaded s) (quiet tree)

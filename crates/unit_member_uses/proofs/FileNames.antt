@@ -108,70 +108,81 @@ module _ (by : ℕ → ℕ) (kept : TypesAreKept) (typed : ExpressionsHaveTypes)
       (λ parts. or_broken (constant_parts globals parts) >>= (λ values. give (with_defined unit name.text (object_body values))))
       (initial_part by kept typed unit.scope names d holds (Some globals) ty [] name) (λ parts u q. first_value unit name tree (constant_parts globals parts) u names q)
 
-  object_part : (globals : ℕ) (unit : UnitState) → HasNames unit.scope → (storage : Storage) (ty : PlainType) (kind : Kind) (parts : PlainTrees) (o : ObjectForm by kept typed sizes kind parts) → AllHold parts
-      → (value : Option PlainTree) → Initialised value → (behind : PlainTrees)
-      → Part by (IsName value) (declared_object globals unit storage ty kind parts o.form.name value behind) (o.form.name ∷ (names_among o.form.rest ++ names_if value))
-  object_part globals unit names storage ty kind parts o holds value initialised behind =
-      let name : PlainToken = o.form.name in
-      let last : PlainType → Scope → Checked UnitState = λ whole scope. defined_object globals (with_scope unit scope) storage whole name value in
-      let global : PlainType → Scope → Checked UnitState = λ whole scope. judged_global storage (is_some value) scope whole name behind >>= (λ judged. last whole scope) in
-      none_then by (IsName value) (name ∷ []) (names_among o.form.rest ++ names_if value) (declares (file_entity name.text))
-      (λ declared_. object_type unit.scope ty kind parts name value >>= (λ whole. with_name unit.scope name (variable whole) storage >>= (λ scope. global whole scope))) (tt, refl)
-      (λ declared_. none_then by (IsName value) (names_among o.form.rest) (names_if value) (object_type unit.scope ty kind parts name value) (λ whole. with_name unit.scope name (variable whole) storage >>= (λ scope. global whole scope))
-      (o.typed_so unit.scope names ty name value (o.form.holds holds))
-      (λ whole. quietly_then by HasNames (IsName value) (names_if value) (with_name unit.scope name (variable whole) storage) (global whole) (name_declared unit.scope names name (o.form.spelt holds) (variable whole) storage)
-      (λ scope named e. quiet_then by (IsName value) (names_if value) (judged_global storage (is_some value) scope whole name behind) (λ judged. last whole scope) (global_quiet storage (is_some value) scope whole name behind)
-      (λ judged. defined_part globals (with_scope unit scope) named storage whole name value initialised))))
+  -- ---- declarators at file scope, of which this is said with the uses of their initialisers
 
-  -- ---- functions that are declared
+  pub record NameLaw (Says : Option PlainTree → UnitState → List Use → Type 0) : Type 0 where
+    pub defined : (globals : ℕ) (unit : UnitState) → HasNames unit.scope → (storage : Storage) (ty : PlainType) (name : PlainToken) (value : Option PlainTree) → Initialised value
+        → Part by (Says value) (defined_object globals unit storage ty name value) (names_if value)
+    pub alone : (unit : UnitState) → HasNames unit.scope → Says None unit []
 
-  no_first_value : (unit : UnitState) → HasNames unit.scope → (value : Option PlainTree) → Initialised value → (name : PlainToken) → Part by (IsName value) (refused_initialiser value name >>= (λ none_given. give unit)) (names_if value)
-  no_first_value unit names _ no_value name = (tt, (names, λ keeps known is. refl))
-  no_first_value unit names _ (a_value d holds) name = tt
+  pub initially_used : NameLaw IsName
+  initially_used = record { defined = defined_part; alone = λ unit names. (names, λ keeps known is. refl) }
 
-  function_part : (unit : UnitState) → HasNames unit.scope → (storage : Storage) (ty : PlainType) (parts : PlainTrees) (f : NameForm parenthesized parts) → AllHold parts → (value : Option PlainTree) → Initialised value
-      → Part by (IsName value) (declared_function unit storage ty parts f.name value) (f.name ∷ (names_among f.rest ++ names_if value))
-  function_part unit names storage ty parts f holds value initialised =
-      let name : PlainToken = f.name in
-      let result : PlainType = starred parts ty in
-      let last : Scope → Checked UnitState = λ scope. refused_initialiser value name >>= (λ none_given. give (with_scope unit scope)) in
-      none_then by (IsName value) (name ∷ []) (names_among f.rest ++ names_if value) (declares (file_entity name.text))
-      (λ declared_. new_function false unit.scope storage result parts name >>= (λ ps. with_name unit.scope name (function (signature_of result ps)) storage >>= last)) (tt, refl)
-      (λ declared_. none_then by (IsName value) (names_among f.rest) (names_if value) (new_function false unit.scope storage result parts name) (λ ps. with_name unit.scope name (function (signature_of result ps)) storage >>= last)
-      (function_unused by kept typed sizes parts f (f.holds holds) false unit.scope names storage result name)
-      (λ ps. quietly_then by HasNames (IsName value) (names_if value) (with_name unit.scope name (function (signature_of result ps)) storage) last
-      (name_declared unit.scope names name (f.spelt holds) (function (signature_of result ps)) storage)
-      (λ scope named e. no_first_value (with_scope unit scope) named value initialised name)))
+  module _ (Says : Option PlainTree → UnitState → List Use → Type 0) (law : NameLaw Says) where
+    object_part : (globals : ℕ) (unit : UnitState) → HasNames unit.scope → (storage : Storage) (ty : PlainType) (kind : Kind) (parts : PlainTrees) (o : ObjectForm by kept typed sizes kind parts) → AllHold parts
+        → (value : Option PlainTree) → Initialised value → (behind : PlainTrees)
+        → Part by (Says value) (declared_object globals unit storage ty kind parts o.form.name value behind) (o.form.name ∷ (names_among o.form.rest ++ names_if value))
+    object_part globals unit names storage ty kind parts o holds value initialised behind =
+        let name : PlainToken = o.form.name in
+        let last : PlainType → Scope → Checked UnitState = λ whole scope. defined_object globals (with_scope unit scope) storage whole name value in
+        let global : PlainType → Scope → Checked UnitState = λ whole scope. judged_global storage (is_some value) scope whole name behind >>= (λ judged. last whole scope) in
+        none_then by (Says value) (name ∷ []) (names_among o.form.rest ++ names_if value) (declares (file_entity name.text))
+        (λ declared_. object_type unit.scope ty kind parts name value >>= (λ whole. with_name unit.scope name (variable whole) storage >>= (λ scope. global whole scope))) (tt, refl)
+        (λ declared_. none_then by (Says value) (names_among o.form.rest) (names_if value) (object_type unit.scope ty kind parts name value) (λ whole. with_name unit.scope name (variable whole) storage >>= (λ scope. global whole scope))
+        (o.typed_so unit.scope names ty name value (o.form.holds holds))
+        (λ whole. quietly_then by HasNames (Says value) (names_if value) (with_name unit.scope name (variable whole) storage) (global whole) (name_declared unit.scope names name (o.form.spelt holds) (variable whole) storage)
+        (λ scope named e. quiet_then by (Says value) (names_if value) (judged_global storage (is_some value) scope whole name behind) (λ judged. last whole scope) (global_quiet storage (is_some value) scope whole name behind)
+        (λ judged. law.defined globals (with_scope unit scope) named storage whole name value initialised))))
 
-  -- ---- declarators at file scope
+    -- ---- functions that are declared
 
-  -- where the name is what it is
-  by_name : (value : Option PlainTree) (kind : Kind) (parts : PlainTrees) (name : PlainToken) (rest : PlainTrees) → name_in parts ≡ Some name → names_among parts ≡ name ∷ names_among rest → (next : PlainToken → Checked UnitState)
-      → Part by (IsName value) (next name) (name ∷ (names_among rest ++ names_if value)) → Part by (IsName value) (or_broken (name_in parts) >>= next) (names_in (node kind parts) ++ names_if value)
-  by_name value kind parts name rest is names next h =
-      subst (λ o. Part by (IsName value) (or_broken o >>= next) (names_in (node kind parts) ++ names_if value)) (sym is)
-      (subst (Part by (IsName value) (give name >>= next)) (sym (ap (λ l. l ++ names_if value) (names_of_node kind parts ∙ names)))
-      (alone by (IsName value) (name ∷ (names_among rest ++ names_if value)) (next name) h))
+    no_first_value : (unit : UnitState) → HasNames unit.scope → (value : Option PlainTree) → Initialised value → (name : PlainToken) → Part by (Says value) (refused_initialiser value name >>= (λ none_given. give unit)) (names_if value)
+    no_first_value unit names _ no_value name = (tt, law.alone unit names)
+    no_first_value unit names _ (a_value d holds) name = tt
 
-  pub next_part : {role : Role} (globals : ℕ) (storage : Storage) (ty : PlainType) (behind : PlainTrees) (tree : PlainTree) (value : Option PlainTree) → Derivation (declarator role) tree → Holds tree → Initialised value
-      → (unit : UnitState) → HasNames unit.scope → Part by (IsName value) (next_name globals storage ty behind unit (declared tree value)) (names_in_declared (declared tree value))
-  next_part globals storage ty behind _ value (single is) holds initialised unit names = absurd cc
-  next_part globals storage ty behind _ value (made_of k.Declarator {parts = parts} b a (a_row row)) holds initialised unit names =
-      let o : ObjectForm by kept typed sizes k.Declarator parts = declarator_form by kept typed sizes row in
-      by_name value k.Declarator parts o.form.name o.form.rest o.form.name_is o.form.names (λ name. declared_object globals unit storage ty k.Declarator parts name value behind)
-      (object_part globals unit names storage ty k.Declarator parts o holds value initialised behind)
-  next_part globals storage ty behind _ value (made_of k.ArrayDeclarator {parts = parts} b a (a_row row)) holds initialised unit names =
-      let o : ObjectForm by kept typed sizes k.ArrayDeclarator parts = array_form by kept typed sizes row in
-      by_name value k.ArrayDeclarator parts o.form.name o.form.rest o.form.name_is o.form.names (λ name. declared_object globals unit storage ty k.ArrayDeclarator parts name value behind)
-      (object_part globals unit names storage ty k.ArrayDeclarator parts o holds value initialised behind)
-  next_part globals storage ty behind _ value (made_of k.FunctionDeclarator {parts = parts} b a (a_row row)) holds initialised unit names =
-      let f : NameForm parenthesized parts = name_form row in
-      by_name value k.FunctionDeclarator parts f.name f.rest f.name_is f.names (λ name. declared_function unit storage ty parts name value) (function_part unit names storage ty parts f holds value initialised)
-  next_part globals storage ty behind _ value (made_of _ b a s) holds initialised unit names = absurd cc
+    function_part : (unit : UnitState) → HasNames unit.scope → (storage : Storage) (ty : PlainType) (parts : PlainTrees) (f : NameForm parenthesized parts) → AllHold parts → (value : Option PlainTree) → Initialised value
+        → Part by (Says value) (declared_function unit storage ty parts f.name value) (f.name ∷ (names_among f.rest ++ names_if value))
+    function_part unit names storage ty parts f holds value initialised =
+        let name : PlainToken = f.name in
+        let result : PlainType = starred parts ty in
+        let last : Scope → Checked UnitState = λ scope. refused_initialiser value name >>= (λ none_given. give (with_scope unit scope)) in
+        none_then by (Says value) (name ∷ []) (names_among f.rest ++ names_if value) (declares (file_entity name.text))
+        (λ declared_. new_function false unit.scope storage result parts name >>= (λ ps. with_name unit.scope name (function (signature_of result ps)) storage >>= last)) (tt, refl)
+        (λ declared_. none_then by (Says value) (names_among f.rest) (names_if value) (new_function false unit.scope storage result parts name) (λ ps. with_name unit.scope name (function (signature_of result ps)) storage >>= last)
+        (function_unused by kept typed sizes parts f (f.holds holds) false unit.scope names storage result name)
+        (λ ps. quietly_then by HasNames (Says value) (names_if value) (with_name unit.scope name (function (signature_of result ps)) storage) last
+        (name_declared unit.scope names name (f.spelt holds) (function (signature_of result ps)) storage)
+        (λ scope named e. no_first_value (with_scope unit scope) named value initialised name)))
+
+    -- ---- declarators at file scope
+
+    -- where the name is what it is
+    by_name : (value : Option PlainTree) (kind : Kind) (parts : PlainTrees) (name : PlainToken) (rest : PlainTrees) → name_in parts ≡ Some name → names_among parts ≡ name ∷ names_among rest → (next : PlainToken → Checked UnitState)
+        → Part by (Says value) (next name) (name ∷ (names_among rest ++ names_if value)) → Part by (Says value) (or_broken (name_in parts) >>= next) (names_in (node kind parts) ++ names_if value)
+    by_name value kind parts name rest is names next h =
+        subst (λ o. Part by (Says value) (or_broken o >>= next) (names_in (node kind parts) ++ names_if value)) (sym is)
+        (subst (Part by (Says value) (give name >>= next)) (sym (ap (λ l. l ++ names_if value) (names_of_node kind parts ∙ names)))
+        (alone by (Says value) (name ∷ (names_among rest ++ names_if value)) (next name) h))
+
+    pub next_part : {role : Role} (globals : ℕ) (storage : Storage) (ty : PlainType) (behind : PlainTrees) (tree : PlainTree) (value : Option PlainTree) → Derivation (declarator role) tree → Holds tree → Initialised value
+        → (unit : UnitState) → HasNames unit.scope → Part by (Says value) (next_name globals storage ty behind unit (declared tree value)) (names_in_declared (declared tree value))
+    next_part globals storage ty behind _ value (single is) holds initialised unit names = absurd cc
+    next_part globals storage ty behind _ value (made_of k.Declarator {parts = parts} b a (a_row row)) holds initialised unit names =
+        let o : ObjectForm by kept typed sizes k.Declarator parts = declarator_form by kept typed sizes row in
+        by_name value k.Declarator parts o.form.name o.form.rest o.form.name_is o.form.names (λ name. declared_object globals unit storage ty k.Declarator parts name value behind)
+        (object_part globals unit names storage ty k.Declarator parts o holds value initialised behind)
+    next_part globals storage ty behind _ value (made_of k.ArrayDeclarator {parts = parts} b a (a_row row)) holds initialised unit names =
+        let o : ObjectForm by kept typed sizes k.ArrayDeclarator parts = array_form by kept typed sizes row in
+        by_name value k.ArrayDeclarator parts o.form.name o.form.rest o.form.name_is o.form.names (λ name. declared_object globals unit storage ty k.ArrayDeclarator parts name value behind)
+        (object_part globals unit names storage ty k.ArrayDeclarator parts o holds value initialised behind)
+    next_part globals storage ty behind _ value (made_of k.FunctionDeclarator {parts = parts} b a (a_row row)) holds initialised unit names =
+        let f : NameForm parenthesized parts = name_form row in
+        by_name value k.FunctionDeclarator parts f.name f.rest f.name_is f.names (λ name. declared_function unit storage ty parts name value) (function_part unit names storage ty parts f holds value initialised)
+    next_part globals storage ty behind _ value (made_of _ b a s) holds initialised unit names = absurd cc
 
   pub all_part : {role : Role} (globals : ℕ) (storage : Storage) (ty : PlainType) (behind : PlainTrees) {parts : PlainTrees} → Rattle.tree_derivations.specs.Derivations.Declared role parts → AllHold parts → (g : Going UnitState) → HasNames g.state.scope
       → Part by (λ next u. HasNames next.scope × (u ≡ uses_in_turn by (next_name globals storage ty behind) g (declared_in (trees_of parts)))) (declared_from globals g.state storage ty parts behind) (names_among parts)
   all_part {role = role} globals storage ty behind d holds g names =
       used_in_turn (next_name globals storage ty behind) (λ unit parts. declared_from globals unit storage ty parts behind) role by (λ next. HasNames next.scope) (names_in_turn globals storage ty behind role)
       (λ tree value e h v unit n. part_as by (IsName value) (λ next u. HasNames next.scope) (names_in_declared (declared tree value)) (next_name globals storage ty behind unit (declared tree value))
-      (next_part globals storage ty behind tree value e h v unit n) (λ next u q. q.0)) d holds g names
+      (next_part IsName initially_used globals storage ty behind tree value e h v unit n) (λ next u q. q.0)) d holds g names

@@ -4,3 +4,4 @@ pub mod Structs
 pub mod Functions
 pub mod Items
 pub mod Names
+pub mod FirstValues

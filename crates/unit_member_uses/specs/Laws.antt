@@ -44,6 +44,14 @@ DeclarationsAreUsed =
     → uses_in by (node k.Declaration (declaration words list last)) (judged_item globals unit (node k.Declaration (declaration words list last)) behind)
     ≡ uses_in_turn by (next_name globals (storage_of words) base.ty behind) g (declared_in (trees_of list))
 
+-- So it uses none, as first values are constant.
+abbrev pub DeclarationsUseNothing : Type 0
+DeclarationsUseNothing =
+    (by : ℕ → ℕ) (globals : ℕ) (unit : UnitState) → HasNames unit.scope → (words list : PlainTrees) (last : PlainToken)
+    → Derivation file_item (node k.Declaration (declaration words list last)) → ArePieces (spelled (node k.Declaration (declaration words list last))) → (behind : PlainTrees)
+    → (next : UnitState) (js : List Binding) → judged_item globals unit (node k.Declaration (declaration words list last)) behind ≡ fine next js
+    → uses_in by (node k.Declaration (declaration words list last)) (judged_item globals unit (node k.Declaration (declaration words list last)) behind) ≡ []
+
 -- A declarator there uses what its first value selects where its name is visible.
 abbrev pub NamesUseInitialisers : Type 0
 NamesUseInitialisers =

@@ -2,12 +2,14 @@
 //! (ISO/IEC 9899:2011, 6.9), the contracts of functions that compute nothing.
 #![tactic(auto)]
 
-ghost use Rattle.unit_member_uses.specs.Laws.{DeclarationsAreUsed, FunctionsAreUsed, ItemsKeepNames, NamesUseInitialisers, ScopesKeepNames, StructsUseNothing, UnitsAreUsed};
+ghost use Rattle.unit_member_uses.specs.Laws.{DeclarationsAreUsed, DeclarationsUseNothing, FunctionsAreUsed, ItemsKeepNames, NamesUseInitialisers, ScopesKeepNames, StructsUseNothing, UnitsAreUsed};
 
 mod rows;
 
 use cond_sizes::counts_need_no_names;
 use expression_types::expressions_have_types;
+use first_values::first_values_name_no_members;
+use member_uses::declarators_are_derived;
 use operand_types::types_are_kept;
 pub use rows::worked_uses;
 use tree_derivations::units_are_derived;
@@ -47,6 +49,19 @@ pub fn declarations_are_used()
     types_are_kept();
     expressions_have_types();
     counts_need_no_names();
+}
+
+/// There are none, as first values are constant.
+pub fn declarations_use_nothing()
+    ensures { DeclarationsUseNothing }
+{
+    types_are_kept();
+    expressions_have_types();
+    counts_need_no_names();
+    first_values_name_no_members();
+    declarators_are_derived();
+    declarations_are_used();
+    scopes_keep_names();
 }
 
 /// Those of a declarator there are the selections of its first value.
