@@ -1,8 +1,8 @@
 use crate::choices::{seen, when};
 use c_text::{FileToken, Origin, Place, Token, TokenKind};
+use changed_forests::{copied, numbered, rename};
 use choice_trees::{Choice, Forest, Item};
 use cond_formula::{Formula, NoMemory};
-use renamed_forests::{copied, rename};
 use std::alloc::Global;
 use std::test::Fail;
 use text_edits::Span;
@@ -71,5 +71,28 @@ fn each_configuration_sees_the_new_name(rt: HostRuntime) -> Result<(), Fail> {
         b"x total total ".as_slice()
     );
     assert_eq!(rt; seen(alloc, &before, 1)?.as_slice(), b"x x x ".as_slice());
+    Ok(())
+}
+
+/// Where the sites of the tokens begin.
+fn sites(alloc: Global, forest: &Forest) -> Result<Vec<u32>, NoMemory> {
+    let mut all = Vec::new(alloc);
+    for choice in &forest.items {
+        for (_, item) in &choice.branches {
+            if let Item::Leaf(_, token) = item {
+                all.push(token.origin.site.start)?;
+            }
+        }
+    }
+    Ok(all)
+}
+
+#[test]
+fn tokens_tell_their_numbers(rt: HostRuntime) -> Result<(), Fail> {
+    let alloc = rt.alloc();
+    let forest = names(alloc)?;
+    let told = numbered(alloc, &forest)?;
+    assert_eq!(rt; sites(alloc, &forest)?.as_slice(), [4, 12, 20].as_slice());
+    assert_eq!(rt; sites(alloc, &told)?.as_slice(), [0, 1, 2].as_slice());
     Ok(())
 }

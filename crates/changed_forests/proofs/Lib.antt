@@ -1,0 +1,4 @@
+pub mod Seen
+pub mod Appended
+pub mod Unchanged
+pub mod Sites

@@ -1,0 +1,4 @@
+pub mod Changed
+pub mod Renamed
+pub mod Numbered
+pub mod Laws
