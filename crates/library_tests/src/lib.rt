@@ -4,6 +4,8 @@
 #[cfg(test)]
 mod choices;
 #[cfg(test)]
+mod declarations;
+#[cfg(test)]
 mod formulas;
 #[cfg(test)]
 mod heights;
