@@ -10,4 +10,4 @@ mod renaming;
 pub use changing::{TokenChange, changed};
 pub use laws::{changes_are_seen, numberings_are_seen, renamings_are_seen, sites_dont_matter};
 pub use numbering::numbered;
-pub use renaming::{copied, rename};
+pub use renaming::{copied, copies_any, rename};

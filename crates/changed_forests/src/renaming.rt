@@ -22,8 +22,8 @@ fn copies(token: &Token, of: &FileToken) -> bool
         && token.origin.span.end == of.span.end
 }
 
-/// Whether it is a copy of one of these.
-fn copies_any(token: &Token, class: &[FileToken]) -> bool
+/// Whether the token is a copy of one of these tokens of files.
+pub fn copies_any(token: &Token, class: &[FileToken]) -> bool
     ensures { result ≡ list_any (λ of. spec.copies of (plain_token token.now)) class.now }
 {
     for of in class {

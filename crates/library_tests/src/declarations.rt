@@ -1,3 +1,5 @@
+ghost use Rattle.std.specs.Prelude.{◌≡◌, length, IfOk};
+
 use cond_formula::{Config, Formula, NoMemory};
 use cond_pairings::CondPairing;
 use declared_tokens::DeclaredTokens;
@@ -5,7 +7,9 @@ use std::alloc::Global;
 use std::test::Fail;
 
 /// A name that is declared at token 1, and with feature 0 again at token 3 in a block; it is used at token 5.
-fn used_in_a_block(alloc: Global) -> Result<DeclaredTokens, NoMemory> {
+fn used_in_a_block(alloc: Global) -> Result<DeclaredTokens, NoMemory>
+    ensures { IfOk result (λ declared. length declared.by_token.items ≡ 6) }
+{
     let without = Formula::not(alloc, Formula::Var(0))?;
     let pairs = vec![in alloc;
         CondPairing {
@@ -33,7 +37,9 @@ fn used_in_a_block(alloc: Global) -> Result<DeclaredTokens, NoMemory> {
 }
 
 /// The same without the block's declaration.
-fn used_at_file_scope(alloc: Global) -> Result<DeclaredTokens, NoMemory> {
+fn used_at_file_scope(alloc: Global) -> Result<DeclaredTokens, NoMemory>
+    ensures { IfOk result (λ declared. length declared.by_token.items ≡ 6) }
+{
     let pairs = vec![in alloc;
         CondPairing {
             identifier: 1,

@@ -12,6 +12,8 @@ mod heights;
 #[cfg(test)]
 mod new_names;
 #[cfg(test)]
+mod occurrences;
+#[cfg(test)]
 mod paths;
 #[cfg(test)]
 mod refutations;
