@@ -1,0 +1,6 @@
+pub mod Spans
+pub mod ListedEdits
+pub mod Counts
+pub mod Standing
+pub mod Members
+pub mod Searching
