@@ -1,0 +1,4 @@
+pub mod VariantsMade
+pub mod Noting
+pub mod Choosing
+pub mod Parts
