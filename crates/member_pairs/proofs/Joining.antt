@@ -1,12 +1,14 @@
 -- Uses with what declares their members, one entry after the other.
-use Rattle.std.proofs.Common.{◌≡◌, ℕ, suc, ◌+◌, ◌<◌, Bool, true, false, ◌&&◌, List, [], ◌∷◌, ◌++◌, map, drop, length, get_or, refl, sym, ap, ◌∙◌, add-one, drop-cons}
+use Rattle.std.proofs.Common.{◌≡◌, ℕ, suc, ◌+◌, ◌<◌, ◌≤◌, Bool, true, false, ◌&&◌, List, [], ◌∷◌, ◌++◌, drop, length, get_or, refl, sym, ap, ◌∙◌, add-one, drop-cons}
 use Rattle.std.specs.Prelude.{if◌then◌else◌}
-use Rattle.std.proofs.lemmas.List.{append-nil, append_assoc}
+use Rattle.std.proofs.lemmas.List.{append-nil, append_assoc, drop_all}
 use Rattle.cond_formula.specs.Conditions.{condition_of, value}
 use Rattle.conditional.specs.Entries.{seen, under, entries_of}
 use Rattle.conditional.specs.declared.entries.Guarded.{Guarded}
 use Rattle.member_uses.specs.Uses.{Use}
-use Rattle.cond_pairings.specs.Pairs.{Pair}
+use Rattle.cond_pairings.specs.Pairs.{Pair, pairs_seen}
+use Rattle.cond_pairings.proofs.Walks.{pair_more}
+use Rattle.cond_pairings.specs.declared.pairs.CondPairing.{CondPairing}
 use Rattle.cond_selections.specs.declared.entries.Selection.{Selection}
 use Rattle.cond_selections.specs.Selected.{plain_selection}
 use Rattle.cond_name_spaces.specs.declared.entries.SpacedName.{SpacedName}
@@ -15,6 +17,27 @@ use Rattle.member_pairs.specs.Members.{declares_member, pair_of, pairs_of_use, p
 
 one_of : {X : Type 0} (xs : List X) (x : X) (i : ℕ) → i < length xs → x ≡ get_or xs i x → drop i xs ≡ x ∷ drop (i + 1) xs
 one_of xs x i within is = rw (add-one, drop-cons xs i x within) (ap (λ y. y ∷ drop (suc i) xs) (sym is))
+
+-- one pair more
+pub pushed : (on : ℕ → Bool) (some : List CondPairing) (p : CondPairing) (b : Bool) → value on (condition_of p.when) ≡ b
+    → pairs_seen on (some ++ p ∷ []) ≡ pairs_seen on some ++ under b ((let one : Pair = record { identifier = p.identifier; declared_by = p.declared_by } in one) ∷ [])
+pushed on some p b is = pair_more on some p ∙ ap (λ l. pairs_seen on some ++ l) (here (value on (condition_of p.when)) b is)
+  where
+    here : (c d : Bool) → c ≡ d → (if c then (let one : Pair = record { identifier = p.identifier; declared_by = p.declared_by } in one) ∷ [] else []) ≡ under d ((let one : Pair = record { identifier = p.identifier; declared_by = p.declared_by } in one) ∷ [])
+    here true true e = refl
+    here false false e = refl
+    here true false e = absurd cc
+    here false true e = absurd cc
+
+-- behind the last name
+pub at_end : (on : ℕ → Bool) (b : Bool) (tag : List ℕ) (u : Use) (names : List (Guarded SpacedName)) (i : ℕ) (before whole : List Pair) → length names ≤ i
+    → before ++ under b (pairs_of_use tag u (seen on (entries_of plain_name (drop i names)))) ≡ whole → before ≡ whole
+at_end on b tag u names i before whole past goes =
+    sym (append-nil before) ∙ (ap (λ l. before ++ l) (sym (ap (λ l. under b (pairs_of_use tag u (seen on (entries_of plain_name l)))) (drop_all i names past) ∙ none b)) ∙ goes)
+  where
+    none : (c : Bool) → under c (let list : List Pair = [] in list) ≡ []
+    none true = refl
+    none false = refl
 
 module _ (on : ℕ → Bool) (b : Bool) (tag : List ℕ) (u : Use) (names : List (Guarded SpacedName)) (d : Guarded SpacedName) (i : ℕ) (within : i < length names) (is : d ≡ get_or names i d) where
   abbrev behind : List Pair

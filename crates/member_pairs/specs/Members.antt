@@ -1,6 +1,6 @@
 -- Uses of members with what declares the members (ISO/IEC 9899:2011, 6.5.2.3, 6.7.2.1): a use names a member of a struct, and the identifier of that
 -- name declares it that stands among the members of the struct with that tag.
-use Rattle.std.specs.Prelude.{ℕ, Bool, false, ◌&&◌, List, [], ◌∷◌, ◌++◌, map, get_or, Option, Some, None, if◌then◌else◌}
+use Rattle.std.specs.Prelude.{ℕ, Bool, false, ◌&&◌, List, [], ◌∷◌, map, get_or, Option, Some, None, if◌then◌else◌}
 use Rattle.std.specs.List.{flat_map}
 use Rattle.std.specs.Str.{bytes_eq}
 use Rattle.bindings.specs.Visible.{NameSpace, ordinary, tags, members_of}

@@ -5,3 +5,5 @@
 mod bodies;
 #[cfg(test)]
 mod items;
+#[cfg(test)]
+mod pairs;
