@@ -92,7 +92,7 @@ module _ (derived : UnitsAreDerived) (found : IdentifiersAreBound) (kept : Occur
       ∙ (recorded-is [] (bindings_of tree) js
       ∙ (ap (λ is. with_entities is js) (found tree written.unit) ∙ ap (λ c. with_entities identifiers (judged_bindings c)) (sym judged)))
 
-  visible : FileRel state.scope (read_unit tree) unit.identified
+  pub visible : FileRel state.scope (read_unit tree) unit.identified
   visible = subst (FileRel state.scope (read_unit tree)) all-recorded bound.after
 
   -- the first that stands for a name of file scope has this name

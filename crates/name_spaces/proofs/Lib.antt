@@ -1,0 +1,11 @@
+pub mod Formed
+pub mod Embeddings
+pub mod Uses
+pub mod Listed
+pub mod Blocks
+pub mod Statements
+pub mod Walks
+pub mod Items
+pub mod Units
+pub mod Told
+pub mod Declared
