@@ -9,3 +9,4 @@ pub mod Items
 pub mod Units
 pub mod Told
 pub mod Declared
+pub mod Names

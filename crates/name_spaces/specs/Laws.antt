@@ -1,5 +1,5 @@
 -- What holds of the name spaces of a unit's identifiers; each is the contract of a function of this crate.
-use Rattle.std.specs.Prelude.{◌≡◌, ℕ, ◌==◌, Bool, false, List, Option, Some, None, if◌then◌else◌, IsTrue}
+use Rattle.std.specs.Prelude.{◌≡◌, ℕ, ◌==◌, Bool, false, List, [], ◌∷◌, map, Option, Some, None, if◌then◌else◌, IsTrue}
 use Rattle.std.specs.List.{AllZip}
 use Rattle.c_tree.specs.Trees.{PlainTree}
 use Rattle.core_meaning.specs.Checking.{Binding as JudgedBinding, fine}
@@ -37,3 +37,23 @@ abbrev pub BindingsTellDeclarations : Type 0
 BindingsTellDeclarations =
     (tree : PlainTree) → IsWritten tree → (structs : List Struct) (state : UnitState) (js : List JudgedBinding) → judged_behind structs tree ≡ fine state js
     → AllZip (λ b o. binds_itself b ≡ declares_itself o) (bindings_of tree) (occurrences_of (names_of_unit tree (judged_behind structs tree)))
+
+-- the name in common that an identifier declares, if it declares itself
+abbrev pub declared_name : UnitNames → Occurrence → Option CommonName
+declared_name unit o = if declares_itself o then common_name unit o.identifier else None
+
+-- the same by its binding and its name space
+abbrev pub told_name : UnitNames → BoundIdentifier → Option NameSpace → Option CommonName
+told_name unit b space = if binds_itself b then common_by unit space b.token.text else None
+
+abbrev pub told_names : UnitNames → List BoundIdentifier → List (Option NameSpace) → List (Option CommonName)
+told_names unit [] spaces = []
+told_names unit (b ∷ bindings) [] = []
+told_names unit (b ∷ bindings) (space ∷ spaces) = told_name unit b space ∷ told_names unit bindings spaces
+
+-- So the bindings of such a unit and its name spaces tell the names that it declares, identifier by identifier.
+abbrev pub DeclaredNamesAreTold : Type 0
+DeclaredNamesAreTold =
+    (tree : PlainTree) → IsWritten tree → (structs : List Struct) (state : UnitState) (js : List JudgedBinding) → judged_behind structs tree ≡ fine state js
+    → map (declared_name (names_of_unit tree (judged_behind structs tree))) (occurrences_of (names_of_unit tree (judged_behind structs tree)))
+    ≡ told_names (names_of_unit tree (judged_behind structs tree)) (bindings_of tree) (spaces_of tree)

@@ -3,7 +3,7 @@
 //! compute nothing.
 #![tactic(auto)]
 
-ghost use Rattle.name_spaces.specs.Laws.{SpacesTellNames, BindingsTellDeclarations};
+ghost use Rattle.name_spaces.specs.Laws.{SpacesTellNames, BindingsTellDeclarations, DeclaredNamesAreTold};
 ghost use Rattle.name_spaces.specs.Rows.{MembersAreOfTheirStruct, BlocksAreInNone};
 
 use bindings::judgements_bind_alike;
@@ -34,6 +34,15 @@ pub fn bindings_tell_declarations()
     identifiers_are_bound();
     occurrences_are_bound();
     slots_are_of_functions();
+}
+
+/// So the bindings of such a unit and the name spaces of its identifiers tell which names in common it declares, and where.
+pub fn declared_names_are_told()
+    ensures { DeclaredNamesAreTold }
+{
+    occurrences_are_bound();
+    spaces_tell_names();
+    bindings_tell_declarations();
 }
 
 /// The name spaces of identifiers of units by hand.
