@@ -1,0 +1,3 @@
+pub mod Present
+pub mod Reading
+pub mod Listed

@@ -1,0 +1,3 @@
+pub mod Touches
+pub mod Units
+pub mod Laws
