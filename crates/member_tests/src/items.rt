@@ -33,11 +33,11 @@ pub(crate) fn always(alloc: Global, item: Item) -> Result<Choice<Item>, NoMemory
     when(alloc, Formula::True, item)
 }
 
-fn mark(alloc: Global, text: &str) -> Result<Choice<Item>, NoMemory> {
+pub(crate) fn mark(alloc: Global, text: &str) -> Result<Choice<Item>, NoMemory> {
     always(alloc, leaf(alloc, TokenKind::Punctuator, text)?)
 }
 
-fn name(alloc: Global, text: &str) -> Result<Choice<Item>, NoMemory> {
+pub(crate) fn name(alloc: Global, text: &str) -> Result<Choice<Item>, NoMemory> {
     always(alloc, leaf(alloc, TokenKind::Name, text)?)
 }
 

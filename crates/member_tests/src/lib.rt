@@ -7,3 +7,5 @@ mod bodies;
 mod items;
 #[cfg(test)]
 mod pairs;
+#[cfg(test)]
+mod spaces;
