@@ -1,5 +1,9 @@
 //! A class of three tokens in one file, of which a directive line leaves out one.
-use crate::{RenamedCount, count_renamed, name_at, renamed, token_at};
+
+ghost use Rattle.std.specs.Prelude.{◌<◌, ◌≤◌, length, All, IfOk};
+ghost use Rattle.text_edits.specs.Files.{plain_files};
+
+use crate::{count_renamed, edits_of, name_at, renamed, token_at};
 use c_text::FileToken;
 use std::alloc::{AllocError, Global};
 use std::test::Fail;
@@ -8,10 +12,9 @@ use text_edits::{Files, SourceFile, Span};
 const BEFORE: &[u8] =
     b"#ifdef A\nint x;\n#else\nlong x;\n#endif\nint main(void) { x = 1; return 0; }\n";
 
-const AFTER: &[u8] =
-    b"#ifdef A\nint ya;\n#else\nlong ya;\n#endif\nint main(void) { ya = 1; return 0; }\n";
-
-fn files(alloc: Global) -> Result<Files, AllocError> {
+fn files(alloc: Global) -> Result<Files, AllocError>
+    ensures { IfOk result (λ files. All (λ f. length f.bytes ≤ 4294967295) (plain_files files)) }
+{
     let name = String::from_str(alloc, "m.c")?;
     let bytes = Vec::from_slice(alloc, BEFORE)?;
     let list = vec![in alloc; SourceFile { name, bytes }]?;
@@ -49,15 +52,28 @@ fn an_offset_stands_for_a_name(rt: HostRuntime) -> Result<(), Fail> {
 }
 
 #[test]
-fn three_tokens_are_renamed(rt: HostRuntime) -> Result<(), Fail> {
+fn three_tokens_have_edits(rt: HostRuntime) -> Result<(), Fail> {
     let alloc = rt.alloc();
     let files = files(alloc)?;
     let tokens = [token(13), token(27), token(54)];
     let count = count_renamed(&files, &tokens);
     assert_eq!(rt; (count.tokens, count.files), (3, 1));
-    let done = renamed(alloc, &files, &tokens, b"ya")?;
+    let edits = edits_of(alloc, 1, &tokens, b"ya")?;
+    assert_eq!(rt; edits.len(), 3);
+    for edit in &edits {
+        assert_eq!(rt; edit.file, 0);
+        assert_eq!(rt; edit.text.as_slice(), b"ya".as_slice());
+    }
+    Ok(())
+}
+
+#[test]
+fn files_stay_where_no_token_is_renamed(rt: HostRuntime) -> Result<(), Fail> {
+    let alloc = rt.alloc();
+    let files = files(alloc)?;
+    let done = renamed(alloc, &files, &[], b"ya")?;
     match done.list.get(0) {
-        Some(file) => assert_eq!(rt; file.bytes.as_slice(), AFTER),
+        Some(file) => assert_eq!(rt; file.bytes.as_slice(), BEFORE),
         None => assert!(rt; false),
     }
     Ok(())
