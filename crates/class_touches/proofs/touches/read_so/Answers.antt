@@ -1,4 +1,4 @@
-use Rattle.std.proofs.Common.{◌≡◌, List, Bool, IsTrue, take, refl, ap, sym, subst, ◌∙◌, arith}
+use Rattle.std.proofs.Common.{List, IsTrue, take, refl, ap, sym, subst, ◌∙◌, arith}
 use Rattle.std.specs.Prelude.{◌↔◌, option_map}
 use Rattle.std.proofs.lemmas.List.{take_all}
 use Rattle.text_edits.specs.Files.{plain_files}

@@ -1,4 +1,4 @@
-use Rattle.std.proofs.Common.{◌≡◌, ℕ, ◌<◌, List, Bool, IsTrue, length, map, take, refl, ap, sym, subst, ◌∙◌, rules, arith}
+use Rattle.std.proofs.Common.{ℕ, ◌<◌, List, IsTrue, length, map, take, refl, ap, sym, subst, ◌∙◌, rules, arith}
 use Rattle.std.specs.Prelude.{◌↔◌, option_map}
 use Rattle.text_edits.specs.Files.{plain_files}
 use Rattle.cond_formula.specs.Features.{has}
@@ -9,7 +9,7 @@ use Rattle.project_file.specs.View.{project_view, unit_view}
 use Rattle.project_program.specs.Programs.{present_from}
 use Rattle.tied_tokens.specs.Tokens.{plain_file_token}
 use Rattle.class_touches.specs.Units.{IsReadInUnits}
-use Rattle.class_touches.proofs.Present.{no-more-units, next-present, all-present}
+use Rattle.class_touches.proofs.Present.{next-present, all-present}
 use Rattle.class_touches.proofs.Reading.{in-no-units, unit-more, in-all-units}
 use Rattle.class_touches.proofs.units.read_in_project.Goals as goal
 

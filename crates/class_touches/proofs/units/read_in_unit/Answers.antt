@@ -1,4 +1,4 @@
-use Rattle.std.proofs.Common.{◌≡◌, Bool, List, ℕ, Option, Bor, IfOk, IsTrue, sym, subst}
+use Rattle.std.proofs.Common.{Bool, List, ℕ, Option, Bor, IfOk, IsTrue, sym, subst}
 use Rattle.std.specs.Prelude.{◌↔◌, option_map}
 use Rattle.text_edits.specs.Files.{plain_files}
 use Rattle.cond_formula.specs.Features.{has}
