@@ -1,0 +1,10 @@
+pub mod Parameters
+pub mod Renumbering
+pub mod Judged
+pub mod Places
+pub mod Shapes
+pub mod OneDefinition
+pub mod OneBlock
+pub mod OneItem
+pub mod EachItem
+pub mod EachUnit
