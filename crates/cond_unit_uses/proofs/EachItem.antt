@@ -3,7 +3,7 @@ use Rattle.std.proofs.Common.{◌≡◌, ℕ, ◌+◌, ◌<◌, ◌≤◌, Bool,
 use Rattle.cond_formula.specs.Conditions.{condition_of, value}
 use Rattle.conditional.specs.Entries.{seen}
 use Rattle.conditional_steps.proofs.FirstAlternative.{next_seen, none_seen}
-use Rattle.c_tree.specs.Trees.{PlainTree, PlainTrees, none, more, trees, spelled, all_written}
+use Rattle.c_tree.specs.Trees.{PlainTree, PlainTrees, more, trees, spelled, all_written}
 use Rattle.c_tree.specs.Grammar.{file_item}
 use Rattle.tree_derivations.specs.Derivations.{Derivation, Each, one_more}
 use Rattle.bindings.specs.Laws.{ArePieces}
@@ -11,7 +11,6 @@ use Rattle.choice_trees.specs.ChoiceTrees.{plain_item, item_at}
 use Rattle.declarator_lists.specs.Entries.{entry_at, entries_at}
 use Rattle.declarator_lists.specs.declared.items.ListEntry.{ListEntry}
 use Rattle.core_meaning.specs.Checking.{Binding, Checked, fine}
-use Rattle.core_meaning.specs.Entities.{Struct}
 use Rattle.core_meaning.specs.UnitNames.{UnitState, judged_item, judged_file_items}
 use Rattle.core_meaning.proofs.Outlines.{bound, given_is}
 use Rattle.operand_types.specs.Laws.{KeepsApart}

@@ -1,28 +1,23 @@
 -- The units are gone through as they are judged, and their uses noted one after the other.
-use Rattle.std.proofs.Common.{◌≡◌, ℕ, ◌+◌, Bool, true, false, IsTrue, List, [], ◌∷◌, ◌++◌, map, refl, sym, ap, ap₂, ◌∙◌, subst, append_assoc, append-nil, if◌then◌else◌}
-use Rattle.std.specs.Prelude.{Option, Some, None, slice_get}
-use Rattle.std.proofs.lemmas.List.{map-append}
+use Rattle.std.proofs.Common.{◌≡◌, ℕ, ◌+◌, Bool, true, false, List, [], ◌∷◌, ◌++◌, map, refl, sym, ap, ◌∙◌, subst, append_assoc, append-nil, if◌then◌else◌}
+use Rattle.std.specs.Prelude.{Some, slice_get}
 use Rattle.cond_formula.specs.Conditions.{condition_of, value}
-use Rattle.conditional.specs.declared.lists.CondList.{CondList}
-use Rattle.c_text.specs.Token.{PlainToken}
 use Rattle.c_tree.specs.declared.kinds.Kind.TheVariants as k
 use Rattle.c_tree.specs.Trees.{PlainTree, PlainTrees, node}
 use Rattle.tree_derivations.specs.Derivations.{UnitsAreDerived}
 use Rattle.choice_trees.specs.declared.trees.Forest.{Forest}
-use Rattle.choice_trees.specs.ChoiceTrees.{plain_choices, parts_at, forest_at}
+use Rattle.choice_trees.specs.ChoiceTrees.{plain_choices, parts_at}
 use Rattle.project_file.specs.declared.projects.Unit.{Unit}
-use Rattle.bindings.specs.Laws.{IsWritten, AreWritten}
+use Rattle.bindings.specs.Laws.{AreWritten}
 use Rattle.core_meaning.specs.Checking.{Binding, Checked, fine, refused, broken, ◌>>=◌, give}
 use Rattle.core_meaning.specs.Entities.{Struct, Numbers}
 use Rattle.core_meaning.specs.Linking.{Units, closed, judged_units}
 use Rattle.core_meaning.specs.UnitNames.{UnitState, unit_start, too_big_in, unless_too_big, judged_file_items, judged_unit}
 use Rattle.core_meaning.proofs.Outlines.{bound, given_is}
 use Rattle.operand_types.specs.Laws.{KeepsApart}
-use Rattle.selections.specs.Laws.{HasNames}
 use Rattle.member_uses.specs.Uses.{Use, uses_in}
 use Rattle.unit_member_uses.specs.Laws.{ScopesKeepNames, UnitsAreUsed}
 use Rattle.cond_scopes.specs.Units.{present_trees}
-use Rattle.cond_selections.specs.declared.entries.Selection.{Selection}
 use Rattle.type_tables.specs.Follows.{StructFollows}
 use Rattle.type_tables.specs.Numbers.{NumbersKept}
 use Rattle.type_tables.specs.Seen.{seen_tables}

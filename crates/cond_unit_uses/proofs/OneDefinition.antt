@@ -1,43 +1,40 @@
 -- What an item uses is noted in what is visible behind it.
-use Rattle.std.proofs.Common.{◌≡◌, ℕ, Bool, true, false, List, [], ◌∷◌, ◌++◌, refl, sym, ap, ◌∙◌, subst, append-nil}
+use Rattle.std.proofs.Common.{◌≡◌, ℕ, true, false, List, [], ◌++◌, refl, sym, ap, ◌∙◌, subst, append-nil}
 use Rattle.std.specs.Prelude.{Option, Some, None}
 use Rattle.std.proofs.lemmas.Bool.{false≢true}
 use Rattle.c_names.specs.Names.{is_identifier}
 use Rattle.c_text.specs.Token.{PlainToken}
 use Rattle.c_types.specs.Types.{PlainType}
-use Rattle.c_tree.specs.declared.kinds.Kind.{Kind}
 use Rattle.c_tree.specs.declared.kinds.Kind.TheVariants as k
 use Rattle.c_tree.specs.declared.terminals.Terminal.TheVariants as t
-use Rattle.c_tree.specs.Trees.{PlainTree, PlainTrees, leaf, node, none, more, spelled, all_written}
+use Rattle.c_tree.specs.Trees.{PlainTree, PlainTrees, leaf, node, none, more, spelled}
 use Rattle.c_tree.specs.Grammar.{block, declarators, file_item, file_first, file_specifiers}
-use Rattle.tree_derivations.specs.Derivations.{Derivation, single, made_of, a_row, a_part, a_word, at_end, IsWord}
+use Rattle.tree_derivations.specs.Derivations.{Derivation, single, made_of, a_row, a_part, a_word, at_end}
 use Rattle.bindings.specs.Laws.{ArePieces}
 use Rattle.conditional.specs.Judgements as judgements
 use Rattle.core_meaning.specs.Checking.{Binding, fine}
 use Rattle.core_meaning.specs.Entities.{Scope}
 use Rattle.core_meaning.specs.Entities as scopes
 use Rattle.core_meaning.specs.Declarations.{behind_word, starred, Parameter, parameters_of}
-use Rattle.core_meaning.specs.UnitNames.{UnitState, storage_of, parameter_types, judged_body, judged_item}
+use Rattle.core_meaning.specs.UnitNames.{UnitState, storage_of, parameter_types, judged_item}
 use Rattle.operand_types.specs.OperandTypes.{outcome_as}
 use Rattle.selections.specs.Laws as selections
-use Rattle.member_uses.specs.Uses.{Use, uses_in}
-use Rattle.member_uses.specs.Walks.{uses_in_body}
-use Rattle.member_uses.specs.Declarations.{declaration}
+use Rattle.member_uses.specs.Uses.{uses_in}
 use Rattle.member_uses.specs.Laws.{BodiesAreUsed}
-use Rattle.unit_member_uses.specs.Items.{definition, in_body}
+use Rattle.unit_member_uses.specs.Items.{definition}
 use Rattle.unit_member_uses.specs.Laws.{DeclarationsUseNothing, FunctionsAreUsed, ScopesKeepNames, StructsUseNothing}
 use Rattle.type_tables.specs.Tables.{Tables, FileName}
 use Rattle.type_tables.specs.Follows.{NameFollows, Follows}
 use Rattle.type_tables.specs.Numbers.{FollowsBy}
 use Rattle.cond_sizes.specs.Laws.{CountsNeedNoNames}
 use Rattle.cond_member_uses.specs.Noted.{Noted, HasNames}
-use Rattle.cond_member_uses.proofs.Pieces.{first_pieces, rest_pieces}
+use Rattle.cond_member_uses.proofs.Pieces.{rest_pieces}
 use Rattle.cond_units.specs.Functions.{HasList}
 use Rattle.cond_types.specs.Definitions.{inside}
 use Rattle.cond_unit_uses.specs.Functions.{NotesDefined, NotesNode, NotesBehind, is_definition}
 use Rattle.cond_unit_uses.proofs.Parameters.{parameters_same}
 use Rattle.cond_unit_uses.proofs.Shapes.{IsFunction, function_parts}
-use Rattle.cond_unit_uses.proofs.Judged.{OnlyNames, only_names, IsDefined, is_defined}
+use Rattle.cond_unit_uses.proofs.Judged.{OnlyNames, only_names, is_defined}
 
 -- names of file scope are spelt as names in the tables too
 names_spelt : (t : Tables) (scope : Scope) → Follows t scope → selections.HasNames scope → HasNames t

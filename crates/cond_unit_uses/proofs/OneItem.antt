@@ -1,13 +1,10 @@
 -- An item is declared, and then its uses are noted.
-use Rattle.std.proofs.Common.{◌≡◌, ℕ, Bool, true, List, sym, ap, ◌∙◌, subst}
+use Rattle.std.proofs.Common.{◌≡◌, ℕ, Bool, List, sym, ap, ◌∙◌, subst}
 use Rattle.c_tree.specs.Trees.{PlainTree, PlainTrees}
 use Rattle.c_tree.specs.Grammar.{file_item}
 use Rattle.tree_derivations.specs.Derivations.{Derivation}
 use Rattle.conditional.specs.declared.lists.CondList.{CondList}
-use Rattle.core_meaning.specs.Checking.{Checked, fine}
-use Rattle.core_meaning.specs.UnitNames.{UnitState}
 use Rattle.cond_selections.specs.declared.entries.Selection.{Selection}
-use Rattle.type_tables.specs.declared.tables.Tables.{Tables}
 use Rattle.type_tables.specs.Tables as plain
 use Rattle.type_tables.specs.Definitions.{PlainDefinition}
 use Rattle.type_tables.specs.Seen.{seen_tables}
@@ -18,7 +15,7 @@ use Rattle.cond_units.specs.Declaring.{IsUnit}
 use Rattle.cond_units.specs.Where as units
 use Rattle.cond_units.specs.Items.{ItemGoesOn, DeclaresItem}
 use Rattle.cond_units.specs.Units.{one_item}
-use Rattle.cond_unit_uses.specs.Noted.{NotedUnit, noted_unit, Where, NotesItem}
+use Rattle.cond_unit_uses.specs.Noted.{noted_unit, Where, NotesItem}
 use Rattle.cond_unit_uses.specs.Functions.{NotesBehind}
 use Rattle.cond_unit_uses.proofs.Renumbering.{follows_by}
 

@@ -21,7 +21,9 @@ use conditional::CondList;
 use member_uses::bodies_are_used;
 use std::alloc::Global;
 use type_tables::Tables;
-use unit_member_uses::{declarations_use_nothing, functions_are_used, scopes_keep_names, structs_use_nothing};
+use unit_member_uses::{
+    declarations_use_nothing, functions_are_used, scopes_keep_names, structs_use_nothing,
+};
 
 /// The parts of a function's declarator, by which its parameters are found.
 #[derive(Clone, Copy)]

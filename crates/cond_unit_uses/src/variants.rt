@@ -121,6 +121,8 @@ pub(crate) fn note_node<R: PartsReader, O: Oracle>(
 {
     match item {
         Item::Leaf(..) => Ok(()),
-        Item::Node(kind, parts) => note_kind(alloc, oracle, tables, when, reader, *kind, parts, log),
+        Item::Node(kind, parts) => note_kind(
+            alloc, oracle, tables, when, reader, *kind, parts, log,
+        ),
     }
 }

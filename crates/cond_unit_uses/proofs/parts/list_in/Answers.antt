@@ -1,5 +1,4 @@
-use Rattle.std.proofs.Common.{inl, Bor, sym, ap, ◌∙◌}
-use Rattle.std.specs.Prelude.{Some, option_map}
+use Rattle.std.proofs.Common.{inl, Bor, sym}
 use Rattle.c_tree.specs.declared.terminals.Terminal.TheVariants as t
 use Rattle.c_tree.specs.Trees.{none}
 use Rattle.choice_trees.specs.declared.trees.Item.{Item}

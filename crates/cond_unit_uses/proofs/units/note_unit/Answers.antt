@@ -1,11 +1,11 @@
-use Rattle.std.proofs.Common.{List, [], subst}
+use Rattle.std.proofs.Common.{List, subst}
 use Rattle.cond_formula.specs.Features.{has}
 use Rattle.cond_formula.specs.Conditions.{condition_of, value}
 use Rattle.c_tree.specs.declared.kinds.Kind.TheVariants as k
 use Rattle.choice_trees.specs.ChoiceTrees.{plain_choices, parts_at}
 use Rattle.member_uses.specs.Uses.{Use}
 use Rattle.cond_units.specs.Seen.{seen_unit}
-use Rattle.cond_unit_uses.specs.Noted.{NotedUnit, noted_unit, Where, NotesItems}
+use Rattle.cond_unit_uses.specs.Noted.{noted_unit, Where, NotesItems}
 use Rattle.cond_unit_uses.proofs.units.note_unit.Goals as goal
 
 pub returns-clause-takes : goal.returns-clause-takes

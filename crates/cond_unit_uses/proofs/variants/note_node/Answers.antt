@@ -1,12 +1,12 @@
-use Rattle.std.proofs.Common.{sym, ap, subst, ◌∙◌}
+use Rattle.std.proofs.Common.{sym, ap, ◌∙◌}
 use Rattle.std.proofs.lemmas.Result.{on_ok_weaker}
 use Rattle.c_text.specs.Token.{plain_token}
 use Rattle.cond_formula.specs.Features.{has}
 use Rattle.cond_formula.specs.Conditions.{condition_of, value}
-use Rattle.c_tree.specs.Trees.{PlainTree, node}
+use Rattle.c_tree.specs.Trees.{node}
 use Rattle.choice_trees.specs.ChoiceTrees.{plain_item, plain_choices, item_at, parts_at}
 use Rattle.choice_trees.specs.ItemLaws.{plain_item-Node, plain_item-Leaf}
-use Rattle.cond_member_uses.specs.Noted.{noted_at, Where}
+use Rattle.cond_member_uses.specs.Noted.{noted_at}
 use Rattle.cond_member_uses.proofs.Blocks.{where_also}
 use Rattle.cond_member_uses.proofs.Declarations.{unchanged}
 use Rattle.cond_unit_uses.specs.Functions.{NotesNode}
