@@ -27,4 +27,4 @@ pub use failing::where_links_fail;
 pub use laws::{faults_are_those_of_what_is_seen, other_names_have_no_fault};
 pub use left::LeftUnit;
 pub use mains::where_no_main;
-pub use names::declared;
+pub use names::{declared, where_external};

@@ -119,3 +119,26 @@ pub(crate) fn where_internal(
     let f = where_declared(alloc, &Internal, left, name)?;
     Ok(f)
 }
+
+struct External;
+
+impl Asked for External {
+    ghost holds = { λ self on n. not n.internal };
+
+    #[tactic(auto, using(cond_formula::specs::ConditionLaws::formula_kinds))]
+    fn where_so(&self, _alloc: Global, what: &FileName) -> Result<Formula, NoMemory> {
+        if what.internal {
+            Ok(Formula::False)
+        } else {
+            Ok(Formula::True)
+        }
+    }
+}
+
+/// Where a unit declares a name with external linkage (6.2.2).
+pub fn where_external(alloc: Global, left: &LeftUnit, name: &[u8]) -> Result<Formula, NoMemory>
+    ensures { IfOk result (λ f. (on : ℕ → Bool) → value on (condition_of f) ≡ is_so (λ n. not n.internal) (name_seen on left.now.names.items name.now)) }
+{
+    let f = where_declared(alloc, &External, left, name)?;
+    Ok(f)
+}
