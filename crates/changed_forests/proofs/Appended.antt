@@ -1,6 +1,6 @@
 -- Alternatives and parts that are put one behind the other.
-use Rattle.std.proofs.Common.{◌≡◌, ℕ, suc, ◌+◌, ◌<◌, ◌≤◌, List, [], ◌∷◌, ◌++◌, drop, length, get_or, refl, sym, ap, ◌∙◌, add-one, drop-cons}
-use Rattle.std.proofs.lemmas.List.{drop_all}
+use Rattle.std.proofs.Common.{◌≡◌, ℕ, suc, ◌+◌, ◌<◌, ◌≤◌, List, [], ◌∷◌, ◌++◌, drop, length, get_or, refl, sym, ap, ◌∙◌}
+use Rattle.std.proofs.lemmas.List.{drop_all, at_drop_more}
 use Rattle.cond_formula.specs.declared.formulas.Formula.{Formula}
 use Rattle.cond_formula.specs.Conditions.{condition_of}
 use Rattle.choice_trees.specs.declared.trees.Choice.{Choice}
@@ -40,9 +40,6 @@ choice_more (first ∷ rest) c behind = ap (choice (plain_branches first.branche
 
 -- ---- how far a change has come
 
-one_of : {X : Type 0} (xs : List X) (x : X) (i : ℕ) → i < length xs → x ≡ get_or xs i x → drop i xs ≡ x ∷ drop (i + 1) xs
-one_of xs x i within is = rw (add-one, drop-cons xs i x within) (ap (λ y. y ∷ drop (suc i) xs) (sym is))
-
 module _ (change : Change) where
   abbrev pub BranchesSoFar : List (Formula × Item) → ℕ → List (Formula × Item) → Type 0
   BranchesSoFar olds place done =
@@ -60,7 +57,8 @@ module _ (change : Change) where
       branch_more done f item (changed_branches change (plain_branches (drop (place + 1) olds)))
       ∙ (ap (λ when. branches_before (plain_branches done) (branch when (plain_item item) (changed_branches change (plain_branches (drop (place + 1) olds))))) same
       ∙ (ap (λ t. branches_before (plain_branches done) (branch (condition_of old.0) t (changed_branches change (plain_branches (drop (place + 1) olds))))) changed
-      ∙ (ap (λ rest. branches_before (plain_branches done) (changed_branches change (plain_branches rest))) (sym (one_of olds old place within is)) ∙ before)))
+      ∙ (ap (λ x. branches_before (plain_branches done) (changed_branches change (plain_branches (x ∷ drop (place + 1) olds)))) is
+      ∙ (sym (at_drop_more (λ rest. branches_before (plain_branches done) (changed_branches change (plain_branches rest))) olds place old within) ∙ before))))
 
   abbrev pub PartsSoFar : List (Choice Item) → ℕ → List (Choice Item) → Type 0
   PartsSoFar olds place done =
@@ -77,4 +75,5 @@ module _ (change : Change) where
   one_part olds place old within is done before new changed =
       choice_more done new (changed_choices change (plain_choices (drop (place + 1) olds)))
       ∙ (ap (λ alternatives. choices_before (plain_choices done) (choice alternatives (changed_choices change (plain_choices (drop (place + 1) olds))))) changed
-      ∙ (ap (λ rest. choices_before (plain_choices done) (changed_choices change (plain_choices rest))) (sym (one_of olds old place within is)) ∙ before))
+      ∙ (ap (λ x. choices_before (plain_choices done) (changed_choices change (plain_choices (x ∷ drop (place + 1) olds)))) is
+      ∙ (sym (at_drop_more (λ rest. choices_before (plain_choices done) (changed_choices change (plain_choices rest))) olds place old within) ∙ before)))

@@ -1,10 +1,12 @@
 -- Occurrences that pass a test, one pair after the other.
-use Rattle.std.proofs.Common.{◌≡◌, ℕ, zero, suc, ◌+◌, ◌<◌, Bool, true, false, ◌||◌, List, [], ◌∷◌, ◌++◌, drop, length, get_or, refl, sym, ap, subst, ◌∙◌, add-one, drop-cons, arith}
+use Rattle.std.proofs.Common.{◌≡◌, ℕ, zero, suc, ◌+◌, ◌<◌, Bool, true, false, ◌||◌, List, [], ◌∷◌, ◌++◌, drop, length, get_or, refl, sym, ap, subst, ◌∙◌, arith}
 use Rattle.std.specs.Prelude.{if◌then◌else◌, All}
 use Rattle.std.specs.List.{list_any}
+use Rattle.std.proofs.Math.Bool.{or_assoc}
 use Rattle.std.proofs.lemmas.List.Elements.{All-get_or}
 use Rattle.cond_formula.specs.Conditions.{condition_of, value}
 use Rattle.c_text.specs.Token.{plain_token}
+use Rattle.conditional.proofs.ListLaws.{item_of}
 use Rattle.cond_tokens.specs.declared.tokens.CondToken.{CondToken}
 use Rattle.cond_pairings.specs.declared.pairs.CondPairing.{CondPairing}
 use Rattle.cond_pairings.specs.Pairs.{Pair, pairs_seen}
@@ -35,20 +37,13 @@ told_there tokens pairs all p i within is a b =
     ap (λ t. let o : Occurring = record { identifier = t; declared_by = plain_token (get_or tokens p.declared_by b).token } in o) (token_there tokens p.identifier a ranges.0)
     ∙ ap (λ t. let o : Occurring = record { identifier = token_of tokens p.identifier; declared_by = t } in o) (token_there tokens p.declared_by b ranges.1)
 
-one_of : {X : Type 0} (xs : List X) (x : X) (i : ℕ) → i < length xs → x ≡ get_or xs i x → drop i xs ≡ x ∷ drop (i + 1) xs
-one_of xs x i within is = rw (add-one, drop-cons xs i x within) (ap (λ y. y ∷ drop (suc i) xs) (sym is))
-
-either_then : (a b c : Bool) → (a || (b || c)) ≡ ((a || b) || c)
-either_then true b c = refl
-either_then false b c = refl
-
 module _ (on : ℕ → Bool) (passes : Pair → Bool) (pairs : List CondPairing) (p : CondPairing) (i : ℕ) (within : i < length pairs) (is : p ≡ get_or pairs i p) where
   abbrev behind : Bool
   behind = list_any passes (pairs_seen on (drop (i + 1) pairs))
 
   from_here : list_any passes (pairs_seen on (drop i pairs)) ≡ (if value on (condition_of p.when) then passes (plain_pair p) || behind else behind)
   from_here =
-      ap (λ l. list_any passes (pairs_seen on l)) (one_of pairs p i within is)
+      ap (λ l. list_any passes (pairs_seen on l)) (item_of pairs p i within is)
       ∙ elim (value on (condition_of p.when)) as (λ holds. list_any passes ((if holds then plain_pair p ∷ [] else []) ++ pairs_seen on (drop (i + 1) pairs)) ≡ (if holds then passes (plain_pair p) || behind else behind)) [
         | true ↦ refl
         | false ↦ refl
@@ -57,7 +52,7 @@ module _ (on : ℕ → Bool) (passes : Pair → Bool) (pairs : List CondPairing)
   pub passed_too : (passed whole : Bool) → passes (plain_pair p) ≡ true → (passed || list_any passes (pairs_seen on (drop i pairs))) ≡ whole
       → ((passed || value on (condition_of p.when)) || behind) ≡ whole
   passed_too passed whole passing before =
-      sym (either_then passed (value on (condition_of p.when)) behind)
+      or_assoc passed (value on (condition_of p.when)) behind
       ∙ (ap (λ b. passed || b) (sym (from_here ∙ here)) ∙ before)
     where
       here : (if value on (condition_of p.when) then passes (plain_pair p) || behind else behind) ≡ (value on (condition_of p.when) || behind)

@@ -1,5 +1,5 @@
 -- What declares the tokens of a unit, by their numbers in its stream, and what a configuration sees of it.
-use Rattle.std.specs.Prelude.{ℕ, zero, suc, ◌==◌, Bool, false, not, ◌||◌, List, [], ◌∷◌, map, get_or, Option, Some, None, if◌then◌else◌}
+use Rattle.std.specs.Prelude.{ℕ, zero, suc, ◌==◌, Bool, false, not, ◌||◌, List, [], ◌∷◌, map, get_or, if◌then◌else◌}
 use Rattle.std.specs.List.{list_any}
 use Rattle.cond_formula.specs.Conditions.{value, condition_of}
 use Rattle.cond_pairings.specs.Pairs.{Pair}
@@ -26,10 +26,6 @@ entries_of all token = get_or (map (λ entries. entries.items) all.by_token.item
 
 abbrev pub declared_at : (ℕ → Bool) → DeclaredTokens → ℕ → List ℕ
 declared_at on all token = numbers_at on (entries_of all token)
-
-abbrev pub first_of : List ℕ → Option ℕ
-first_of [] = None
-first_of (number ∷ rest) = Some number
 
 -- ---- where two units' tokens are declared by others
 

@@ -3,8 +3,10 @@
 ghost use Rattle.std.specs.Prelude.{◌≡◌, ◌<◌, ◌++◌, [], ℕ, Bool, length, All, IfOk, OnOk};
 ghost use Rattle.cond_formula.specs.Features.{has};
 ghost use Rattle.cond_pairings.specs.Pairs.{one_seen, pairs_seen};
+ghost use Rattle.conditional.specs.Entries.{first};
 ghost use Rattle.declared_tokens.specs.Declarations as spec;
-ghost use Rattle.declared_tokens.specs.Declarations.{declared_among, numbers_at, declared_at, entries_of, first_of};
+ghost use Rattle.conditional.specs.Entries.{first};
+ghost use Rattle.declared_tokens.specs.Declarations.{declared_among, numbers_at, declared_at, entries_of};
 
 use cond_formula::{Config, Formula, NoMemory};
 use cond_pairings::CondPairing;
@@ -76,7 +78,7 @@ impl DeclaredTokens {
 
     /// The token that declares one in a configuration, by its number in the unit's stream; nothing where that one isn't there or isn't declared.
     pub fn declaration(&self, token: u32, c: Config) -> Option<u32>
-        ensures { result ≡ first_of (declared_at (has c) self.now token) }
+        ensures { result ≡ first (declared_at (has c) self.now token) }
     {
         let entries = self.by_token.get(token as usize)?;
         for entry in entries {

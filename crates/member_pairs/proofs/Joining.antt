@@ -1,10 +1,11 @@
 -- Uses with what declares their members, one entry after the other.
-use Rattle.std.proofs.Common.{◌≡◌, ℕ, suc, ◌+◌, ◌<◌, ◌≤◌, Bool, true, false, ◌&&◌, List, [], ◌∷◌, ◌++◌, drop, length, get_or, refl, sym, ap, ◌∙◌, add-one, drop-cons}
+use Rattle.std.proofs.Common.{◌≡◌, ℕ, suc, ◌+◌, ◌<◌, ◌≤◌, Bool, true, false, ◌&&◌, List, [], ◌∷◌, ◌++◌, drop, length, get_or, refl, sym, ap, ◌∙◌}
 use Rattle.std.specs.Prelude.{if◌then◌else◌}
 use Rattle.std.proofs.lemmas.List.{append-nil, append_assoc, drop_all}
 use Rattle.cond_formula.specs.Conditions.{condition_of, value}
 use Rattle.conditional.specs.Entries.{seen, under, entries_of}
 use Rattle.conditional.specs.declared.entries.Guarded.{Guarded}
+use Rattle.conditional.proofs.ListLaws.{item_of}
 use Rattle.member_uses.specs.Uses.{Use}
 use Rattle.cond_pairings.specs.Pairs.{Pair, pairs_seen}
 use Rattle.cond_pairings.proofs.Walks.{pair_more}
@@ -14,9 +15,6 @@ use Rattle.cond_selections.specs.Selected.{plain_selection}
 use Rattle.cond_name_spaces.specs.declared.entries.SpacedName.{SpacedName}
 use Rattle.cond_name_spaces.specs.Spaced.{InSpace, plain_name}
 use Rattle.member_pairs.specs.Members.{declares_member, pair_of, pairs_of_use, pairs_of_uses}
-
-one_of : {X : Type 0} (xs : List X) (x : X) (i : ℕ) → i < length xs → x ≡ get_or xs i x → drop i xs ≡ x ∷ drop (i + 1) xs
-one_of xs x i within is = rw (add-one, drop-cons xs i x within) (ap (λ y. y ∷ drop (suc i) xs) (sym is))
 
 -- one pair more
 pub pushed : (on : ℕ → Bool) (some : List CondPairing) (p : CondPairing) (b : Bool) → value on (condition_of p.when) ≡ b
@@ -44,7 +42,7 @@ module _ (on : ℕ → Bool) (b : Bool) (tag : List ℕ) (u : Use) (names : List
   behind = pairs_of_use tag u (seen on (entries_of plain_name (drop (i + 1) names)))
 
   from_here : pairs_of_use tag u (seen on (entries_of plain_name (drop i names))) ≡ pairs_of_use tag u (if value on (condition_of d.when) then plain_name d.what ∷ seen on (entries_of plain_name (drop (i + 1) names)) else seen on (entries_of plain_name (drop (i + 1) names)))
-  from_here = ap (λ l. pairs_of_use tag u (seen on (entries_of plain_name l))) (one_of names d i within is)
+  from_here = ap (λ l. pairs_of_use tag u (seen on (entries_of plain_name l))) (item_of names d i within is)
 
   pub declared_too : (before whole : List Pair) → declares_member tag u.token.text (plain_name d.what) ≡ true
       → before ++ under b (pairs_of_use tag u (seen on (entries_of plain_name (drop i names)))) ≡ whole
@@ -74,7 +72,7 @@ module _ (on : ℕ → Bool) (tag : ℕ → List ℕ) (names : List InSpace) (us
       → (before ++ under (value on (condition_of one.when)) (pairs_of_use (tag one.what.structure) (plain_selection one.what) names)) ++ pairs_of_uses tag names (seen on (entries_of plain_selection (drop (i + 1) uses))) ≡ whole
   used_too before whole goes =
       append_assoc before (under (value on (condition_of one.when)) (pairs_of_use (tag one.what.structure) (plain_selection one.what) names)) (pairs_of_uses tag names (seen on (entries_of plain_selection (drop (i + 1) uses))))
-      ∙ (ap (λ l. before ++ l) (sym (ap (λ l. pairs_of_uses tag names (seen on (entries_of plain_selection l))) (one_of uses one i within is) ∙ here (value on (condition_of one.when)))) ∙ goes)
+      ∙ (ap (λ l. before ++ l) (sym (ap (λ l. pairs_of_uses tag names (seen on (entries_of plain_selection l))) (item_of uses one i within is) ∙ here (value on (condition_of one.when)))) ∙ goes)
     where
       here : (holds : Bool) → pairs_of_uses tag names (if holds then plain_selection one.what ∷ seen on (entries_of plain_selection (drop (i + 1) uses)) else seen on (entries_of plain_selection (drop (i + 1) uses)))
           ≡ under holds (pairs_of_use (tag one.what.structure) (plain_selection one.what) names) ++ pairs_of_uses tag names (seen on (entries_of plain_selection (drop (i + 1) uses)))

@@ -1,11 +1,12 @@
 -- Uses of members with what declares the members (ISO/IEC 9899:2011, 6.5.2.3, 6.7.2.1): a use names a member of a struct, and the identifier of that
 -- name declares it that stands among the members of the struct with that tag.
-use Rattle.std.specs.Prelude.{ℕ, Bool, false, ◌&&◌, List, [], ◌∷◌, map, get_or, Option, Some, None, if◌then◌else◌}
+use Rattle.std.specs.Prelude.{ℕ, Bool, false, ◌&&◌, List, [], ◌∷◌, map, get_or, if◌then◌else◌}
 use Rattle.std.specs.List.{flat_map}
 use Rattle.std.specs.Str.{bytes_eq}
 use Rattle.bindings.specs.Visible.{NameSpace, ordinary, tags, members_of}
 use Rattle.type_tables.specs.declared.tables.Tables.{Tables}
 use Rattle.member_uses.specs.Uses.{Use}
+use Rattle.cond_scopes.specs.Progress.{number_or_none}
 use Rattle.cond_pairings.specs.Pairs.{Pair}
 use Rattle.changed_forests.specs.Numbered.{number_of}
 use Rattle.cond_name_spaces.specs.Spaced.{InSpace}
@@ -23,12 +24,8 @@ is_member_space tag (members_of struct) = bytes_eq struct tag
 abbrev pub declares_member : List ℕ → List ℕ → InSpace → Bool
 declares_member tag name n = is_member_space tag n.space && bytes_eq n.name.text.text name
 
-abbrev pub declaring_number : Option ℕ → ℕ
-declaring_number None = 0
-declaring_number (Some number) = number
-
 abbrev pub pair_of : Use → InSpace → Pair
-pair_of u n = record { identifier = number_of u.token; declared_by = declaring_number n.name.number }
+pair_of u n = record { identifier = number_of u.token; declared_by = number_or_none n.name.number }
 
 -- a use, with each of these identifiers that declares what it uses
 abbrev pub pairs_of_use : List ℕ → Use → List InSpace → List Pair

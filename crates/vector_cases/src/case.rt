@@ -1,4 +1,7 @@
 //! Cases: a command over files, and the answer that is wanted.
+ghost use Rattle.std.specs.Prelude.{◌≡◌, ◌++◌, IfOk, option_map};
+ghost use Rattle.std.specs.String.{string_bytes};
+ghost use Rattle.text_edits.specs.Files.{plain_file, plain_files, lookup_of};
 
 use crate::fields::{Fields, LineError};
 use std::alloc::{AllocError, Global};
@@ -62,11 +65,26 @@ impl Case {
     }
 
     /// What is wanted under the name after the command, if anything.
-    pub fn wanted_at(&self, name: &str) -> Option<&[u8]> {
-        let mut files = self.written.list.iter().chain(self.files.list.iter());
-        let file = files.find(|file| file.name.as_str() == name)?;
-        Some(file.bytes.as_slice())
+    pub fn wanted_at(&self, name: &str) -> Option<&[u8]>
+        ensures { option_map (λ bytes. bytes.now) result ≡ lookup_of (plain_files self.now.written ++ plain_files self.now.files) name.now }
+    {
+        match content(&self.written, name) {
+            Some(bytes) => Some(bytes),
+            None => content(&self.files, name),
+        }
     }
+}
+
+/// The content of the first file with the name.
+fn content<'f>(files: &'f Files, name: &str) -> Option<&'f [u8]>
+    ensures { option_map (λ bytes. bytes.now) result ≡ lookup_of (plain_files files.now) name.now }
+{
+    for file in &files.list {
+        if file.name.as_str() == name {
+            return Some(file.bytes.as_slice());
+        }
+    }
+    None
 }
 
 /// The number of files, and their names and bytes.
@@ -117,13 +135,23 @@ fn read_target(
     Ok(Files { list })
 }
 
+/// A second copy of a file.
+fn copy_of_file(alloc: Global, file: &SourceFile) -> Result<SourceFile, AllocError>
+    ensures { IfOk result (λ copy. plain_file copy ≡ plain_file file.now) }
+{
+    let name = file.name.clone()?;
+    let bytes = Vec::from_slice(alloc, &file.bytes)?;
+    Ok(SourceFile { name, bytes })
+}
+
 /// A second copy of the files.
-pub fn copy_of(alloc: Global, files: &Files) -> Result<Files, AllocError> {
+pub fn copy_of(alloc: Global, files: &Files) -> Result<Files, AllocError>
+    ensures { IfOk result (λ copy. plain_files copy ≡ plain_files files.now) }
+{
     let mut list = Vec::new(alloc);
     for file in &files.list {
-        let name = file.name.clone()?;
-        let bytes = file.bytes.clone()?;
-        list.push(SourceFile { name, bytes })?;
+        let copy = copy_of_file(alloc, file)?;
+        list.push(copy)?;
     }
     Ok(Files { list })
 }
