@@ -35,8 +35,8 @@ copies-it : (of : FileToken) (t : PlainToken) → plain_file_token of ≡ copied
 copies-it of t e =
     and_from (t.origin.file == of.file) (same_span t.origin.span (plain_span of.span)) (eq-eqb t.origin.file of.file (ap (λ (x : PlainFileToken). x.file) (sym e)))
     (and_from (t.origin.span.start == (plain_span of.span).start) (t.origin.span.end == (plain_span of.span).end)
-      (eq-eqb t.origin.span.start (plain_span of.span).start (ap (λ (x : PlainFileToken). x.span.start) (sym e)))
-      (eq-eqb t.origin.span.end (plain_span of.span).end (ap (λ (x : PlainFileToken). x.span.end) (sym e))))
+    (eq-eqb t.origin.span.start (plain_span of.span).start (ap (λ (x : PlainFileToken). x.span.start) (sym e)))
+    (eq-eqb t.origin.span.end (plain_span of.span).end (ap (λ (x : PlainFileToken). x.span.end) (sym e))))
 
 module _ (t : PlainToken) where
   abbrev copies-one : List FileToken → Bool
@@ -91,12 +91,12 @@ pub tests-are : TestsAreOfPreconditions
 tests-are = record {
   macro_bodies = λ class o. (
     λ h. let parts = and_parts (is_macro_body o.identifier.token.origin.place) (is_of_class class (tokens_of o)) h in
-      record { member = member o.identifier.token class parts.1; holds = body-is o.identifier.token.origin.place parts.0 },
+        record { member = member o.identifier.token class parts.1; holds = body-is o.identifier.token.origin.place parts.0 },
     λ h. and_from (is_macro_body o.identifier.token.origin.place) (is_of_class class (tokens_of o)) (ap is_macro_body h.holds) (found o.identifier.token class h.member),
   );
   fixed = λ class o. (
     λ h. let parts = and_parts (is_fixed (tokens_of o)) (is_of_class class (tokens_of o)) h in
-      record { member = member o.identifier.token class parts.1; holds = fixed-is o parts.0 },
+        record { member = member o.identifier.token class parts.1; holds = fixed-is o parts.0 },
     λ h. and_from (is_fixed (tokens_of o)) (is_of_class class (tokens_of o)) (is-fixed o h.holds) (found o.identifier.token class h.member),
   );
 }

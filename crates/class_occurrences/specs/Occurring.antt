@@ -1,13 +1,13 @@
 -- What stands in the way of a renaming at single occurrences (ISO/IEC 9899:2011, 5.1.2.2.1, 6.10.3): an identifier of a class that comes out of the
 -- body of a macro, or is fixed.
-use Rattle.std.specs.Prelude.{ℕ, ◌==◌, Bool, true, false, ◌&&◌, ◌||◌, List, map, get_or, codes}
+use Rattle.std.specs.Prelude.{ℕ, ◌==◌, Bool, true, false, ◌&&◌, ◌||◌, List, Option, Some, None, option_map, slice_get, codes}
 use Rattle.std.specs.List.{list_any}
 use Rattle.std.specs.Str.{bytes_eq}
 use Rattle.c_text.specs.declared.origin.FileToken.{FileToken}
 use Rattle.c_text.specs.declared.origin.Place.{Place}
 use Rattle.c_text.specs.declared.origin.Place.TheVariants.{MacroBody}
 use Rattle.c_text.specs.Token.{PlainToken, plain_token}
-use Rattle.c_text.specs.Preprocessing.{built_in_file, feature_token}
+use Rattle.c_text.specs.Preprocessing.{built_in_file}
 use Rattle.cond_tokens.specs.declared.tokens.CondToken.{CondToken}
 use Rattle.cond_pairings.specs.Pairs.{Pair}
 use Rattle.changed_forests.specs.Renamed.{copies}
@@ -17,12 +17,26 @@ pub record Occurring : Type 0 where
   pub identifier : PlainToken
   pub declared_by : PlainToken
 
--- the token with a number in the stream
-abbrev pub token_of : List CondToken → ℕ → PlainToken
-token_of tokens number = get_or (map (λ t. plain_token t.token) tokens) number feature_token
+-- the token with a number in the stream, if it has one
+abbrev pub token_of : List CondToken → ℕ → Option PlainToken
+token_of tokens number = option_map (λ t. plain_token t.token) (slice_get tokens number)
 
-abbrev pub occurring : List CondToken → Pair → Occurring
-occurring tokens p = record { identifier = token_of tokens p.identifier; declared_by = token_of tokens p.declared_by }
+abbrev pub occurring_by : Option PlainToken → Option PlainToken → Option Occurring
+occurring_by (Some identifier) (Some declared_by) = Some (record { identifier = identifier; declared_by = declared_by })
+occurring_by identifier declared_by = None
+
+-- a pair by its tokens, if the stream has both
+abbrev pub occurring : List CondToken → Pair → Option Occurring
+occurring tokens p = occurring_by (token_of tokens p.identifier) (token_of tokens p.declared_by)
+
+-- they are there and pass
+abbrev pub passes : (Occurring → Bool) → Option Occurring → Bool
+passes test None = false
+passes test (Some o) = test o
+
+-- some of these pairs passes
+abbrev pub some_passes : (Occurring → Bool) → List CondToken → List Pair → Bool
+some_passes test tokens pairs = list_any (λ p. passes test (occurring tokens p)) pairs
 
 -- ---- what is asked of one
 

@@ -1,12 +1,10 @@
 //! The occurrences of a unit, and where one passes a test.
 
-ghost use Rattle.std.specs.Prelude.{◌≡◌, ◌<◌, ℕ, Bool, length, All, IfOk};
-ghost use Rattle.std.specs.List.{list_any};
+ghost use Rattle.std.specs.Prelude.{◌≡◌, ℕ, Bool, IfOk};
 ghost use Rattle.cond_formula.specs.Conditions.{condition_of, value};
 ghost use Rattle.c_text.specs.Token.{plain_token};
-ghost use Rattle.cond_pairings.specs.declared.pairs.CondPairing.{CondPairing as ThePairing};
 ghost use Rattle.cond_pairings.specs.Pairs.{pairs_seen};
-ghost use Rattle.class_occurrences.specs.Occurring.{Occurring, occurring};
+ghost use Rattle.class_occurrences.specs.Occurring.{Occurring, occurring, passes, some_passes};
 
 use c_text::Token;
 use cond_formula::{Formula, NoMemory};
@@ -21,7 +19,6 @@ use std::alloc::Global;
 pub struct UnitPairs<'a> {
     pub tokens: &'a [CondToken],
     pub pairs: &'a [CondPairing],
-    pub ghost numbered: { All (λ p. (p.identifier < length tokens.now) × (p.declared_by < length tokens.now)) pairs.now },
 }
 
 /// A test of an occurrence.
@@ -33,19 +30,32 @@ pub(crate) trait OccurrenceTest {
         ensures { result ≡ passes self.now (record { identifier = plain_token identifier.now; declared_by = plain_token declared_by.now }) };
 }
 
+/// Whether a pair passes, if the stream has its tokens.
+fn pair_passes<T: OccurrenceTest>(tokens: &[CondToken], pair: &CondPairing, test: &T) -> bool
+    ensures { result ≡ passes (T.passes test.now) (occurring tokens.now (record { identifier = pair.now.identifier; declared_by = pair.now.declared_by })) }
+{
+    match (
+        tokens.get(pair.identifier as usize),
+        tokens.get(pair.declared_by as usize),
+    ) {
+        (Some(identifier), Some(declared_by)) => {
+            test.passes(&identifier.token, &declared_by.token)
+        }
+        _ => false,
+    }
+}
+
 /// Where an occurrence of the unit passes.
 pub(crate) fn where_passed<T: OccurrenceTest>(
     alloc: Global,
     unit: &UnitPairs<'_>,
     test: &T,
 ) -> Result<Formula, NoMemory>
-    ensures { IfOk result (λ f. (on : ℕ → Bool) → value on (condition_of f) ≡ list_any (λ p. T.passes test.now (occurring unit.now.tokens.now p)) (pairs_seen on unit.now.pairs.now)) }
+    ensures { IfOk result (λ f. (on : ℕ → Bool) → value on (condition_of f) ≡ some_passes (T.passes test.now) unit.now.tokens.now (pairs_seen on unit.now.pairs.now)) }
 {
     let mut passed = never()?;
     for pair in unit.pairs {
-        let identifier = &unit.tokens[pair.identifier as usize].token;
-        let declared_by = &unit.tokens[pair.declared_by as usize].token;
-        if test.passes(identifier, declared_by) {
+        if pair_passes(unit.tokens, pair, test) {
             let when = pair.when.try_clone(alloc)?;
             passed = either(alloc, passed, when)?;
         }

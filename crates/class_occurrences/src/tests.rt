@@ -1,12 +1,11 @@
 //! What is asked of the occurrences of a class.
 
 ghost use Rattle.std.specs.Prelude.{◌≡◌, ℕ, Bool, IfOk};
-ghost use Rattle.std.specs.List.{list_any};
 ghost use Rattle.cond_formula.specs.Conditions.{condition_of, value};
 ghost use Rattle.c_text.specs.Token.{plain_token};
 ghost use Rattle.cond_pairings.specs.Pairs.{pairs_seen};
 ghost use Rattle.class_occurrences.specs.Occurring as spec;
-ghost use Rattle.class_occurrences.specs.Occurring.{occurring, comes_from_macro_body, is_fixed_of};
+ghost use Rattle.class_occurrences.specs.Occurring.{some_passes, comes_from_macro_body, is_fixed_of};
 
 use crate::occurrences::{OccurrenceTest, UnitPairs, where_passed};
 use c_text::{FileToken, Place, Token};
@@ -67,8 +66,7 @@ pub fn where_from_macro_body(
     unit: &UnitPairs<'_>,
     class: &[FileToken],
 ) -> Result<Formula, NoMemory>
-    ensures { IfOk result (λ f. (on : ℕ → Bool) → value on (condition_of f)
-        ≡ list_any (λ p. comes_from_macro_body class.now (occurring unit.now.tokens.now p)) (pairs_seen on unit.now.pairs.now)) }
+    ensures { IfOk result (λ f. (on : ℕ → Bool) → value on (condition_of f) ≡ some_passes (comes_from_macro_body class.now) unit.now.tokens.now (pairs_seen on unit.now.pairs.now)) }
 {
     where_passed(alloc, unit, &FromMacroBody { class })
 }
@@ -79,8 +77,7 @@ pub fn where_fixed(
     unit: &UnitPairs<'_>,
     class: &[FileToken],
 ) -> Result<Formula, NoMemory>
-    ensures { IfOk result (λ f. (on : ℕ → Bool) → value on (condition_of f)
-        ≡ list_any (λ p. is_fixed_of class.now (occurring unit.now.tokens.now p)) (pairs_seen on unit.now.pairs.now)) }
+    ensures { IfOk result (λ f. (on : ℕ → Bool) → value on (condition_of f) ≡ some_passes (is_fixed_of class.now) unit.now.tokens.now (pairs_seen on unit.now.pairs.now)) }
 {
     where_passed(alloc, unit, &Fixed { class })
 }
