@@ -1,5 +1,5 @@
 -- What declares the tokens of a unit, by their numbers in its stream, and what a configuration sees of it.
-use Rattle.std.specs.Prelude.{ℕ, zero, suc, ◌==◌, Bool, false, not, ◌||◌, List, [], ◌∷◌, map, get_or, if◌then◌else◌}
+use Rattle.std.specs.Prelude.{◌↔◌, ℕ, zero, suc, ◌==◌, Bool, true, false, not, ◌||◌, List, [], ◌∷◌, map, get_or, Contains, if◌then◌else◌}
 use Rattle.std.specs.List.{list_any}
 use Rattle.cond_formula.specs.Conditions.{value, condition_of}
 use Rattle.cond_pairings.specs.Pairs.{Pair}
@@ -38,6 +38,15 @@ is_one_missing some all = list_any (λ number. not (is_among all number)) some
 
 abbrev pub differ : List ℕ → List ℕ → Bool
 differ a b = is_one_missing a b || is_one_missing b a
+
+-- each token is declared by the same in both
+abbrev pub AreDeclaredAlike : (ℕ → List ℕ) → (ℕ → List ℕ) → Type 0
+AreDeclaredAlike a b = (token number : ℕ) → Contains (a token) number ↔ Contains (b token) number
+
+-- some is declared otherwise, or none is
+abbrev pub TellsOtherwise : Bool → (ℕ → List ℕ) → (ℕ → List ℕ) → Type 0
+TellsOtherwise true a b = AreDeclaredAlike a b → ⊥
+TellsOtherwise false a b = AreDeclaredAlike a b
 
 -- one of so many tokens is declared by other tokens in the one than in the other
 abbrev pub is_one_declared_otherwise : (ℕ → List ℕ) → (ℕ → List ℕ) → ℕ → Bool

@@ -1,8 +1,8 @@
 //! Where tokens are declared by others than in another unit.
 
-ghost use Rattle.std.specs.Prelude.{◌≡◌, ℕ, Bool, not, ◌&&◌, length, IfOk};
+ghost use Rattle.std.specs.Prelude.{◌≡◌, ℕ, Bool, not, ◌&&◌, IfOk};
 ghost use Rattle.cond_formula.specs.Conditions.{condition_of, value};
-ghost use Rattle.declared_tokens.specs.Declarations.{numbers_at, declared_at, is_among, is_one_missing, differ, is_one_declared_otherwise};
+ghost use Rattle.declared_tokens.specs.Declarations.{numbers_at, declared_at, is_among, is_one_missing, differ, TellsOtherwise};
 
 use crate::tokens::{DeclaredBy, DeclaredTokens};
 use cond_formula::{Formula, NoMemory};
@@ -66,19 +66,25 @@ fn where_two_differ(alloc: Global, a: &[DeclaredBy], b: &[DeclaredBy]) -> Result
 }
 
 impl DeclaredTokens {
-    /// Where some token is declared by others than in the other unit, which has as many tokens.
+    /// Where the token with one number is declared by the token with the other.
+    pub fn where_declared_by(&self, alloc: Global, token: u32, by: u32) -> Result<Formula, NoMemory>
+        ensures { IfOk result (λ f. (on : ℕ → Bool) → value on (condition_of f) ≡ is_among (declared_at on self.now token) by) }
+    {
+        where_among(alloc, self.entries(token as usize), by)
+    }
+
+    /// Where some token is declared by others than in the other unit.
     pub fn where_otherwise(
         &self,
         alloc: Global,
         other: &DeclaredTokens,
     ) -> Result<Formula, NoMemory>
-        requires { length self.now.by_token.items ≡ length other.now.by_token.items }
-        ensures { IfOk result (λ f. (on : ℕ → Bool) → value on (condition_of f)
-            ≡ is_one_declared_otherwise (declared_at on self.now) (declared_at on other.now) (length self.now.by_token.items)) }
+        ensures { IfOk result (λ f. (on : ℕ → Bool) → TellsOtherwise (value on (condition_of f)) (declared_at on self.now) (declared_at on other.now)) }
     {
+        let tokens = self.by_token.len().max(other.by_token.len());
         let mut differs = never()?;
-        for token in 0..self.by_token.len() {
-            let found = where_two_differ(alloc, &self.by_token[token], &other.by_token[token])?;
+        for token in 0..tokens {
+            let found = where_two_differ(alloc, self.entries(token), other.entries(token))?;
             differs = either(alloc, differs, found)?;
         }
         Ok(differs)

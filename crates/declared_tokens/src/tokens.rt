@@ -4,8 +4,6 @@ ghost use Rattle.std.specs.Prelude.{◌≡◌, ◌<◌, ◌++◌, [], ℕ, Bool,
 ghost use Rattle.cond_formula.specs.Features.{has};
 ghost use Rattle.cond_pairings.specs.Pairs.{one_seen, pairs_seen};
 ghost use Rattle.conditional.specs.Entries.{first};
-ghost use Rattle.declared_tokens.specs.Declarations as spec;
-ghost use Rattle.conditional.specs.Entries.{first};
 ghost use Rattle.declared_tokens.specs.Declarations.{declared_among, numbers_at, declared_at, entries_of};
 
 use cond_formula::{Config, Formula, NoMemory};
@@ -25,6 +23,20 @@ pub struct DeclaredBy {
 pub struct DeclaredTokens {
     /// For each token of the unit's stream, by its number, what declares it; nothing for one that is no identifier.
     pub by_token: Vec<Vec<DeclaredBy>>,
+}
+
+/// How many tokens there are up to the last of the identifiers.
+fn count_tokens(pairs: &[CondPairing]) -> usize
+    ensures { All (λ p. p.identifier < result) pairs.now }
+{
+    let mut count = 0;
+    for pair in pairs {
+        let behind = pair.identifier as usize + 1;
+        if count < behind {
+            count = behind;
+        }
+    }
+    count
 }
 
 impl DeclaredTokens {
@@ -59,21 +71,26 @@ impl DeclaredTokens {
         Ok(())
     }
 
-    /// What pairs of identifiers say of so many tokens.
-    pub fn from_pairs(
-        alloc: Global,
-        tokens: usize,
-        pairs: Vec<CondPairing>,
-    ) -> Result<DeclaredTokens, NoMemory>
-        requires { All (λ p. p.identifier < tokens) pairs.items }
-        ensures many { IfOk result (λ all. length all.by_token.items ≡ tokens) }
-        ensures declared { IfOk result (λ all. (on : ℕ → Bool) (token : ℕ) → declared_at on all token ≡ declared_among token (pairs_seen on pairs.items)) }
+    /// What pairs of identifiers say.
+    pub fn from_pairs(alloc: Global, pairs: Vec<CondPairing>) -> Result<DeclaredTokens, NoMemory>
+        ensures { IfOk result (λ all. (on : ℕ → Bool) (token : ℕ) → declared_at on all token ≡ declared_among token (pairs_seen on pairs.items)) }
     {
+        let tokens = count_tokens(&pairs);
         let mut all = DeclaredTokens::undeclared(alloc, tokens)?;
         for pair in pairs {
             all.add(pair)?;
         }
         Ok(all)
+    }
+
+    /// What may declare a token; nothing where the unit has no token with this number.
+    pub(crate) fn entries(&self, token: usize) -> &[DeclaredBy]
+        ensures { (on : ℕ → Bool) → numbers_at on result.now ≡ declared_at on self.now token }
+    {
+        match self.by_token.get(token) {
+            Some(entries) => entries.as_slice(),
+            None => &[],
+        }
     }
 
     /// The token that declares one in a configuration, by its number in the unit's stream; nothing where that one isn't there or isn't declared.

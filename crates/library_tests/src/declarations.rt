@@ -1,5 +1,3 @@
-ghost use Rattle.std.specs.Prelude.{◌≡◌, length, IfOk};
-
 use cond_formula::{Config, Formula, NoMemory};
 use cond_pairings::CondPairing;
 use declared_tokens::DeclaredTokens;
@@ -8,7 +6,6 @@ use std::test::Fail;
 
 /// A name that is declared at token 1, and with feature 0 again at token 3 in a block; it is used at token 5.
 fn used_in_a_block(alloc: Global) -> Result<DeclaredTokens, NoMemory>
-    ensures { IfOk result (λ declared. length declared.by_token.items ≡ 6) }
 {
     let without = Formula::not(alloc, Formula::Var(0))?;
     let pairs = vec![in alloc;
@@ -33,12 +30,11 @@ fn used_in_a_block(alloc: Global) -> Result<DeclaredTokens, NoMemory>
             when: without
         },
     ]?;
-    DeclaredTokens::from_pairs(alloc, 6, pairs)
+    DeclaredTokens::from_pairs(alloc, pairs)
 }
 
 /// The same without the block's declaration.
 fn used_at_file_scope(alloc: Global) -> Result<DeclaredTokens, NoMemory>
-    ensures { IfOk result (λ declared. length declared.by_token.items ≡ 6) }
 {
     let pairs = vec![in alloc;
         CondPairing {
@@ -57,7 +53,7 @@ fn used_at_file_scope(alloc: Global) -> Result<DeclaredTokens, NoMemory>
             when: Formula::True
         },
     ]?;
-    DeclaredTokens::from_pairs(alloc, 6, pairs)
+    DeclaredTokens::from_pairs(alloc, pairs)
 }
 
 #[test]
@@ -70,6 +66,9 @@ fn a_token_is_declared_by_configuration(rt: HostRuntime) -> Result<(), Fail> {
     assert_eq!(rt; declared.declaration(3, without), None);
     assert_eq!(rt; declared.declaration(2, with), None);
     assert_eq!(rt; declared.declaration(6, with), None);
+    let by_itself = declared.where_declared_by(rt.alloc(), 3, 3)?;
+    assert!(rt; by_itself.value(with));
+    assert!(rt; !by_itself.value(without));
     Ok(())
 }
 
