@@ -1,11 +1,12 @@
 -- What declares tokens, with one more entry for one of them, and pairs one behind the other.
-use Rattle.std.proofs.Common.{◌≡◌, ℕ, zero, suc, ◌==◌, ◌<◌, Bool, true, false, List, [], ◌∷◌, ◌++◌, map, length, get_or, refl, sym, ap, subst, ◌∙◌, arith}
+use Rattle.std.proofs.Common.{◌≡◌, ℕ, zero, suc, ◌+◌, ◌==◌, ◌<◌, Bool, true, false, List, [], ◌∷◌, ◌++◌, map, length, get_or, drop, refl, sym, ap, subst, ◌∙◌, arith}
 use Rattle.std.specs.Prelude.{Vec, if◌then◌else◌}
 use Rattle.std.specs.declared.alloc.Global.{Global}
 use Rattle.std.proofs.Math.ListN.{set}
 use Rattle.std.proofs.lemmas.Bool.{eqb-true, eqb-false}
 use Rattle.std.proofs.lemmas.List.{append-nil, append_assoc, map-set, length-map, get_or-set_same, get_or-set_other}
 use Rattle.cond_formula.specs.Conditions.{condition_of, value}
+use Rattle.conditional.proofs.ListLaws.{item_of}
 use Rattle.cond_pairings.specs.Pairs.{Pair, one_seen, pairs_seen}
 use Rattle.cond_pairings.specs.declared.pairs.CondPairing.{CondPairing}
 use Rattle.declared_tokens.specs.declared.tokens.DeclaredBy.{DeclaredBy}
@@ -80,15 +81,18 @@ among_more token (p ∷ rest) more =
       | false ↦ among_more token rest more
     ]
 
-pub one_more : (on : ℕ → Bool) (token : ℕ) (some : List CondPairing) (p : CondPairing) (before : List ℕ) → before ≡ declared_among token (pairs_seen on some)
-    → before ++ declared_among token (one_seen on p) ≡ declared_among token (pairs_seen on (some ++ p ∷ []))
-one_more on token some p before is =
-    ap (λ l. l ++ declared_among token (one_seen on p)) is
-    ∙ (sym (among_more token (pairs_seen on some) (one_seen on p)) ∙ ap (declared_among token) (seen_more some))
+pub one_more :
+    (on : ℕ → Bool) (token : ℕ) (pairs : List CondPairing) (p : CondPairing) (i : ℕ) → i < length pairs → p ≡ get_or pairs i p → (before now : List ℕ)
+    → now ≡ before ++ declared_among token (one_seen on p) → before ++ declared_among token (pairs_seen on (drop i pairs)) ≡ declared_among token (pairs_seen on pairs)
+    → now ++ declared_among token (pairs_seen on (drop (i + 1) pairs)) ≡ declared_among token (pairs_seen on pairs)
+one_more on token pairs p i within is before now added so_far =
+    ap (λ l. l ++ declared_among token behind) added
+    ∙ (append_assoc before (declared_among token (one_seen on p)) (declared_among token behind)
+    ∙ (ap (λ l. before ++ l) (sym (among_more token (one_seen on p) behind))
+    ∙ (ap (λ l. before ++ declared_among token (pairs_seen on l)) (sym (item_of pairs p i within is)) ∙ so_far)))
   where
-    seen_more : (list : List CondPairing) → pairs_seen on list ++ one_seen on p ≡ pairs_seen on (list ++ p ∷ [])
-    seen_more [] = sym (append-nil (one_seen on p))
-    seen_more (first ∷ rest) = append_assoc (one_seen on first) (pairs_seen on rest) (one_seen on p) ∙ ap (λ l. one_seen on first ++ l) (seen_more rest)
+    behind : List Pair
+    behind = pairs_seen on (drop (i + 1) pairs)
 
 pub entries_at : (lists : List (Vec DeclaredBy Global)) (i : ℕ) (v : Vec DeclaredBy Global) → i < length lists → v ≡ get_or lists i v → v.items ≡ get_or (map (λ entries. entries.items) lists) i []
 entries_at [] i v within is = absurd (omega (arith, within))

@@ -53,32 +53,28 @@ impl DeclaredTokens {
     }
 
     /// One pair more.
-    fn add(&mut self, pair: CondPairing) -> Result<(), NoMemory>
-        requires { pair.identifier < length self.now.by_token.items }
+    fn add(&mut self, alloc: Global, pair: &CondPairing) -> Result<(), NoMemory>
+        requires { pair.now.identifier < length self.now.by_token.items }
         ensures many { OnOk result (length self.new.by_token.items ≡ length self.old.by_token.items) }
         ensures added { OnOk result ((on : ℕ → Bool) (token : ℕ) → declared_at on self.new token
-            ≡ declared_at on self.old token ++ declared_among token (one_seen on pair)) }
+            ≡ declared_at on self.old token ++ declared_among token (one_seen on pair.now)) }
     {
-        let CondPairing {
-            identifier,
-            declared_by,
-            when,
-        } = pair;
-        self.by_token[identifier as usize].push(DeclaredBy {
-            number: declared_by,
+        let when = pair.when.try_clone(alloc)?;
+        self.by_token[pair.identifier as usize].push(DeclaredBy {
+            number: pair.declared_by,
             when,
         })?;
         Ok(())
     }
 
     /// What pairs of identifiers say.
-    pub fn from_pairs(alloc: Global, pairs: Vec<CondPairing>) -> Result<DeclaredTokens, NoMemory>
-        ensures { IfOk result (λ all. (on : ℕ → Bool) (token : ℕ) → declared_at on all token ≡ declared_among token (pairs_seen on pairs.items)) }
+    pub fn from_pairs(alloc: Global, pairs: &[CondPairing]) -> Result<DeclaredTokens, NoMemory>
+        ensures { IfOk result (λ all. (on : ℕ → Bool) (token : ℕ) → declared_at on all token ≡ declared_among token (pairs_seen on pairs.now)) }
     {
-        let tokens = count_tokens(&pairs);
+        let tokens = count_tokens(pairs);
         let mut all = DeclaredTokens::undeclared(alloc, tokens)?;
         for pair in pairs {
-            all.add(pair)?;
+            all.add(alloc, pair)?;
         }
         Ok(all)
     }

@@ -30,7 +30,7 @@ fn used_in_a_block(alloc: Global) -> Result<DeclaredTokens, NoMemory>
             when: without
         },
     ]?;
-    DeclaredTokens::from_pairs(alloc, pairs)
+    DeclaredTokens::from_pairs(alloc, &pairs)
 }
 
 /// The same without the block's declaration.
@@ -53,7 +53,7 @@ fn used_at_file_scope(alloc: Global) -> Result<DeclaredTokens, NoMemory>
             when: Formula::True
         },
     ]?;
-    DeclaredTokens::from_pairs(alloc, pairs)
+    DeclaredTokens::from_pairs(alloc, &pairs)
 }
 
 #[test]
