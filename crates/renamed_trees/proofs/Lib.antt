@@ -1,4 +1,3 @@
-mod Machines
 mod Heights
 mod Terminals
 mod Renamed

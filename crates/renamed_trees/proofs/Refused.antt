@@ -12,7 +12,7 @@ use Rattle.renamings.specs.Renamings.{Renaming, renamed_token}
 use Rattle.renamed_trees.specs.RenamedTrees.{renamed_tree}
 use Rattle.renamed_trees.specs.Laws.{RefusalsAreKept}
 use Rattle.renamed_trees.proofs.Terminals.{IsKept, all_kept}
-use Rattle.renamed_trees.proofs.Machines.{renamed_frames, read_on_renamed}
+use Rattle.moved_trees.proofs.Machines.{changed_frames, read_on_changed}
 use Rattle.renamed_trees.proofs.Renamed.{spells_renamed, spelled_before, same_height}
 
 -- ---- what begins a unit
@@ -21,8 +21,8 @@ module _ (begin : FrontsBegin) (are_read : FrontsAreRead) (r : Renaming) (front 
   begins_renamed : BeginsUnit front → BeginsUnit (map (renamed_token r) front)
   begins_renamed b =
       let f = are_read front b in
-      begin (map (renamed_token r) front) (renamed_frames r f.frames)
-      (read_on_renamed r (Some start) front kept ∙ ap (option_map (renamed_frames r)) f.reads)
+      begin (map (renamed_token r) front) (changed_frames (renamed_token r) f.frames)
+      (read_on_changed (renamed_token r) (Some start) front kept ∙ ap (option_map (changed_frames (renamed_token r))) f.reads)
 
   begins_before : BeginsUnit (map (renamed_token r) front) → BeginsUnit front
   begins_before b = by_state (read_on of_trees (Some start) front) refl (are_read (map (renamed_token r) front) b)
@@ -30,7 +30,7 @@ module _ (begin : FrontsBegin) (are_read : FrontsAreRead) (r : Renaming) (front 
       by_state : (x : Option (List (Frame PlainTree))) → read_on of_trees (Some start) front ≡ x → IsRead (map (renamed_token r) front) → BeginsUnit front
       by_state (Some frames) e f = begin front frames e
       by_state None e f =
-          absurd (let is : None ≡ Some f.frames = ap (option_map (renamed_frames r)) (sym e) ∙ sym (read_on_renamed r (Some start) front kept) ∙ f.reads in cc)
+          absurd (let is : None ≡ Some f.frames = ap (option_map (changed_frames (renamed_token r))) (sym e) ∙ sym (read_on_changed (renamed_token r) (Some start) front kept) ∙ f.reads in cc)
 
 -- ---- refusals
 

@@ -10,7 +10,7 @@ use Rattle.renamings.specs.Renamings.{Renaming, renamed_token}
 use Rattle.renamed_trees.specs.RenamedTrees.{renamed_tree, OnlyNamesAreRenamed, IsRenamedFrom}
 use Rattle.renamed_trees.specs.Laws.{TreesAreRenamed}
 use Rattle.renamed_trees.proofs.Terminals.{IsKept, all_kept}
-use Rattle.renamed_trees.proofs.Machines.{read_renamed}
+use Rattle.moved_trees.proofs.Machines.{read_changed}
 use Rattle.renamed_trees.proofs.Heights.{tree_kept, height_renamed}
 
 -- a unit that spells the tokens before they were renamed
@@ -23,13 +23,13 @@ module _ (read_is_spelt : ReadIsSpelt) (spelt_is_read : SpeltIsRead) (r : Renami
   pub spells_renamed : (tree : PlainTree) → Spells tokens tree → Spells (map (renamed_token r) tokens) (renamed_tree r tree)
   spells_renamed tree spells =
       read_is_spelt (map (renamed_token r) tokens) (renamed_tree r tree)
-      (read_renamed r tokens kept ∙ ap (option_map (renamed_tree r)) (spelt_is_read tokens tree spells))
+      (read_changed (renamed_token r) tokens kept ∙ ap (option_map (renamed_tree r)) (spelt_is_read tokens tree spells))
 
   pub spelled_before : (renamed : PlainTree) → Spells (map (renamed_token r) tokens) renamed → SpelledBefore r tokens renamed
   spelled_before renamed spells = by_reading (read of_trees tokens) refl
     where
       whole : option_map (renamed_tree r) (read of_trees tokens) ≡ Some renamed
-      whole = sym (read_renamed r tokens kept) ∙ spelt_is_read (map (renamed_token r) tokens) renamed spells
+      whole = sym (read_changed (renamed_token r) tokens kept) ∙ spelt_is_read (map (renamed_token r) tokens) renamed spells
 
       by_reading : (x : Option PlainTree) → read of_trees tokens ≡ x → SpelledBefore r tokens renamed
       by_reading (Some tree) e =

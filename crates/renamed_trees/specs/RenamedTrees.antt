@@ -2,19 +2,17 @@
 use Rattle.std.specs.Prelude.{◌≡◌, List, All, IsTrue}
 use Rattle.c_text.specs.declared.token.TokenKind.TheVariants.{Name}
 use Rattle.c_text.specs.Token.{PlainToken}
-use Rattle.c_tree.specs.Trees.{PlainTree, PlainTrees, leaf, node, none, more}
+use Rattle.c_tree.specs.Trees.{PlainTree, PlainTrees}
 use Rattle.c_tree.specs.Units.{IsTreeOf}
+use Rattle.moved_programs.specs.Trees.{moved_tree, moved_trees}
 use Rattle.renamings.specs.Renamings.{Renaming, is_renamed, renamed_token}
 
 -- The same tree, each of its tokens with its new place, and with the new name if it is a copy of a renamed one.
-abbrev mutual
-  pub renamed_tree : Renaming → PlainTree → PlainTree
-  renamed_tree r (leaf token) = leaf (renamed_token r token)
-  renamed_tree r (node kind parts) = node kind (renamed_trees r parts)
+abbrev pub renamed_tree : Renaming → PlainTree → PlainTree
+renamed_tree r tree = moved_tree (renamed_token r) tree
 
-  pub renamed_trees : Renaming → PlainTrees → PlainTrees
-  renamed_trees r none = none
-  renamed_trees r (more tree rest) = more (renamed_tree r tree) (renamed_trees r rest)
+abbrev pub renamed_trees : Renaming → PlainTrees → PlainTrees
+renamed_trees r parts = moved_trees (renamed_token r) parts
 
 -- the token is a name, if it is a copy of a renamed one
 abbrev pub IsNameIfRenamed : Renaming → PlainToken → Type 0
