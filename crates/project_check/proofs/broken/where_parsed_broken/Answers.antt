@@ -1,4 +1,4 @@
-use Rattle.std.proofs.Common.{◌≡◌, ℕ, ◌||◌, List, length, IsTrue, sym, ap, subst, ◌∙◌}
+use Rattle.std.proofs.Common.{◌≡◌, ℕ, ◌||◌, List, length, sym, ap, ap₂, subst, ◌∙◌}
 use Rattle.std.proofs.lemmas.List.{length-map}
 use Rattle.text_edits.specs.Files.{PlainFile, plain_files}
 use Rattle.cond_formula.specs.Features.{has}
@@ -20,7 +20,10 @@ returns-clause-exact g c = λ c' admitted.
     let unread = value (has c') (condition_of parsed.unread) in
     let treeless = value (has c') (condition_of parsed.treeless) in
     let badly_made = value (has c') (condition_of c.in_ok-badly_made.badly_made) in
-    let is : value (has c') (condition_of c.in_ok-f.f) ≡ ((unread || treeless) || badly_made) = c.in_ok-f.ensures (has c') ∙ ap (λ b. b || badly_made) (c.in_ok-unparsed.ensures (has c')) in
+    let copied : value (has c') (condition_of c.in_ok-unread.unread) ≡ unread = ap (value (has c')) c.in_ok-unread.ensures in
+    let copied-too : value (has c') (condition_of c.in_ok-treeless.treeless) ≡ treeless = ap (value (has c')) c.in_ok-treeless.ensures in
+    let is : value (has c') (condition_of c.in_ok-f.f) ≡ ((unread || treeless) || badly_made)
+    = c.in_ok-f.ensures (has c') ∙ ap (λ b. b || badly_made) (c.in_ok-unparsed.ensures (has c') ∙ ap₂ (λ a b. a || b) copied copied-too) in
     subst (λ b. TellsProgram b view files (has c')) (sym is)
     (tells_program c.programs_are_one.ensures (has c') project files parsed.forests.items unread treeless badly_made
     (trees_are_written c.tokens_are_spelt.ensures view files (has c') filed)
