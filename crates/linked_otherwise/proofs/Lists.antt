@@ -22,6 +22,9 @@ pub record Marked : Type 0 where
 abbrev pub before : Marked → LinkedDeclaration
 before m = m.declaration
 
+abbrev pub after : List ℕ → Marked → LinkedDeclaration
+after new m = record m.declaration { name = name_after new m.of_class m.declaration.name }
+
 same-built-in : (x y : BuiltIn) → (x ≡ y) ⊎ (x ≡ y → ⊥)
 same-built-in Putchar Putchar = inl refl
 same-built-in Getchar Getchar = inl refl
@@ -40,9 +43,6 @@ same-or-not (Some x) (Some y) = by (same-built-in x y)
     by (inr apart_) = inr (λ e. apart_ (same_Some x y e))
 
 module _ (old new : List ℕ) where
-  abbrev pub after : Marked → LinkedDeclaration
-  after m = record m.declaration { name = name_after new m.of_class m.declaration.name }
-
   -- ---- what is known of them
 
   -- those of the class have the old name, and no other has it; one unit and one number tell one name
@@ -68,27 +68,27 @@ module _ (old new : List ℕ) where
   linked-before all d = link_to d (or_first d (first_named d.name (map before all)))
 
   abbrev linked-after : List Marked → LinkedDeclaration → Link
-  linked-after all d = link_to d (or_first d (first_named d.name (map after all)))
+  linked-after all d = link_to d (or_first d (first_named d.name (map (after new) all)))
 
   -- ---- what isn't linked otherwise is linked alike
 
-  link-kept : (m x : Marked) → built_in_named m.declaration.name ≡ built_in_named (after m).name → link_to (before m) (before x) ≡ link_to (after m) (after x)
+  link-kept : (m x : Marked) → built_in_named m.declaration.name ≡ built_in_named (after new m).name → link_to (before m) (before x) ≡ link_to (after new m) (after new x)
   link-kept m x built =
       ap {B = Link} (λ (b : Option BuiltIn). record { unit = m.declaration.unit; number = m.declaration.number; first_unit = x.declaration.unit; first_number = x.declaration.number; built_in = b }) built
 
   -- where each is found by the one name as by the other
   first-kept :
-      (m : Marked) (xs : List Marked) → built_in_named m.declaration.name ≡ built_in_named (after m).name
-      → ((x : Marked) → In x xs → bytes_eq x.declaration.name m.declaration.name ≡ bytes_eq (after x).name (after m).name)
-      → linked-before xs (before m) ≡ linked-after xs (after m)
+      (m : Marked) (xs : List Marked) → built_in_named m.declaration.name ≡ built_in_named (after new m).name
+      → ((x : Marked) → In x xs → bytes_eq x.declaration.name m.declaration.name ≡ bytes_eq (after new x).name (after new m).name)
+      → linked-before xs (before m) ≡ linked-after xs (after new m)
   first-kept m [] built tests = link-kept m m built
   first-kept m (x ∷ xs) built tests =
-      by (bytes_eq x.declaration.name m.declaration.name) (bytes_eq (after x).name (after m).name) (tests x (inl refl)) (first-kept m xs built (λ y among. tests y (inr among)))
+      by (bytes_eq x.declaration.name m.declaration.name) (bytes_eq (after new x).name (after new m).name) (tests x (inl refl)) (first-kept m xs built (λ y among. tests y (inr among)))
     where
       by :
-          (b c : Bool) → b ≡ c → linked-before xs (before m) ≡ linked-after xs (after m)
+          (b c : Bool) → b ≡ c → linked-before xs (before m) ≡ linked-after xs (after new m)
           → link_to (before m) (or_first (before m) (if b then Some (before x) else first_named m.declaration.name (map before xs)))
-          ≡ link_to (after m) (or_first (after m) (if c then Some (after x) else first_named (after m).name (map after xs)))
+          ≡ link_to (after new m) (or_first (after new m) (if c then Some (after new x) else first_named (after new m).name (map (after new) xs)))
       by true true e later = link-kept m x built
       by false false e later = later
       by true false e later = absurd (false≢true (sym e))
@@ -97,7 +97,7 @@ module _ (old new : List ℕ) where
   -- so it is with the names of two that are renamable, where none is taken
   tests-kept :
       (all : List Marked) → AreRenamable all → (AreLinkedOtherwise all → ⊥) → (x m : Marked) → In x all → In m all
-      → bytes_eq x.declaration.name m.declaration.name ≡ bytes_eq (after x).name (after m).name
+      → bytes_eq x.declaration.name m.declaration.name ≡ bytes_eq (after new x).name (after new m).name
   tests-kept all h alike x m i j = by x.of_class m.of_class refl refl
     where
       free : (x m : Marked) → In x all → In m all → x.of_class ≡ true → m.of_class ≡ false → new ≡ m.declaration.name → ⊥
@@ -112,7 +112,7 @@ module _ (old new : List ℕ) where
       by false true e f =
           both_tests x.declaration.name m.declaration.name x.declaration.name new (λ same. absurd (false≢true (sym e ∙ h.together x m i j same ∙ f))) (λ same. absurd (free m x j i f e (sym same)))
 
-  built-in-kept : (all : List Marked) → AreRenamable all → (AreLinkedOtherwise all → ⊥) → (m : Marked) → In m all → built_in_named m.declaration.name ≡ built_in_named (after m).name
+  built-in-kept : (all : List Marked) → AreRenamable all → (AreLinkedOtherwise all → ⊥) → (m : Marked) → In m all → built_in_named m.declaration.name ≡ built_in_named (after new m).name
   built-in-kept all h alike m i = by m.of_class refl
     where
       same : m.of_class ≡ true → (built_in_named old ≡ built_in_named new) ⊎ (built_in_named old ≡ built_in_named new → ⊥) → built_in_named m.declaration.name ≡ built_in_named new
@@ -124,29 +124,29 @@ module _ (old new : List ℕ) where
       by false e = refl
 
   all-kept :
-      (all xs : List Marked) → ((m : Marked) → In m xs → linked-before all (before m) ≡ linked-after all (after m))
-      → map (linked-before all) (map before xs) ≡ map (linked-after all) (map after xs)
+      (all xs : List Marked) → ((m : Marked) → In m xs → linked-before all (before m) ≡ linked-after all (after new m))
+      → map (linked-before all) (map before xs) ≡ map (linked-after all) (map (after new) xs)
   all-kept all [] each = refl
   all-kept all (x ∷ xs) each = ap₂ (λ (l : Link) (ls : List Link). l ∷ ls) (each x (inl refl)) (all-kept all xs (λ m among. each m (inr among)))
 
-  links-kept : (all : List Marked) → AreRenamable all → (AreLinkedOtherwise all → ⊥) → links_among (map before all) ≡ links_among (map after all)
+  links-kept : (all : List Marked) → AreRenamable all → (AreLinkedOtherwise all → ⊥) → links_among (map before all) ≡ links_among (map (after new) all)
   links-kept all h alike =
       all-kept all all (λ m among. first-kept m all (built-in-kept all h alike m among) (λ x i. tests-kept all h alike x m i among))
 
   -- ---- what is linked alike isn't linked otherwise
 
   each-link :
-      (all xs : List Marked) → map (linked-before all) (map before xs) ≡ map (linked-after all) (map after xs) → (m : Marked) → In m xs
-      → linked-before all (before m) ≡ linked-after all (after m)
+      (all xs : List Marked) → map (linked-before all) (map before xs) ≡ map (linked-after all) (map (after new) xs) → (m : Marked) → In m xs
+      → linked-before all (before m) ≡ linked-after all (after new m)
   each-link all [] e m among = absurd among
   each-link all (x ∷ xs) e m (inl is) =
-      let first : linked-before all (before x) ≡ linked-after all (after x) = cc in
-      ap (λ (y : Marked). linked-before all (before y)) is ∙ first ∙ ap (λ (y : Marked). linked-after all (after y)) (sym is)
+      let first : linked-before all (before x) ≡ linked-after all (after new x) = cc in
+      ap (λ (y : Marked). linked-before all (before y)) is ∙ first ∙ ap (λ (y : Marked). linked-after all (after new y)) (sym is)
   each-link all (x ∷ xs) e m (inr among) =
-      let rest : map (linked-before all) (map before xs) ≡ map (linked-after all) (map after xs) = cc in
+      let rest : map (linked-before all) (map before xs) ≡ map (linked-after all) (map (after new) xs) = cc in
       each-link all xs rest m among
 
-  after-name : (m : Marked) (b : Bool) → m.of_class ≡ b → (after m).name ≡ name_after new b m.declaration.name
+  after-name : (m : Marked) (b : Bool) → m.of_class ≡ b → (after new m).name ≡ name_after new b m.declaration.name
   after-name m b e = ap (λ (c : Bool). name_after new c m.declaration.name) e
 
   -- the one that comes first among those of a name
@@ -160,21 +160,21 @@ module _ (old new : List ℕ) where
   source-of (x ∷ xs) d (inl e) = record { source = x; among = inl refl; is = sym e }
   source-of (x ∷ xs) d (inr among) = let s = source-of xs d among in record { source = s.source; among = inr s.among; is = s.is }
 
-  module _ (all : List Marked) (h : AreRenamable all) (same : links_among (map before all) ≡ links_among (map after all)) where
+  module _ (all : List Marked) (h : AreRenamable all) (same : links_among (map before all) ≡ links_among (map (after new) all)) where
     -- what has one name after had one before
-    one-name : (m n : Marked) → In m all → In n all → (after m).name ≡ (after n).name → m.declaration.name ≡ n.declaration.name
+    one-name : (m n : Marked) → In m all → In n all → (after new m).name ≡ (after new n).name → m.declaration.name ≡ n.declaration.name
     one-name m n i j e =
         let f = first_named_in (before m) (map before all) (in-map before m all i) in
         let g = first_named_in (before n) (map before all) (in-map before n all j) in
-        let x = first_named_in (after m) (map after all) (in-map after m all i) in
-        let y = first_named_in (after n) (map after all) (in-map after n all j) in
+        let x = first_named_in (after new m) (map (after new) all) (in-map (after new) m all i) in
+        let y = first_named_in (after new n) (map (after new) all) (in-map (after new) n all j) in
         let s = source-of all f.first f.among in
         let t = source-of all g.first g.among in
-        let one : x.first ≡ y.first = same_Some x.first y.first (sym x.found ∙ ap (λ (name : List ℕ). first_named name (map after all)) e ∙ y.found) in
-        let left : link_to (before m) f.first ≡ link_to (after m) x.first =
-        ap (λ (o : Option LinkedDeclaration). link_to (before m) (or_first (before m) o)) (sym f.found) ∙ each-link all all same m i ∙ ap (λ (o : Option LinkedDeclaration). link_to (after m) (or_first (after m) o)) x.found in
-        let right : link_to (before n) g.first ≡ link_to (after n) y.first =
-        ap (λ (o : Option LinkedDeclaration). link_to (before n) (or_first (before n) o)) (sym g.found) ∙ each-link all all same n j ∙ ap (λ (o : Option LinkedDeclaration). link_to (after n) (or_first (after n) o)) y.found in
+        let one : x.first ≡ y.first = same_Some x.first y.first (sym x.found ∙ ap (λ (name : List ℕ). first_named name (map (after new) all)) e ∙ y.found) in
+        let left : link_to (before m) f.first ≡ link_to (after new m) x.first =
+        ap (λ (o : Option LinkedDeclaration). link_to (before m) (or_first (before m) o)) (sym f.found) ∙ each-link all all same m i ∙ ap (λ (o : Option LinkedDeclaration). link_to (after new m) (or_first (after new m) o)) x.found in
+        let right : link_to (before n) g.first ≡ link_to (after new n) y.first =
+        ap (λ (o : Option LinkedDeclaration). link_to (before n) (or_first (before n) o)) (sym g.found) ∙ each-link all all same n j ∙ ap (λ (o : Option LinkedDeclaration). link_to (after new n) (or_first (after new n) o)) y.found in
         let unit : s.source.declaration.unit ≡ t.source.declaration.unit =
         ap (λ (d : LinkedDeclaration). d.unit) s.is ∙ ap (λ (l : Link). l.first_unit) left ∙ ap (λ (d : LinkedDeclaration). d.unit) one ∙ sym (ap (λ (l : Link). l.first_unit) right) ∙ sym (ap (λ (d : LinkedDeclaration). d.unit) t.is) in
         let number : s.source.declaration.number ≡ t.source.declaration.number =
@@ -183,7 +183,7 @@ module _ (old new : List ℕ) where
 
     not-taken : (m : Marked) → In m all → m.of_class ≡ true → IsTakenIn all → ⊥
     not-taken m i inside t =
-        let one : (after m).name ≡ (after t.other).name = after-name m true inside ∙ sym (after-name t.other false t.outside ∙ t.is_new) in
+        let one : (after new m).name ≡ (after new t.other).name = after-name m true inside ∙ sym (after-name t.other false t.outside ∙ t.is_new) in
         false≢true (sym t.outside ∙ sym (h.together m t.other i t.among (one-name m t.other i t.among one)) ∙ inside)
 
     not-otherwise : AreLinkedOtherwise all → ⊥
@@ -196,5 +196,5 @@ module _ (old new : List ℕ) where
         by (inl t) = not-taken o.one o.among o.inside t
         by (inr apart_) = apart_ built
 
-  pub lists-told : (all : List Marked) → AreRenamable all → (links_among (map before all) ≡ links_among (map after all)) ↔ (AreLinkedOtherwise all → ⊥)
+  pub lists-told : (all : List Marked) → AreRenamable all → (links_among (map before all) ≡ links_among (map (after new) all)) ↔ (AreLinkedOtherwise all → ⊥)
   lists-told all h = (not-otherwise all h, links-kept all h)

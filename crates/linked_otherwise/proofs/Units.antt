@@ -13,7 +13,7 @@ use Rattle.program_occurrences.specs.Links.{BoundNumber, bound_numbers, LinkedDe
 use Rattle.occurrence_names.proofs.Kept.{In, in-of, at}
 use Rattle.name_spaces.specs.Laws.{declared_name}
 use Rattle.program_names.proofs.OneToOne.{one_number}
-use Rattle.linked_otherwise.specs.Otherwise.{ExternalDeclaration, token_of, if_external, AreAllInOrder, name_after, IsRenamedAt, AreRenamed, AreRenamedTogether, IsTaken, IsLinkedOtherwise}
+use Rattle.linked_otherwise.specs.Otherwise.{ExternalDeclaration, token_of, if_external, AreAllInOrder, name_after, IsRenamedAt, AreRenamed, AreNamed, AreRenamedTogether, IsTaken, IsLinkedOtherwise}
 use Rattle.linked_otherwise.specs.Laws.{LinksAreTold}
 use Rattle.linked_otherwise.proofs.Lists.{Marked, before, after, AreRenamable, IsTakenIn, AreLinkedOtherwise, lists-told}
 
@@ -63,17 +63,17 @@ identifier-among all (i ∷ is) o (inr among) = inr (identifier-among all is o a
 
 -- ---- names in common
 
-known-so : (unit : UnitNames) (o : Occurrence) (name : List ℕ) → declared_name unit o ≡ Some (external_name name) → common_name unit o.identifier ≡ Some (external_name name)
+pub known-so : (unit : UnitNames) (o : Occurrence) (name : List ℕ) → declared_name unit o ≡ Some (external_name name) → common_name unit o.identifier ≡ Some (external_name name)
 known-so unit o name e = by (declares_itself o) e
   where
     by : (b : Bool) → (if b then common_name unit o.identifier else None) ≡ Some (external_name name) → common_name unit o.identifier ≡ Some (external_name name)
     by true f = f
     by false f = absurd (none-some (external_name name) f)
 
-same-external : (a b : List ℕ) → ◌≡◌ {A = Option CommonName} (Some (external_name a)) (Some (external_name b)) → a ≡ b
+pub same-external : (a b : List ℕ) → ◌≡◌ {A = Option CommonName} (Some (external_name a)) (Some (external_name b)) → a ≡ b
 same-external a b e = cc
 
-abbrev bound-number : Occurrence → BoundNumber
+abbrev pub bound-number : Occurrence → BoundNumber
 bound-number o = record { identifier = o.identifier.number; declared_by = o.declared_by.number }
 
 -- ---- declarations, each with whether it is of the class
@@ -121,13 +121,13 @@ module _ (of_class : PlainToken → Bool) (old new : List ℕ) where
 
   -- ---- and renamed they are after
 
-  renamed-by : (place number : ℕ) (b : Bool) (x : Option (List ℕ)) → map before (marked-by place number b (option_map (name_after new b) x)) ≡ map (after old new) (marked-by place number b x)
+  renamed-by : (place number : ℕ) (b : Bool) (x : Option (List ℕ)) → map before (marked-by place number b (option_map (name_after new b) x)) ≡ map (after new) (marked-by place number b x)
   renamed-by place number b None = refl
   renamed-by place number b (Some name) = refl
 
   after-at :
-      (place : ℕ) (unit other : UnitNames) (o p : Occurrence) → IsRenamedAt of_class old new unit other o p → o.identifier.number ≡ p.identifier.number
-      → linked_declaration place other p ≡ map (after old new) (marked-at place unit o)
+      (place : ℕ) (unit other : UnitNames) (o p : Occurrence) → IsRenamedAt of_class new unit other o p → o.identifier.number ≡ p.identifier.number
+      → linked_declaration place other p ≡ map (after new) (marked-at place unit o)
   after-at place unit other o p h number =
       let b : Bool = of_class o.identifier.token in
       let x : Option (List ℕ) = if_external (declared_name unit o) in
@@ -135,8 +135,8 @@ module _ (of_class : PlainToken → Bool) (old new : List ℕ) where
       ∙ ap (λ (n : ℕ). map before (marked-by place n b (option_map (name_after new b) x))) (sym number) ∙ renamed-by place o.identifier.number b x
 
   unit-after :
-      (place : ℕ) (unit other : UnitNames) (os ps : List Occurrence) → AllZip (IsRenamedAt of_class old new unit other) os ps → map bound-number os ≡ map bound-number ps
-      → flat_map (linked_declaration place other) ps ≡ map (after old new) (flat_map (marked-at place unit) os)
+      (place : ℕ) (unit other : UnitNames) (os ps : List Occurrence) → AllZip (IsRenamedAt of_class new unit other) os ps → map bound-number os ≡ map bound-number ps
+      → flat_map (linked_declaration place other) ps ≡ map (after new) (flat_map (marked-at place unit) os)
   unit-after place unit other [] [] h e = refl
   unit-after place unit other [] (p ∷ ps) h e = absurd h
   unit-after place unit other (o ∷ os) [] h e = absurd h
@@ -144,11 +144,11 @@ module _ (of_class : PlainToken → Bool) (old new : List ℕ) where
       let first : bound-number o ≡ bound-number p = cc in
       let rest : map bound-number os ≡ map bound-number ps = cc in
       ap₂ (λ (xs ys : List LinkedDeclaration). xs ++ ys) (after-at place unit other o p h.0 (ap (λ (n : BoundNumber). n.identifier) first)) (unit-after place unit other os ps h.1 rest)
-      ∙ sym (map-append (after old new) (marked-at place unit o) (flat_map (marked-at place unit) os))
+      ∙ sym (map-append (after new) (marked-at place unit o) (flat_map (marked-at place unit) os))
 
   all-after :
-      (place : ℕ) (units others : List UnitNames) → AreRenamed of_class old new units others → map bound_numbers units ≡ map bound_numbers others
-      → linked_declarations place others ≡ map (after old new) (marked place units)
+      (place : ℕ) (units others : List UnitNames) → AreRenamed of_class new units others → map bound_numbers units ≡ map bound_numbers others
+      → linked_declarations place others ≡ map (after new) (marked place units)
   all-after place [] [] h e = refl
   all-after place [] (other ∷ others) h e = absurd h
   all-after place (unit ∷ units) [] h e = absurd h
@@ -156,7 +156,7 @@ module _ (of_class : PlainToken → Bool) (old new : List ℕ) where
       let first : bound_numbers unit ≡ bound_numbers other = cc in
       let rest : map bound_numbers units ≡ map bound_numbers others = cc in
       ap₂ (λ (xs ys : List LinkedDeclaration). xs ++ ys) (unit-after place unit other (occurrences_of unit) (occurrences_of other) h.0 first) (all-after (place + 1) units others h.1 rest)
-      ∙ sym (map-append (after old new) (flat_map (marked-at place unit) (occurrences_of unit)) (marked (place + 1) units))
+      ∙ sym (map-append (after new) (flat_map (marked-at place unit) (occurrences_of unit)) (marked (place + 1) units))
 
   -- ---- each is the declaration of an identifier
 
@@ -252,11 +252,11 @@ module _ (of_class : PlainToken → Bool) (old new : List ℕ) where
         let one : f.occurrence.identifier ≡ g.occurrence.identifier = one_number 0 f.occurrence.identifier g.occurrence.identifier g.unit.identified in_order own other number in
         same-external d.name e.name (sym (known-so f.unit f.occurrence d.name d.declares) ∙ ap₂ (λ (u : UnitNames) (i : Identified). common_name u i) unit one ∙ known-so g.unit g.occurrence e.name e.declares)
 
-    renamable : AreAllInOrder units → AreRenamedTogether of_class old new units → AreRenamable old new (marked 0 units)
-    renamable order h = record {
+    renamable : AreAllInOrder units → AreNamed of_class old units → AreRenamedTogether of_class units → AreRenamable old new (marked 0 units)
+    renamable order own h = record {
       named = λ m i inside.
           let d = from m i in
-          ap (λ (x : Marked). x.declaration.name) d.is ∙ h.named d.declaration (ap (λ (x : Marked). x.of_class) (sym d.is) ∙ inside);
+          ap (λ (x : Marked). x.declaration.name) d.is ∙ own.named d.declaration (ap (λ (x : Marked). x.of_class) (sym d.is) ∙ inside);
       together = λ m n i j same.
           let d = from m i in
           let e = from n j in
@@ -274,7 +274,7 @@ module _ (of_class : PlainToken → Bool) (old new : List ℕ) where
 
     -- ---- what is linked otherwise
 
-    taken-so : IsTakenIn old new (marked 0 units) → IsTaken of_class old new units
+    taken-so : IsTakenIn old new (marked 0 units) → IsTaken of_class new units
     taken-so t =
         let d = from t.other t.among in
         record {
@@ -283,7 +283,7 @@ module _ (of_class : PlainToken → Bool) (old new : List ℕ) where
           is_new = ap (λ (x : Marked). x.declaration.name) (sym d.is) ∙ t.is_new;
         }
 
-    taken-in : IsTaken of_class old new units → IsTakenIn old new (marked 0 units)
+    taken-in : IsTaken of_class new units → IsTakenIn old new (marked 0 units)
     taken-in t = record { other = mark-of units 0 t.other; among = marked-among units t.other; outside = t.outside; is_new = t.is_new }
 
     otherwise-so : AreLinkedOtherwise old new (marked 0 units) → IsLinkedOtherwise of_class old new units
@@ -291,22 +291,22 @@ module _ (of_class : PlainToken → Bool) (old new : List ℕ) where
         let d = from o.one o.among in
         record { renamed = d.declaration; inside = ap (λ (x : Marked). x.of_class) (sym d.is) ∙ o.inside; otherwise = by o.otherwise }
       where
-        by : IsTakenIn old new (marked 0 units) ⊎ (built_in_named old ≡ built_in_named new → ⊥) → IsTaken of_class old new units ⊎ (built_in_named old ≡ built_in_named new → ⊥)
+        by : IsTakenIn old new (marked 0 units) ⊎ (built_in_named old ≡ built_in_named new → ⊥) → IsTaken of_class new units ⊎ (built_in_named old ≡ built_in_named new → ⊥)
         by (inl t) = inl (taken-so t)
         by (inr apart_) = inr apart_
 
     otherwise-in : IsLinkedOtherwise of_class old new units → AreLinkedOtherwise old new (marked 0 units)
     otherwise-in o = record { one = mark-of units 0 o.renamed; among = marked-among units o.renamed; inside = o.inside; otherwise = by o.otherwise }
       where
-        by : IsTaken of_class old new units ⊎ (built_in_named old ≡ built_in_named new → ⊥) → IsTakenIn old new (marked 0 units) ⊎ (built_in_named old ≡ built_in_named new → ⊥)
+        by : IsTaken of_class new units ⊎ (built_in_named old ≡ built_in_named new → ⊥) → IsTakenIn old new (marked 0 units) ⊎ (built_in_named old ≡ built_in_named new → ⊥)
         by (inl t) = inl (taken-in t)
         by (inr apart_) = inr apart_
 
 pub links-told : LinksAreTold
-links-told of_class old new units others bound order renamed together =
-    let told = lists-told old new (marked of_class old new 0 units) (renamable of_class old new units order together) in
+links-told of_class old new units others bound order renamed named together =
+    let told = lists-told old new (marked of_class old new 0 units) (renamable of_class old new units order named together) in
     let was : links_of units ≡ links_among (map before (marked of_class old new 0 units)) = ap links_among (all-before of_class old new 0 units) in
-    let is : links_of others ≡ links_among (map (after old new) (marked of_class old new 0 units)) = ap links_among (all-after of_class old new 0 units others renamed bound) in (
+    let is : links_of others ≡ links_among (map (after new) (marked of_class old new 0 units)) = ap links_among (all-after of_class old new 0 units others renamed bound) in (
       λ e o. told.0 (sym was ∙ e ∙ is) (otherwise-in of_class old new units o),
       λ alike. was ∙ told.1 (λ o. alike (otherwise-so of_class old new units o)) ∙ sym is,
     )

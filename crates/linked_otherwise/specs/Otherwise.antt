@@ -33,32 +33,39 @@ AreAllInOrder units = AllByRecursion (λ unit. AreInOrder 0 unit.identified) uni
 abbrev pub name_after : List ℕ → Bool → List ℕ → List ℕ
 name_after new of_class name = if of_class then new else name
 
-module _ (of_class : PlainToken → Bool) (old new : List ℕ) where
+module _ (of_class : PlainToken → Bool) where
   -- Of two identifiers at one place the one declares a name with external linkage after where the other did before: the new name if it is of
   -- the class, else the same.
-  abbrev pub IsRenamedAt : UnitNames → UnitNames → Occurrence → Occurrence → Type 0
-  IsRenamedAt unit other o p =
+  abbrev pub IsRenamedAt : List ℕ → UnitNames → UnitNames → Occurrence → Occurrence → Type 0
+  IsRenamedAt new unit other o p =
       if_external (declared_name other p) ≡ option_map (name_after new (of_class o.identifier.token)) (if_external (declared_name unit o))
 
   -- identifier by identifier, unit by unit
-  abbrev pub AreRenamed : List UnitNames → List UnitNames → Type 0
-  AreRenamed before after = AllZip (λ unit other. AllZip (IsRenamedAt unit other) (occurrences_of unit) (occurrences_of other)) before after
+  abbrev pub AreRenamed : List ℕ → List UnitNames → List UnitNames → Type 0
+  AreRenamed new before after = AllZip (λ unit other. AllZip (IsRenamedAt new unit other) (occurrences_of unit) (occurrences_of other)) before after
 
-  -- Declarations of the class have the old name, and those of one name are all of the class, or none is.
-  pub record AreRenamedTogether (units : List UnitNames) : Type 0 where
+  -- declarations of the class have this name
+  pub record AreNamed (old : List ℕ) (units : List UnitNames) : Type 0 where
     pub named : (d : ExternalDeclaration units) → of_class (token_of d) ≡ true → d.name ≡ old
+
+  -- identifiers of the class are written as this name
+  pub record AreWrittenSo (old : List ℕ) (units : List UnitNames) : Type 0 where
+    pub written : (o : OccursIn units) → of_class o.occurrence.identifier.token ≡ true → o.occurrence.identifier.token.text ≡ old
+
+  -- Declarations of one name are all of the class, or none is.
+  pub record AreRenamedTogether (units : List UnitNames) : Type 0 where
     pub together : (d e : ExternalDeclaration units) → d.name ≡ e.name → of_class (token_of d) ≡ of_class (token_of e)
 
   -- ---- what it links otherwise
 
   -- a declaration that isn't of the class has the new name
-  pub record IsTaken (units : List UnitNames) : Type 0 where
+  pub record IsTaken (new : List ℕ) (units : List UnitNames) : Type 0 where
     pub other : ExternalDeclaration units
     pub outside : of_class (token_of other) ≡ false
     pub is_new : other.name ≡ new
 
-  -- Some declaration is of the class, and the new name is that of another, or a built-in function has one of the two names.
-  pub record IsLinkedOtherwise (units : List UnitNames) : Type 0 where
+  -- Some declaration is of the class, and the new name is that of another, or one of the two names is that of a built-in function.
+  pub record IsLinkedOtherwise (old new : List ℕ) (units : List UnitNames) : Type 0 where
     pub renamed : ExternalDeclaration units
     pub inside : of_class (token_of renamed) ≡ true
-    pub otherwise : IsTaken units ⊎ (built_in_named old ≡ built_in_named new → ⊥)
+    pub otherwise : IsTaken new units ⊎ (built_in_named old ≡ built_in_named new → ⊥)
