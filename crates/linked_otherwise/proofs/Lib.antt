@@ -1,3 +1,3 @@
 mod Lists
 mod Units
-mod Trees
+pub mod Trees

@@ -136,26 +136,25 @@ module _ (class : List FileToken) (new : List ℕ) where
 
   -- ---- identifiers
 
-  abbrev AreRenamedNames : List Identifier → List Identifier → Type 0
-  AreRenamedNames is was = AllZip (λ (i : Identifier) (j : Identifier). j.token ≡ after i.token) is was
+  abbrev pub identifier-after : Identifier → Identifier
+  identifier-after i = record i { token = after i.token }
 
-  names-after : (number : ℕ) (tokens : List PlainToken) → AreRenamedNames (identifiers_from number tokens) (identifiers_from number (map after tokens))
-  names-after number [] = tt
-  names-after number (token ∷ tokens) =
-      by (is_name token) (is_name (after token)) (ap (same t.Name) (same_terminal token (after token) (alike-token token)))
-      (identifiers_from (number + 1) tokens) (identifiers_from (number + 1) (map after tokens)) (names-after (number + 1) tokens)
+  identifiers-after : (number : ℕ) (tokens : List PlainToken) → identifiers_from number (map after tokens) ≡ map identifier-after (identifiers_from number tokens)
+  identifiers-after number [] = refl
+  identifiers-after number (token ∷ tokens) =
+      by (is_name token) (is_name (after token)) (ap (same t.Name) (same_terminal token (after token) (alike-token token))) (identifiers-after (number + 1) tokens)
     where
       by :
-          (b c : Bool) → b ≡ c → (is was : List Identifier) → AreRenamedNames is was
-          → AreRenamedNames (if b then record { number = number; token = token } ∷ is else is) (if c then record { number = number; token = after token } ∷ was else was)
-      by true true e is was rest = (refl, rest)
-      by false false e is was rest = rest
-      by true false e is was rest = absurd (false≢true (sym e))
-      by false true e is was rest = absurd (false≢true e)
+          (b c : Bool) → b ≡ c → identifiers_from (number + 1) (map after tokens) ≡ map identifier-after (identifiers_from (number + 1) tokens)
+          → (if c then record { number = number; token = after token } ∷ identifiers_from (number + 1) (map after tokens) else identifiers_from (number + 1) (map after tokens))
+          ≡ map identifier-after (if b then record { number = number; token = token } ∷ identifiers_from (number + 1) tokens else identifiers_from (number + 1) tokens)
+      by true true e rest = ap (λ (l : List Identifier). record { number = number; token = after token } ∷ l) rest
+      by false false e rest = rest
+      by true false e rest = absurd (false≢true (sym e))
+      by false true e rest = absurd (false≢true e)
 
-  unit-names-after : (tree : PlainTree) → AreRenamedNames (identifiers_from 0 (spelled tree)) (identifiers_from 0 (spelled (renamed_tree class new tree)))
-  unit-names-after tree =
-      subst (λ (tokens : List PlainToken). AreRenamedNames (identifiers_from 0 (spelled tree)) (identifiers_from 0 tokens)) (sym (written-after tree [])) (names-after 0 (spelled tree))
+  pub unit-identifiers-after : (tree : PlainTree) → identifiers_from 0 (spelled (renamed_tree class new tree)) ≡ map identifier-after (identifiers_from 0 (spelled tree))
+  unit-identifiers-after tree = ap (identifiers_from 0) (written-after tree []) ∙ identifiers-after 0 (spelled tree)
 
   -- two identifiers at one place, which stand for what corresponds
   record IsAlikeAt (named : Correspondence) (i j : Identified) : Type 0 where
@@ -163,15 +162,19 @@ module _ (class : List FileToken) (new : List ℕ) where
     entity : SameEntity named i.entity j.entity
 
   identified-alike :
-      (named : Correspondence) (is was : List Identifier) (js ks : List Binding) → AreRenamedNames is was → AreBoundAlike named js ks
-      → AllZip (IsAlikeAt named) (with_entities is js) (with_entities was ks)
-  identified-alike named [] [] js ks names bound = tt
-  identified-alike named [] (j ∷ was) js ks names bound = absurd names
-  identified-alike named (i ∷ is) [] js ks names bound = absurd names
-  identified-alike named (i ∷ is) (j ∷ was) [] [] names bound = tt
-  identified-alike named (i ∷ is) (j ∷ was) [] (k ∷ ks) names bound = absurd bound
-  identified-alike named (i ∷ is) (j ∷ was) (b ∷ js) [] names bound = absurd bound
-  identified-alike named (i ∷ is) (j ∷ was) (b ∷ js) (k ∷ ks) names bound = (record { token = names.0; entity = bound.0 }, identified-alike named is was js ks names.1 bound.1)
+      (named : Correspondence) (is : List Identifier) (js ks : List Binding) → AreBoundAlike named js ks → AllZip (IsAlikeAt named) (with_entities is js) (with_entities (map identifier-after is) ks)
+  identified-alike named [] js ks bound = tt
+  identified-alike named (i ∷ is) [] [] bound = tt
+  identified-alike named (i ∷ is) [] (k ∷ ks) bound = absurd bound
+  identified-alike named (i ∷ is) (b ∷ js) [] bound = absurd bound
+  identified-alike named (i ∷ is) (b ∷ js) (k ∷ ks) bound = (record { token = refl; entity = bound.0 }, identified-alike named is js ks bound.1)
+
+  unit-identified-alike :
+      (named : Correspondence) (tree : PlainTree) (js ks : List Binding) → AreBoundAlike named js ks
+      → AllZip (IsAlikeAt named) (with_entities (identifiers_from 0 (spelled tree)) js) (with_entities (identifiers_from 0 (spelled (renamed_tree class new tree))) ks)
+  unit-identified-alike named tree js ks bound =
+      subst (λ (is : List Identifier). AllZip (IsAlikeAt named) (with_entities (identifiers_from 0 (spelled tree)) js) (with_entities is ks)) (sym (unit-identifiers-after tree))
+      (identified-alike named (identifiers_from 0 (spelled tree)) js ks bound)
 
   -- ---- units
 
@@ -254,7 +257,7 @@ module _ (class : List FileToken) (new : List ℕ) where
         (unit_alike (naming (named index)) (one-to-one (named index) (one index)) derived.0 (alike-tree tree) 0 structs others (no_numbers 0) (no_numbers 0) same numbers) is was both.0 in
         let unit : AreAlikeUnits (names_of_unit tree (fine state js)) (names_of_unit (renamed_tree class new tree) (fine other ks)) = record {
           named = named index;
-          identified = identified-alike (named index) (identifiers_from 0 (spelled tree)) (identifiers_from 0 (spelled (renamed_tree class new tree))) js ks (unit-names-after tree) both.0;
+          identified = unit-identified-alike (named index) tree js ks both.0;
           external = λ a c h. ap is_external_name (left.scopes.names a c h);
           written = texts-of tree (w.0, tt) structs state js is;
           written_after = texts-of (renamed_tree class new tree) (v.0, tt) others other ks was;

@@ -1,8 +1,9 @@
 -- Units whose declarations are renamed together: the declarations that are linked are renamed, and each is that of an identifier.
-use Rattle.std.proofs.Common.{◌≡◌, ℕ, ◌+◌, zero, suc, Bool, true, false, List, [], ◌∷◌, ◌++◌, length, map, refl, ap, ap₂, sym, subst, ◌∙◌, inl, inr, arith}
-use Rattle.std.specs.Prelude.{◌⊎◌, ◌↔◌, Option, Some, None, option_map, flat_map, slice_get, Contains, if◌then◌else◌}
+use Rattle.std.proofs.Common.{◌≡◌, ℕ, ◌+◌, zero, suc, Bool, true, false, List, [], ◌∷◌, ◌++◌, map, refl, ap, ap₂, sym, subst, ◌∙◌, inl, inr, arith}
+use Rattle.std.specs.Prelude.{◌⊎◌, ◌↔◌, Option, Some, None, option_map, flat_map, slice_get, All, Contains, if◌then◌else◌}
 use Rattle.std.specs.List.{AllZip}
 use Rattle.std.proofs.lemmas.List.{map-append}
+use Rattle.std.proofs.lemmas.List.Elements.{All-nil, All-cons, All-append, All-weaker, recursion_from_All, Contains-append_left, Contains-append_right}
 use Rattle.std.proofs.lemmas.Option.{same_Some, none-some, slice_get_within, get_or_from_slice_get}
 use Rattle.c_text.specs.Token.{PlainToken}
 use Rattle.core_meaning.specs.Linking.{built_in_named}
@@ -10,56 +11,34 @@ use Rattle.bindings.specs.Judged.{Identified}
 use Rattle.entity_numbers.specs.Firsts.{AreInOrder}
 use Rattle.program_occurrences.specs.Occurrences.{UnitNames, Occurrence, occurrence_among, occurrences_of, declares_itself, OccursIn, CommonName, external_name, tag, member_of, common_name}
 use Rattle.program_occurrences.specs.Links.{BoundNumber, bound_numbers, LinkedDeclaration, linked_by, linked_declaration, linked_declarations, Link, links_among, links_of}
-use Rattle.occurrence_names.proofs.Kept.{In, in-of, at}
+use Rattle.occurrence_names.proofs.Kept.{In, in-of, in-map, at}
 use Rattle.name_spaces.specs.Laws.{declared_name}
 use Rattle.program_names.proofs.OneToOne.{one_number}
 use Rattle.linked_otherwise.specs.Otherwise.{ExternalDeclaration, token_of, if_external, AreAllInOrder, name_after, IsRenamedAt, AreRenamed, AreNamed, AreRenamedTogether, IsTaken, IsLinkedOtherwise}
 use Rattle.linked_otherwise.specs.Laws.{LinksAreTold}
 use Rattle.linked_otherwise.proofs.Lists.{Marked, before, after, AreRenamable, IsTakenIn, AreLinkedOtherwise, lists-told}
 
--- ---- what is among others
+-- ---- what comes of occurrences
 
-in-left : {A : Type 0} (x : A) (xs ys : List A) → In x xs → In x (xs ++ ys)
-in-left x [] ys among = absurd among
-in-left x (y ∷ xs) ys (inl e) = inl e
-in-left x (y ∷ xs) ys (inr among) = inr (in-left x xs ys among)
-
-in-right : {A : Type 0} (x : A) (xs ys : List A) → In x ys → In x (xs ++ ys)
-in-right x [] ys among = among
-in-right x (y ∷ xs) ys among = inr (in-right x xs ys among)
-
-in-either : {A : Type 0} (x : A) (xs ys : List A) → In x (xs ++ ys) → In x xs ⊎ In x ys
-in-either x [] ys among = inr among
-in-either x (y ∷ xs) ys (inl e) = inl (inl e)
-in-either {A} x (y ∷ xs) ys (inr among) = further (in-either x xs ys among)
-  where
-    further : In x xs ⊎ In x ys → In x (y ∷ xs) ⊎ In x ys
-    further (inl a) = inl (inr a)
-    further (inr b) = inr b
-
--- what comes of an occurrence
-record ComesOf (f : Occurrence → List Marked) (m : Marked) (os : List Occurrence) : Type 0 where
-  source : Occurrence
-  among : Contains os source
-  here : In m (f source)
-
-comes-of : (f : Occurrence → List Marked) (m : Marked) (os : List Occurrence) → In m (flat_map f os) → ComesOf f m os
-comes-of f m [] among = absurd among
-comes-of f m (o ∷ os) among = by (in-either m (f o) (flat_map f os) among) (comes-of f m os)
-  where
-    by : In m (f o) ⊎ In m (flat_map f os) → (In m (flat_map f os) → ComesOf f m os) → ComesOf f m (o ∷ os)
-    by (inl a) later = record { source = o; among = (0, omega arith, refl); here = a }
-    by (inr a) later = let c = later a in record { source = c.source; among = (suc c.among.0, omega (arith, c.among.1), c.among.2); here = c.here }
-
-of-one : (f : Occurrence → List Marked) (m : Marked) (o : Occurrence) (os : List Occurrence) → In o os → In m (f o) → In m (flat_map f os)
+of-one : (f : Occurrence → List Marked) (m : Marked) (o : Occurrence) (os : List Occurrence) → In o os → Contains (f o) m → Contains (flat_map f os) m
 of-one f m o [] among here = absurd among
-of-one f m o (p ∷ os) (inl e) here = in-left m (f p) (flat_map f os) (subst (λ (q : Occurrence). In m (f q)) e here)
-of-one f m o (p ∷ os) (inr among) here = in-right m (f p) (flat_map f os) (of-one f m o os among here)
+of-one f m o (p ∷ os) (inl e) here = Contains-append_left (f p) (flat_map f os) m (subst (λ (q : Occurrence). Contains (f q) m) e here)
+of-one f m o (p ∷ os) (inr among) here = Contains-append_right (f p) (flat_map f os) m (of-one f m o os among here)
 
-identifier-among : (all is : List Identified) (o : Occurrence) → In o (map (occurrence_among all) is) → In o.identifier is
-identifier-among all [] o among = absurd among
-identifier-among all (i ∷ is) o (inl e) = inl (ap (λ (p : Occurrence). p.identifier) e)
-identifier-among all (i ∷ is) o (inr among) = inr (identifier-among all is o among)
+-- what holds of all that comes of each
+of-each : (P : Marked → Type 0) (f : Occurrence → List Marked) (os : List Occurrence) → ((o : Occurrence) → Contains os o → All P (f o)) → All P (flat_map f os)
+of-each P f [] each = All-nil P
+of-each P f (o ∷ os) each =
+    All-append P (f o) (flat_map f os) (each o (0, omega arith, refl)) (of-each P f os (λ p among. each p (suc among.0, omega (arith, among.1), among.2)))
+
+same-identifiers : (all is : List Identified) → map (λ o. o.identifier) (map (occurrence_among all) is) ≡ is
+same-identifiers all [] = refl
+same-identifiers all (i ∷ is) = ap (λ (l : List Identified). i ∷ l) (same-identifiers all is)
+
+identifier-among : (unit : UnitNames) (o : Occurrence) → Contains (occurrences_of unit) o → In o.identifier unit.identified
+identifier-among unit o among =
+    subst (λ (l : List Identified). In o.identifier l) (same-identifiers unit.identified unit.identified)
+    (in-map (λ (p : Occurrence). p.identifier) o (occurrences_of unit) (in-of o (occurrences_of unit) among))
 
 -- ---- names in common
 
@@ -166,77 +145,72 @@ module _ (of_class : PlainToken → Bool) (old new : List ℕ) where
   abbrev mark-of : (units : List UnitNames) → ℕ → ExternalDeclaration units → Marked
   mark-of units place d = mark-at (place + d.found.place) d.found.occurrence d.name
 
-  marked-here : (place : ℕ) (unit : UnitNames) (o : Occurrence) (name : List ℕ) → declared_name unit o ≡ Some (external_name name) → In (mark-at place o name) (marked-at place unit o)
+  marked-here : (place : ℕ) (unit : UnitNames) (o : Occurrence) (name : List ℕ) → declared_name unit o ≡ Some (external_name name) → Contains (marked-at place unit o) (mark-at place o name)
   marked-here place unit o name e =
-      subst (λ (c : Option CommonName). In (mark-at place o name) (marked-by place o.identifier.number (of_class o.identifier.token) (if_external c))) (sym e) (inl refl)
+      subst (λ (c : Option CommonName). Contains (marked-by place o.identifier.number (of_class o.identifier.token) (if_external c)) (mark-at place o name)) (sym e) (0, omega arith, refl)
 
   marked-in :
       (place : ℕ) (units : List UnitNames) (k : ℕ) (unit : UnitNames) (o : Occurrence) (name : List ℕ) → slice_get units k ≡ Some unit → In o (occurrences_of unit)
-      → declared_name unit o ≡ Some (external_name name) → In (mark-at (place + k) o name) (marked place units)
+      → declared_name unit o ≡ Some (external_name name) → Contains (marked place units) (mark-at (place + k) o name)
   marked-in place [] k unit o name is among e = absurd (none-some unit is)
   marked-in place (own ∷ units) zero unit o name is among e =
       let here : place + 0 ≡ place = omega arith in
-      subst (λ (n : ℕ). In (mark-at n o name) (marked place (own ∷ units))) (sym here)
-      (in-left (mark-at place o name) (flat_map (marked-at place own) (occurrences_of own)) (marked (place + 1) units)
-      (subst (λ (u : UnitNames). In (mark-at place o name) (flat_map (marked-at place u) (occurrences_of u))) (sym (same_Some own unit is))
+      subst (λ (n : ℕ). Contains (marked place (own ∷ units)) (mark-at n o name)) (sym here)
+      (Contains-append_left (flat_map (marked-at place own) (occurrences_of own)) (marked (place + 1) units) (mark-at place o name)
+      (subst (λ (u : UnitNames). Contains (flat_map (marked-at place u) (occurrences_of u)) (mark-at place o name)) (sym (same_Some own unit is))
       (of-one (marked-at place unit) (mark-at place o name) o (occurrences_of unit) among (marked-here place unit o name e))))
   marked-in place (own ∷ units) (suc k) unit o name is among e =
       let there : (place + 1) + k ≡ place + suc k = omega arith in
-      subst (λ (n : ℕ). In (mark-at n o name) (marked place (own ∷ units))) there
-      (in-right (mark-at ((place + 1) + k) o name) (flat_map (marked-at place own) (occurrences_of own)) (marked (place + 1) units)
+      subst (λ (n : ℕ). Contains (marked place (own ∷ units)) (mark-at n o name)) there
+      (Contains-append_right (flat_map (marked-at place own) (occurrences_of own)) (marked (place + 1) units) (mark-at ((place + 1) + k) o name)
       (marked-in (place + 1) units k unit o name is among e))
 
   marked-among : (units : List UnitNames) (d : ExternalDeclaration units) → In (mark-of units 0 d) (marked 0 units)
   marked-among units d =
-      marked-in 0 units d.found.place d.found.unit d.found.occurrence d.name d.found.is_unit (in-of d.found.occurrence (occurrences_of d.found.unit) d.found.among) d.declares
+      in-of (mark-of units 0 d) (marked 0 units)
+      (marked-in 0 units d.found.place d.found.unit d.found.occurrence d.name d.found.is_unit (in-of d.found.occurrence (occurrences_of d.found.unit) d.found.among) d.declares)
 
   record IsMarkOf (units : List UnitNames) (place : ℕ) (m : Marked) : Type 0 where
     declaration : ExternalDeclaration units
     is : m ≡ mark-of units place declaration
 
-  record IsMarkAt (place : ℕ) (unit : UnitNames) (o : Occurrence) (m : Marked) : Type 0 where
-    name : List ℕ
-    declares : declared_name unit o ≡ Some (external_name name)
-    is : m ≡ mark-at place o name
-
-  mark-here : (place : ℕ) (unit : UnitNames) (o : Occurrence) (m : Marked) → In m (marked-at place unit o) → IsMarkAt place unit o m
-  mark-here place unit o m among = by (declared_name unit o) refl among
+  here-of : (place : ℕ) (unit : UnitNames) (units : List UnitNames) (o : Occurrence) → Contains (occurrences_of unit) o → All (IsMarkOf (unit ∷ units) place) (marked-at place unit o)
+  here-of place unit units o among = by (declared_name unit o) refl
     where
-      by : (c : Option CommonName) → declared_name unit o ≡ c → In m (marked-by place o.identifier.number (of_class o.identifier.token) (if_external c)) → IsMarkAt place unit o m
-      by None e a = absurd a
-      by (Some (external_name name)) e (inl is) = record { name = name; declares = e; is = is }
-      by (Some (external_name name)) e (inr a) = absurd a
-      by (Some (tag text)) e a = absurd a
-      by (Some (member_of struct text)) e a = absurd a
-
-  mark-from : (units : List UnitNames) (place : ℕ) (m : Marked) → In m (marked place units) → IsMarkOf units place m
-  mark-from [] place m among = absurd among
-  mark-from (unit ∷ units) place m among =
-      by (in-either m (flat_map (marked-at place unit) (occurrences_of unit)) (marked (place + 1) units) among) (mark-from units (place + 1) m)
-    where
-      by : In m (flat_map (marked-at place unit) (occurrences_of unit)) ⊎ In m (marked (place + 1) units) → (In m (marked (place + 1) units) → IsMarkOf units (place + 1) m) → IsMarkOf (unit ∷ units) place m
-      by (inl a) later =
-          let c = comes-of (marked-at place unit) m (occurrences_of unit) a in
-          let h = mark-here place unit c.source m c.here in
+      by : (c : Option CommonName) → declared_name unit o ≡ c → All (IsMarkOf (unit ∷ units) place) (marked-by place o.identifier.number (of_class o.identifier.token) (if_external c))
+      by None e = All-nil (IsMarkOf (unit ∷ units) place)
+      by (Some (external_name name)) e =
           let here : place ≡ place + 0 = omega arith in
-          record {
-            declaration = record { found = record { place = 0; unit = unit; is_unit = refl; occurrence = c.source; among = c.among }; name = h.name; declares = h.declares };
-            is = h.is ∙ ap (λ (n : ℕ). mark-at n c.source h.name) here;
-          }
-      by (inr a) later =
-          let l = later a in
-          let f = l.declaration.found in
-          let there : (place + 1) + f.place ≡ place + suc f.place = omega arith in
-          record {
-            declaration = record { found = record { place = suc f.place; unit = f.unit; is_unit = f.is_unit; occurrence = f.occurrence; among = f.among }; name = l.declaration.name; declares = l.declaration.declares };
-            is = l.is ∙ ap (λ (n : ℕ). mark-at n f.occurrence l.declaration.name) there;
-          }
+          All-cons (IsMarkOf (unit ∷ units) place) (mark-at place o name) []
+          (record {
+            declaration = record { found = record { place = 0; unit = unit; is_unit = refl; occurrence = o; among = among }; name = name; declares = e };
+            is = ap (λ (n : ℕ). mark-at n o name) here;
+          })
+          (All-nil (IsMarkOf (unit ∷ units) place))
+      by (Some (tag text)) e = All-nil (IsMarkOf (unit ∷ units) place)
+      by (Some (member_of struct text)) e = All-nil (IsMarkOf (unit ∷ units) place)
+
+  further : (place : ℕ) (unit : UnitNames) (units : List UnitNames) (m : Marked) → IsMarkOf units (place + 1) m → IsMarkOf (unit ∷ units) place m
+  further place unit units m l =
+      let f = l.declaration.found in
+      let there : (place + 1) + f.place ≡ place + suc f.place = omega arith in
+      record {
+        declaration = record { found = record { place = suc f.place; unit = f.unit; is_unit = f.is_unit; occurrence = f.occurrence; among = f.among }; name = l.declaration.name; declares = l.declaration.declares };
+        is = l.is ∙ ap (λ (n : ℕ). mark-at n f.occurrence l.declaration.name) there;
+      }
+
+  marks-of : (units : List UnitNames) (place : ℕ) → All (IsMarkOf units place) (marked place units)
+  marks-of [] place = All-nil (IsMarkOf [] place)
+  marks-of (unit ∷ units) place =
+      All-append (IsMarkOf (unit ∷ units) place) (flat_map (marked-at place unit) (occurrences_of unit)) (marked (place + 1) units)
+      (of-each (IsMarkOf (unit ∷ units) place) (marked-at place unit) (occurrences_of unit) (here-of place unit units))
+      (All-weaker (IsMarkOf units (place + 1)) (IsMarkOf (unit ∷ units) place) (further place unit units) (marked (place + 1) units) (marks-of units (place + 1)))
 
   -- ---- units
 
   module _ (units : List UnitNames) where
     from : (m : Marked) → In m (marked 0 units) → IsMarkOf units 0 m
-    from m among = mark-from units 0 m among
+    from m among = at (IsMarkOf units 0) m (marked 0 units) (recursion_from_All (IsMarkOf units 0) (marked 0 units) (marks-of units 0)) among
 
     -- one unit and one number declare one name
     one-name : AreAllInOrder units → (d e : ExternalDeclaration units) → d.found.place ≡ e.found.place → d.found.occurrence.identifier.number ≡ e.found.occurrence.identifier.number → d.name ≡ e.name
@@ -247,8 +221,8 @@ module _ (of_class : PlainToken → Bool) (old new : List ℕ) where
         let in_order : AreInOrder 0 g.unit.identified =
         at (λ (u : UnitNames). AreInOrder 0 u.identified) g.unit units order (in-of g.unit units (g.place, slice_get_within units g.place g.unit g.is_unit, get_or_from_slice_get units g.place g.unit g.unit g.is_unit)) in
         let own : In f.occurrence.identifier g.unit.identified =
-        subst (λ (u : UnitNames). In f.occurrence.identifier u.identified) unit (identifier-among f.unit.identified f.unit.identified f.occurrence (in-of f.occurrence (occurrences_of f.unit) f.among)) in
-        let other : In g.occurrence.identifier g.unit.identified = identifier-among g.unit.identified g.unit.identified g.occurrence (in-of g.occurrence (occurrences_of g.unit) g.among) in
+        subst (λ (u : UnitNames). In f.occurrence.identifier u.identified) unit (identifier-among f.unit f.occurrence f.among) in
+        let other : In g.occurrence.identifier g.unit.identified = identifier-among g.unit g.occurrence g.among in
         let one : f.occurrence.identifier ≡ g.occurrence.identifier = one_number 0 f.occurrence.identifier g.occurrence.identifier g.unit.identified in_order own other number in
         same-external d.name e.name (sym (known-so f.unit f.occurrence d.name d.declares) ∙ ap₂ (λ (u : UnitNames) (i : Identified). common_name u i) unit one ∙ known-so g.unit g.occurrence e.name e.declares)
 

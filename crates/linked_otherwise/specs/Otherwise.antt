@@ -29,7 +29,7 @@ AreAllInOrder units = AllByRecursion (λ unit. AreInOrder 0 unit.identified) uni
 
 -- ---- a renaming
 
--- the name of a declaration after it
+-- the name of a declaration behind it: the new one if it is of the class
 abbrev pub name_after : List ℕ → Bool → List ℕ → List ℕ
 name_after new of_class name = if of_class then new else name
 
@@ -64,7 +64,8 @@ module _ (of_class : PlainToken → Bool) where
     pub outside : of_class (token_of other) ≡ false
     pub is_new : other.name ≡ new
 
-  -- Some declaration is of the class, and the new name is that of another, or one of the two names is that of a built-in function.
+  -- Some declaration is of the class, and the new name is that of another, or isn't that of the same built-in function as the old one, or of none
+  -- as the old one.
   pub record IsLinkedOtherwise (old new : List ℕ) (units : List UnitNames) : Type 0 where
     pub renamed : ExternalDeclaration units
     pub inside : of_class (token_of renamed) ≡ true

@@ -18,16 +18,16 @@ contained xs k x e = (k, slice_get_within xs k x e, get_or_from_slice_get xs k x
 placed : {A : Type 0} (xs : List A) (x : A) (c : Contains xs x) → slice_get xs c.0 ≡ Some x
 placed xs x c = slice_get_read xs (length xs) c.0 x refl c.1 (sym c.2)
 
-mapped : {A B : Type 0} (f : A → B) (xs : List A) (k : ℕ) (x : A) → slice_get xs k ≡ Some x → slice_get (map f xs) k ≡ Some (f x)
+pub mapped : {A B : Type 0} (f : A → B) (xs : List A) (k : ℕ) (x : A) → slice_get xs k ≡ Some x → slice_get (map f xs) k ≡ Some (f x)
 mapped f xs k x e = slice_get-map f xs k ∙ ap (option_map f) e
 
 -- what stands at a place before and is mapped so
-record Source {A B : Type 0} (f : A → B) (xs : List A) (k : ℕ) (y : B) : Type 0 where
-  source : A
-  at : slice_get xs k ≡ Some source
-  is : f source ≡ y
+pub record Source {A B : Type 0} (f : A → B) (xs : List A) (k : ℕ) (y : B) : Type 0 where
+  pub source : A
+  pub at : slice_get xs k ≡ Some source
+  pub is : f source ≡ y
 
-source_of : {A B : Type 0} (f : A → B) (xs : List A) (k : ℕ) (y : B) → slice_get (map f xs) k ≡ Some y → Source f xs k y
+pub source_of : {A B : Type 0} (f : A → B) (xs : List A) (k : ℕ) (y : B) → slice_get (map f xs) k ≡ Some y → Source f xs k y
 source_of f [] k y e = absurd (none-some y e)
 source_of f (x ∷ xs) zero y e = record { source = x; at = refl; is = same_Some (f x) y e }
 source_of f (x ∷ xs) (suc k) y e = let s = source_of f xs k y e in record { source = s.source; at = s.at; is = s.is }
