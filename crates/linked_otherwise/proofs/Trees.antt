@@ -1,6 +1,6 @@
 -- Units whose trees have the new name declare names with external linkage where those before did, by the new name where they are of the class.
 use Rattle.std.proofs.Common.{◌≡◌, ℕ, ◌+◌, ◌==◌, Bool, true, false, List, [], ◌∷◌, map, refl, ap, sym, subst, ◌∙◌, IsTrue}
-use Rattle.std.specs.Prelude.{Option, Some, None, option_map, slice_get, if◌then◌else◌}
+use Rattle.std.specs.Prelude.{Option, Some, None, option_map, if◌then◌else◌}
 use Rattle.std.specs.List.{AllByRecursion, AllZip, list_any}
 use Rattle.std.proofs.lemmas.Bool.{false≢true, and_parts}
 use Rattle.std.proofs.lemmas.List.Elements.{recursion_from_All}
@@ -13,7 +13,7 @@ use Rattle.c_tree.specs.declared.terminals.Terminal.TheVariants as t
 use Rattle.c_tree.specs.Terminals.{same}
 use Rattle.c_tree.specs.Trees.{PlainTree, PlainTrees, leaf, node, none, more, written, all_written, spelled}
 use Rattle.core_meaning.specs.Checking.{Entity, local_entity, local_of_function, file_entity, struct_entity, member_entity, own_entity, Binding, Checked, fine}
-use Rattle.core_meaning.specs.Entities.{Struct, Numbers}
+use Rattle.core_meaning.specs.Entities.{Struct}
 use Rattle.core_meaning.specs.UnitNames.{UnitState}
 use Rattle.core_meaning.specs.Linking.{no_numbers}
 use Rattle.tree_derivations.specs.Derivations.{UnitsAreDerived}
@@ -34,7 +34,7 @@ use Rattle.program_occurrences.specs.Occurrences.{Identifier, identifiers_from, 
 use Rattle.program_occurrences.specs.Links.{BoundNumber, bound_numbers}
 use Rattle.program_occurrences.specs.Laws.{AreJudged, one_more, UnitsOfProgramsAreJudged}
 use Rattle.occurrence_names.specs.Laws.{IsTextOf, FileNamesAreWritten}
-use Rattle.occurrence_names.proofs.Kept.{In, in-of, at}
+use Rattle.occurrence_names.proofs.Kept.{in-of, at}
 use Rattle.program_names.specs.Laws.{UnitsOfProgramsBindAlike, NamesAreOneToOne}
 use Rattle.program_names.specs.Names.{names_at_places}
 use Rattle.program_names.proofs.OneToOne.{all_ordered}

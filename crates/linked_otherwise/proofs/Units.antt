@@ -1,6 +1,6 @@
 -- Units whose declarations are renamed together: the declarations that are linked are renamed, and each is that of an identifier.
 use Rattle.std.proofs.Common.{◌≡◌, ℕ, ◌+◌, zero, suc, Bool, true, false, List, [], ◌∷◌, ◌++◌, map, refl, ap, ap₂, sym, subst, ◌∙◌, inl, inr, arith}
-use Rattle.std.specs.Prelude.{◌⊎◌, ◌↔◌, Option, Some, None, option_map, flat_map, slice_get, All, Contains, if◌then◌else◌}
+use Rattle.std.specs.Prelude.{◌⊎◌, Option, Some, None, option_map, flat_map, slice_get, All, Contains, if◌then◌else◌}
 use Rattle.std.specs.List.{AllZip}
 use Rattle.std.proofs.lemmas.List.{map-append}
 use Rattle.std.proofs.lemmas.List.Elements.{All-nil, All-cons, All-append, All-weaker, recursion_from_All, Contains-append_left, Contains-append_right}
@@ -9,12 +9,12 @@ use Rattle.c_text.specs.Token.{PlainToken}
 use Rattle.core_meaning.specs.Linking.{built_in_named}
 use Rattle.bindings.specs.Judged.{Identified}
 use Rattle.entity_numbers.specs.Firsts.{AreInOrder}
-use Rattle.program_occurrences.specs.Occurrences.{UnitNames, Occurrence, occurrence_among, occurrences_of, declares_itself, OccursIn, CommonName, external_name, tag, member_of, common_name}
-use Rattle.program_occurrences.specs.Links.{BoundNumber, bound_numbers, LinkedDeclaration, linked_by, linked_declaration, linked_declarations, Link, links_among, links_of}
+use Rattle.program_occurrences.specs.Occurrences.{UnitNames, Occurrence, occurrence_among, occurrences_of, declares_itself, CommonName, external_name, tag, member_of, common_name}
+use Rattle.program_occurrences.specs.Links.{BoundNumber, bound_numbers, LinkedDeclaration, linked_by, linked_declaration, linked_declarations, links_among, links_of}
 use Rattle.occurrence_names.proofs.Kept.{In, in-of, in-map, at}
 use Rattle.name_spaces.specs.Laws.{declared_name}
 use Rattle.program_names.proofs.OneToOne.{one_number}
-use Rattle.linked_otherwise.specs.Otherwise.{ExternalDeclaration, token_of, if_external, AreAllInOrder, name_after, IsRenamedAt, AreRenamed, AreNamed, AreRenamedTogether, IsTaken, IsLinkedOtherwise}
+use Rattle.linked_otherwise.specs.Otherwise.{ExternalDeclaration, if_external, AreAllInOrder, name_after, IsRenamedAt, AreRenamed, AreNamed, AreRenamedTogether, IsTaken, IsLinkedOtherwise}
 use Rattle.linked_otherwise.specs.Laws.{LinksAreTold}
 use Rattle.linked_otherwise.proofs.Lists.{Marked, before, after, AreRenamable, IsTakenIn, AreLinkedOtherwise, lists-told}
 
