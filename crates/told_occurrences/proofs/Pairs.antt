@@ -1,6 +1,6 @@
 -- Pairs of numbers tell which identifier declares which, where no two identifiers have one number.
-use Rattle.std.proofs.Common.{◌≡◌, ℕ, zero, suc, ◌<◌, List, [], ◌∷◌, length, map, refl, ap, sym, subst, ◌∙◌}
-use Rattle.std.specs.Prelude.{Option, Some, None, slice_get, option_map, Contains}
+use Rattle.std.proofs.Common.{◌≡◌, ℕ, zero, suc, List, [], ◌∷◌, length, map, refl, ap, sym, subst, ◌∙◌}
+use Rattle.std.specs.Prelude.{Some, slice_get, option_map, Contains}
 use Rattle.std.proofs.lemmas.Option.{same_Some, none-some, slice_get-map, slice_get_within, slice_get_read, get_or_from_slice_get}
 use Rattle.bindings.specs.Judged.{Identified, first_with}
 use Rattle.cond_pairings.specs.Pairs.{Pair}
