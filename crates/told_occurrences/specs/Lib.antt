@@ -1,3 +1,4 @@
 pub mod Told
 pub mod Leaves
 pub mod Units
+pub mod Laws

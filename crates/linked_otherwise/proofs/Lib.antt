@@ -1,0 +1,3 @@
+mod Lists
+mod Units
+pub mod Trees

@@ -1,0 +1,2 @@
+pub mod Otherwise
+pub mod Laws
