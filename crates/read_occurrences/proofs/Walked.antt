@@ -1,6 +1,6 @@
 -- A walk pairs each name of a declarator among members with itself.
 use Rattle.std.proofs.Common.{◌≡◌, ℕ, ◌+◌, Bool, true, false, ◌||◌, List, [], ◌∷◌, ◌++◌, drop, get_or, map, inl, inr, refl, sym, ap, subst, ◌∙◌, append_assoc, append-nil, drop-drop, get_or-drop, add-zero}
-use Rattle.std.specs.Prelude.{◌⊎◌, Option, Some, None, if◌then◌else◌}
+use Rattle.std.specs.Prelude.{Option, Some, None, if◌then◌else◌}
 use Rattle.std.specs.List.{AllZip}
 use Rattle.c_text.specs.Token.{PlainToken}
 use Rattle.c_tree.specs.declared.kinds.Kind.{Kind}
@@ -10,16 +10,9 @@ use Rattle.bindings.specs.Visible.{NameSpace, ordinary, tags as tag_space, membe
 use Rattle.bindings.specs.Bindings.{is_name}
 use Rattle.scope_readings.specs.Scopes.{Pairing, Scopes, this, or_own, passed, paired, used, tagged, Scope, file_scope, block_scope, members, named, shown, starting}
 use Rattle.scope_readings.specs.Walks.{Role, ordinary_use, member_use, tag, declared_name, role, turns, declaration_in, scope_of, may_declare, ends_scope, leave_if, walk_name, walk_parts, walk_unit}
+use Rattle.occurrence_names.proofs.Kept.{In}
+use Rattle.read_occurrences.proofs.Rows.{in_left}
 use Rattle.name_spaces.specs.Spaces.{space_in, space_by, struct_in, spaces_in_parts, spaces_of}
-
-abbrev pub In : {X : Type 0} → X → List X → Type 0
-In x [] = ⊥
-In x (y ∷ ys) = (x ≡ y) ⊎ In x ys
-
-in_left : {X : Type 0} (x : X) (xs ys : List X) → In x xs → In x (xs ++ ys)
-in_left x [] ys i = absurd i
-in_left x (y ∷ xs) ys (inl e) = inl e
-in_left x (y ∷ xs) ys (inr i) = inr (in_left x xs ys i)
 
 in_last : {X : Type 0} (x : X) (xs : List X) → In x (xs ++ x ∷ [])
 in_last x [] = inl refl
@@ -48,7 +41,7 @@ IsMember other = ⊥
 abbrev pub own : ℕ → Pairing
 own number = record { number = number; declared_by = Some number }
 
-abbrev Owns : List Pairing → ℕ → Option NameSpace → Type 0
+abbrev pub Owns : List Pairing → ℕ → Option NameSpace → Type 0
 Owns found number space = IsMember space → In (own number) found
 
 record Walked (spaces : List (Option NameSpace)) (names numbers : List ℕ) (s t : Scopes) : Type 0 where
@@ -178,7 +171,7 @@ unit_walked numbers kind parts =
     subst (λ (found : List Pairing). AllZip (Owns found) (names_of_parts parts numbers) (spaces_of (node kind parts))) (sym (left_found (ends_scope k.Unit kind) s u)) w.owns
 
 -- the same names among the tokens
-abbrev token_names : List PlainToken → List ℕ → List ℕ
+abbrev pub token_names : List PlainToken → List ℕ → List ℕ
 token_names [] numbers = []
 token_names (token ∷ rest) numbers = if is_name token then get_or numbers 0 0 ∷ token_names rest (drop 1 numbers) else token_names rest (drop 1 numbers)
 

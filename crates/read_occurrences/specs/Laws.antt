@@ -31,13 +31,17 @@ AreTags by tag structs = (n : ℕ) (s : Struct) → slice_get structs n ≡ Some
 abbrev pub names_in_spaces : List Leaf → PlainTree → List InSpace
 names_in_spaces leaves tree = spaced (names_among leaves) (spaces_of tree)
 
+-- the pairs that are read of it, where structs have these numbers and tags
+abbrev pub unit_pairs : List Leaf → List Struct → PlainTree → (ℕ → ℕ) → (ℕ → List ℕ) → List Pair
+unit_pairs leaves structs tree by tag =
+    pairs_read (numbers leaves) tree tag (names_in_spaces leaves tree) (uses_in by tree (judged_behind structs tree))
+
 -- The pairs that are read are the occurrences of the unit.
 abbrev pub PairsAreRead : Type 0
 PairsAreRead =
     (leaves : List Leaf) (structs : List Struct) (tree : PlainTree) (state : UnitState) (js : List Binding) → IsUnit leaves structs tree state js
     → (by : ℕ → ℕ) (tag : ℕ → List ℕ) → AreTags by tag state.scope.structs
-    → HaveSame (pairs_read (numbers leaves) tree tag (names_in_spaces leaves tree) (uses_in by tree (judged_behind structs tree)))
-    (pairs_of (numbers leaves) (names_of_unit tree (judged_behind structs tree)))
+    → HaveSame (unit_pairs leaves structs tree by tag) (pairs_of (numbers leaves) (names_of_unit tree (judged_behind structs tree)))
 
 -- Where these pairs are the unit's, whatever their order is, the names that are read are those that it declares.
 abbrev pub NamesAreRead : Type 0
@@ -52,6 +56,5 @@ abbrev pub OccurrencesAreRead : Type 0
 OccurrencesAreRead =
     (leaves : List Leaf) (structs : List Struct) (tree : PlainTree) (state : UnitState) (js : List Binding) → IsUnit leaves structs tree state js
     → (by : ℕ → ℕ) (tag : ℕ → List ℕ) → AreTags by tag state.scope.structs
-    → (pairs : List Pair) → pairs ≡ pairs_read (numbers leaves) tree tag (names_in_spaces leaves tree) (uses_in by tree (judged_behind structs tree))
-    → IsTold (numbers leaves) (names_of_unit tree (judged_behind structs tree)) pairs
-    (names_read (names_of_unit tree (judged_behind structs tree)) pairs (names_in_spaces leaves tree))
+    → IsTold (numbers leaves) (names_of_unit tree (judged_behind structs tree)) (unit_pairs leaves structs tree by tag)
+    (names_read (names_of_unit tree (judged_behind structs tree)) (unit_pairs leaves structs tree by tag) (names_in_spaces leaves tree))
