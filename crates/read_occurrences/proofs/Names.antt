@@ -11,7 +11,7 @@ use Rattle.scope_readings.specs.Scopes.{Pairing}
 use Rattle.scope_readings.specs.Laws.{pairing, pairings}
 use Rattle.choice_trees.specs.Leaves.{Leaf}
 use Rattle.cond_pairings.specs.Pairs.{Pair, pair_with, declared_pairs}
-use Rattle.member_pairs.specs.Members.{declaring_number}
+use Rattle.cond_scopes.specs.Progress.{number_or_none}
 use Rattle.cond_name_spaces.specs.Spaced.{InSpace}
 use Rattle.program_occurrences.specs.Occurrences.{UnitNames, Occurrence, declares_itself, CommonName, common_name}
 use Rattle.occurrence_names.proofs.Kept.{In, in-map}
@@ -92,7 +92,7 @@ if_read false x l i = absurd i
 
 module _ (unit : UnitNames) (tags : Table ℕ) (numbers : List ℕ) (by : ℕ → ℕ) (tag : ℕ → List ℕ) (members : ℕ → List ℕ → Option ℕ) (rows : List Row) (k : Known unit tags numbers by tag members rows) where
   number_of_row : (z : Row) → In z rows → (n : InSpace) → n.name ≡ z.leaf → number_of_name n ≡ number_in numbers z.bound.number
-  number_of_row z j n e = ap (λ (l : Leaf). declaring_number l.number) e ∙ ap declaring_number (k.facts z j).leaf.tells
+  number_of_row z j n e = ap (λ (l : Leaf). number_or_none l.number) e ∙ ap number_or_none (k.facts z j).leaf.tells
 
   number_of_occurrence : (z : Row) → In z rows → number_in numbers z.bound.number ≡ number_in numbers z.occurrence.identifier.number
   number_of_occurrence z j = ap (number_in numbers) (sym (k.facts z j).is.number)

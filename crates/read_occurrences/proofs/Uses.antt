@@ -15,7 +15,8 @@ use Rattle.cond_pairings.specs.Pairs.{Pair}
 use Rattle.changed_forests.specs.Numbered.{number_of}
 use Rattle.selections.specs.Laws.{structure_of_entity}
 use Rattle.member_uses.specs.Uses.{Use, structure_used}
-use Rattle.member_pairs.specs.Members.{is_member_space, declares_member, declaring_number, pair_of as use_pair, pairs_of_use, pairs_of_uses}
+use Rattle.cond_scopes.specs.Progress.{number_or_none}
+use Rattle.member_pairs.specs.Members.{is_member_space, declares_member, pair_of as use_pair, pairs_of_use, pairs_of_uses}
 use Rattle.cond_name_spaces.specs.Spaced.{InSpace}
 use Rattle.program_occurrences.specs.Occurrences.{UnitNames, declares_itself}
 use Rattle.program_occurrences.specs.Laws.{IsMemberOf}
@@ -216,7 +217,7 @@ module _ (unit : UnitNames) (tags : Table ℕ) (numbers : List ℕ) (by : ℕ �
       let g = k.facts z j in
       ap₂ (λ (a b : ℕ). let p : Pair = record { identifier = a; declared_by = b } in p)
       (ap number_of token ∙ ap number_of (sym f.leaf.text) ∙ f.leaf.number ∙ ap (number_in numbers) (sym f.is.number))
-      (ap (λ (l : Leaf). declaring_number l.number) name ∙ ap declaring_number g.leaf.tells
+      (ap (λ (l : Leaf). number_or_none l.number) name ∙ ap number_or_none g.leaf.tells
       ∙ ap (number_in numbers) (ap (λ (x : Row). x.bound.number) (sym is) ∙ declared_number r i))
 
   -- ---- what is paired is an occurrence

@@ -7,7 +7,8 @@ use Rattle.bindings.specs.Bindings.{bindings_of}
 use Rattle.scope_readings.specs.Laws.{pairings}
 use Rattle.cond_pairings.specs.Pairs.{Pair, declared_pairs}
 use Rattle.member_uses.specs.Uses.{Use}
-use Rattle.member_pairs.specs.Members.{declaring_number, pairs_of_uses}
+use Rattle.cond_scopes.specs.Progress.{number_or_none}
+use Rattle.member_pairs.specs.Members.{pairs_of_uses}
 use Rattle.program_occurrences.specs.Occurrences.{UnitNames}
 use Rattle.cond_name_spaces.specs.Spaced.{InSpace}
 use Rattle.name_spaces.specs.Laws.{common_by}
@@ -24,7 +25,7 @@ is_own_pair number p = p.identifier == number && p.declared_by == number
 
 -- the number of its token in the stream
 abbrev pub number_of_name : InSpace → ℕ
-number_of_name n = declaring_number n.name.number
+number_of_name n = number_or_none n.name.number
 
 -- A name that is paired with itself declares what it is in its name space.
 abbrev pub name_read : UnitNames → List Pair → InSpace → List NumberedName
