@@ -36,8 +36,8 @@ pub fn where_bound_otherwise(
     ensures { IfOk result (λ f. (on : ℕ → Bool) → TellsOtherwise (value on (condition_of f)) on before.now after.now) }
 {
     let mut otherwise = never()?;
-    for (unit, other) in before.iter().zip(after) {
-        let found = where_pairs_differ(alloc, &unit.pairs, &other.pairs)?;
+    for place in 0..before.len() {
+        let found = where_pairs_differ(alloc, &before[place].pairs, &after[place].pairs)?;
         otherwise = either(alloc, otherwise, found)?;
     }
     Ok(otherwise)

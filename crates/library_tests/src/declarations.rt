@@ -5,8 +5,7 @@ use std::alloc::Global;
 use std::test::Fail;
 
 /// A name that is declared at token 1, and with feature 0 again at token 3 in a block; it is used at token 5.
-fn used_in_a_block(alloc: Global) -> Result<DeclaredTokens, NoMemory>
-{
+fn used_in_a_block(alloc: Global) -> Result<DeclaredTokens, NoMemory> {
     let without = Formula::not(alloc, Formula::Var(0))?;
     let pairs = vec![in alloc;
         CondPairing {
@@ -34,8 +33,7 @@ fn used_in_a_block(alloc: Global) -> Result<DeclaredTokens, NoMemory>
 }
 
 /// The same without the block's declaration.
-fn used_at_file_scope(alloc: Global) -> Result<DeclaredTokens, NoMemory>
-{
+fn used_at_file_scope(alloc: Global) -> Result<DeclaredTokens, NoMemory> {
     let pairs = vec![in alloc;
         CondPairing {
             identifier: 1,
