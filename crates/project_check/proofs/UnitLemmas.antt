@@ -1,6 +1,6 @@
 -- Units one by one: which are present, and what becomes of them.
 use Rattle.std.proofs.Common.{◌≡◌, ℕ, zero, suc, ◌+◌, ◌<◌, Bool, true, false, ◌&&◌, ◌||◌, List, [], ◌∷◌, ◌++◌, length, take, map, get_or, refl, sym, ap, subst, ◌∙◌, arith}
-use Rattle.std.specs.Prelude.{if◌then◌else◌}
+use Rattle.std.specs.Prelude.{IsTrue, if◌then◌else◌}
 use Rattle.std.specs.List.{AllZip, Contains}
 use Rattle.std.proofs.lemmas.List.{map-append, length-map, append-nil, length-take-le, take_more, take_all}
 use Rattle.std.proofs.lemmas.List.Elements.{Contains-append_left, Contains-push}
@@ -11,19 +11,20 @@ use Rattle.c_tree.specs.Trees.{PlainTree}
 use Rattle.c_tree.specs.Units.{IsTreeOf}
 use Rattle.choice_trees.specs.declared.trees.Forest.{Forest}
 use Rattle.choice_trees.specs.ChoiceTrees.{forest_at}
+use Rattle.choice_trees.specs.Leaves.{forest_leaves}
 use Rattle.project_file.specs.declared.projects.Unit.{Unit}
 use Rattle.project_file.specs.declared.projects.Project.{Project}
 use Rattle.project_file.specs.Projects.{PlainUnit, PlainProject}
 use Rattle.project_file.specs.View.{unit_view, project_view}
 use Rattle.cond_tokens.specs.declared.tokens.CondStream.{CondStream}
 use Rattle.cond_tokens.specs.Streams.{tokens_at}
-use Rattle.choice_parser.specs.Units.{IsParsed}
+use Rattle.choice_parser.specs.Units.{IsParsed, numbered_at}
 use Rattle.plain_pp.specs.Units.{sources_of, file_of}
 use Rattle.cond_pp.specs.Streams.{IsStreamAt}
 use Rattle.project_program.specs.Programs.{present_from, present_units, UnitGives, IsNotPreprocessed}
 use Rattle.project_program.specs.Steps.{LacksTree}
 use Rattle.cond_scopes.specs.Units.{present_trees}
-use Rattle.project_check.specs.Parsed.{HaveTree, IsUnitParsed, AreReadUnits}
+use Rattle.project_check.specs.Parsed.{HaveTree, IsUnitParsed, AreReadUnits, AreLeaves}
 
 -- ---- lists with one more
 
@@ -147,6 +148,45 @@ unit_parsed on project files place stream false treeless forest is e parsed = re
     by : (b : Bool) → IsParsed on stream.tokens.items b forest → HaveTree on (tokens_at on stream.tokens.items) b forest
     by true h = h
     by false h = h.0
+
+-- ---- the leaves of their trees
+
+leaves_more :
+    (on : ℕ → Bool) (units : List Unit) (streams : List CondStream) (forests : List Forest) (unit : Unit) (stream : CondStream) (forest : Forest) → AreLeaves on units streams forests
+    → (IsTrue (value on (condition_of unit.when)) → forest_leaves on forest ≡ numbered_at on 0 stream.tokens.items)
+    → AreLeaves on (units ++ unit ∷ []) (streams ++ stream ∷ []) (forests ++ forest ∷ [])
+leaves_more on [] [] [] unit stream forest h one = (one, tt)
+leaves_more on [] [] (f ∷ forests) unit stream forest h one = absurd h
+leaves_more on [] (s ∷ streams) forests unit stream forest h one = absurd h
+leaves_more on (u ∷ units) [] forests unit stream forest h one = absurd h
+leaves_more on (u ∷ units) (s ∷ streams) [] unit stream forest h one = absurd h
+leaves_more on (u ∷ units) (s ∷ streams) (f ∷ forests) unit stream forest h one = (h.0, leaves_more on units streams forests unit stream forest h.1 one)
+
+neither : (a b : Bool) → (a || b) ≡ false → (a ≡ false) × (b ≡ false)
+neither true b e = absurd (let no : ◌≡◌ {A = Bool} true false = e in cc)
+neither false b e = (refl, e)
+
+not_the_other : (a b : Bool) → (a && b) ≡ false → IsTrue a → b ≡ false
+not_the_other true b e h = e
+not_the_other false b e h = absurd cc
+
+-- one unit more, where its tokens have a tree
+pub next_leaves :
+    (on : ℕ → Bool) (units : List Unit) (k : ℕ) (unit : Unit) (stream : CondStream) (forest : Forest) (treeless_here treeless new_treeless : Bool)
+    (streams new_streams : List CondStream) (forests new_forests : List Forest) → k < length units → unit ≡ get_or units k unit
+    → (treeless ≡ false → AreLeaves on (take k units) streams forests) → (treeless_here ≡ false → forest_leaves on forest ≡ numbered_at on 0 stream.tokens.items)
+    → new_streams ≡ streams ++ stream ∷ [] → new_forests ≡ forests ++ forest ∷ [] → new_treeless ≡ (treeless || (value on (condition_of unit.when) && treeless_here))
+    → new_treeless ≡ false → AreLeaves on (take (k + 1) units) new_streams new_forests
+next_leaves on units k unit stream forest t treeless new_treeless streams new_streams forests new_forests inside is so_far here streams_are forests_are treeless_is none =
+    let front : take (k + 1) units ≡ take k units ++ unit ∷ [] = take_more units k unit inside ∙ ap (λ z. take k units ++ z ∷ []) (sym is) in
+    let off = neither treeless (value on (condition_of unit.when) && t) (sym treeless_is ∙ none) in
+    rw (front, streams_are, forests_are)
+    (leaves_more on (take k units) streams forests unit stream forest (so_far off.0) (λ there. here (not_the_other (value on (condition_of unit.when)) t off.1 there)))
+
+-- the leaves of a unit whose tokens have a tree
+pub parsed_leaves : (on : ℕ → Bool) (stream : CondStream) (treeless : Bool) (forest : Forest) → IsParsed on stream.tokens.items treeless forest → treeless ≡ false → forest_leaves on forest ≡ numbered_at on 0 stream.tokens.items
+parsed_leaves on stream true forest h e = absurd (let no : ◌≡◌ {A = Bool} true false = e in cc)
+parsed_leaves on stream false forest h e = h.1
 
 module _ (on : ℕ → Bool) (project : Project) (files : List PlainFile) where
   -- these units, with their forests

@@ -40,6 +40,7 @@ pub(crate) fn where_broken<O: Oracle>(
     let parsed = parse_units(alloc, project, files, oracle)?;
     let badly_made = where_not_elaborated(alloc, oracle, &project.units, &parsed.forests)?;
     let ParsedUnits {
+        streams: _,
         forests: _,
         unread,
         treeless,

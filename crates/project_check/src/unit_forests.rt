@@ -1,5 +1,5 @@
 //! The trees of one unit.
-ghost use Rattle.std.specs.Prelude.{◌≡◌, ◌<◌, ◌≤◌, List, Bool, length, map, All, IsTrue, IfOk};
+ghost use Rattle.std.specs.Prelude.{◌≡◌, ◌<◌, ◌≤◌, List, Bool, false, length, map, All, IsTrue, IfOk};
 ghost use Rattle.text_edits.specs.Files.{plain_files};
 ghost use Rattle.cond_formula.specs.Features.{has};
 ghost use Rattle.cond_formula.specs.Conditions.{condition_of, value};
@@ -7,7 +7,8 @@ ghost use Rattle.project_file.specs.View.{project_view};
 ghost use Rattle.project_store.specs.Reads.{names_of};
 ghost use Rattle.plain_pp.specs.Units.{sources_of, file_of};
 ghost use Rattle.cond_pp.specs.Streams.{IsStreamAt};
-ghost use Rattle.choice_parser.specs.Units.{IsParsed};
+ghost use Rattle.choice_trees.specs.Leaves.{forest_leaves};
+ghost use Rattle.choice_parser.specs.Units.{IsParsed, numbered_at};
 ghost use Rattle.project_check.specs.Parsed.{IsUnitParsed};
 
 use choice_parser::{Parsed, parse_all};
@@ -22,9 +23,9 @@ use text_edits::Files;
 /// What becomes of a unit, whether or not it is present.
 #[derive(Drop)]
 pub(crate) struct ParsedUnit {
+    /// Its tokens, and where it isn't preprocessed.
+    pub(crate) stream: CondStream,
     pub(crate) forest: Forest,
-    /// Where it isn't preprocessed.
-    pub(crate) unread: Formula,
     /// Where it is, and its tokens have no tree.
     pub(crate) treeless: Formula,
 }
@@ -63,18 +64,14 @@ fn parsed_stream<O: Oracle>(
 ) -> Result<ParsedUnit, NoMemory>
     requires { length stream.tokens.items < 4294967295 }
     ensures kept { O.admits oracle.new ≡ O.admits oracle.old }
-    ensures unread { IfOk result (λ unit. unit.unread ≡ stream.refused) }
+    ensures stream { IfOk result (λ unit. unit.stream ≡ stream) }
     ensures parsed { IfOk result (λ unit. (c : List Bool) → IsTrue (value (has c) (O.admits oracle.old))
         → IsParsed (has c) stream.tokens.items (value (has c) (condition_of unit.treeless)) unit.forest) }
 {
     let Parsed { forest, refused } = parse_all(alloc, &stream, oracle)?;
-    let CondStream {
-        tokens: _,
-        refused: unread,
-    } = stream;
     Ok(ParsedUnit {
+        stream,
         forest,
-        unread,
         treeless: refused,
     })
 }
@@ -93,7 +90,9 @@ pub(crate) fn parse_unit<O: Oracle>(
     requires few { length files.now.list.items < 4294967295 }
     ensures kept { O.admits oracle.new ≡ O.admits oracle.old }
     ensures parsed { IfOk result (λ unit. (c : List Bool) → IsTrue (value (has c) (O.admits oracle.old))
-        → IsUnitParsed (has c) (project_view project.now) (plain_files files.now) place (value (has c) (condition_of unit.unread)) (value (has c) (condition_of unit.treeless)) unit.forest) }
+        → IsUnitParsed (has c) (project_view project.now) (plain_files files.now) place (value (has c) (condition_of unit.stream.refused)) (value (has c) (condition_of unit.treeless)) unit.forest) }
+    ensures leaves { IfOk result (λ unit. (c : List Bool) → IsTrue (value (has c) (O.admits oracle.old)) → value (has c) (condition_of unit.treeless) ≡ false
+        → forest_leaves (has c) unit.forest ≡ numbered_at (has c) 0 unit.stream.tokens.items) }
 {
     let stream = stream_of(alloc, project, files, place, oracle)?;
     let unit = parsed_stream(alloc, stream, oracle)?;

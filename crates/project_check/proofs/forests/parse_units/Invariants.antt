@@ -1,7 +1,8 @@
-use Rattle.std.proofs.Common.{◌≡◌, List, Bool, IsTrue, length, take}
+use Rattle.std.proofs.Common.{◌≡◌, List, Bool, false, IsTrue, length, take}
 use Rattle.text_edits.specs.Files.{plain_files}
 use Rattle.cond_formula.specs.Features.{has}
 use Rattle.cond_formula.specs.Conditions.{condition_of, value}
+use Rattle.project_check.specs.Parsed.{AreLeaves}
 use Rattle.project_check.proofs.UnitLemmas.{UnitsSoFar}
 use Rattle.project_check.proofs.forests.parse_units.Given as goal
 
@@ -13,4 +14,6 @@ invariant-loop-place g l = record {
   as_many : length l.all.forests.items ≡ l.place;
   so_far : (c : List Bool) → IsTrue (value (has c) (g.O.Oracle.admits l.fn.oracle))
       → UnitsSoFar (has c) l.project (plain_files l.files) (value (has c) (condition_of l.all.unread)) (value (has c) (condition_of l.all.treeless)) (take l.place l.project.units.items) l.all.forests.items;
+  leaves : (c : List Bool) → IsTrue (value (has c) (g.O.Oracle.admits l.fn.oracle)) → value (has c) (condition_of l.all.treeless) ≡ false
+      → AreLeaves (has c) (take l.place l.project.units.items) l.all.streams.items l.all.forests.items;
 }
