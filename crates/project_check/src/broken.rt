@@ -5,6 +5,7 @@ ghost use Rattle.cond_formula.specs.Features.{has};
 ghost use Rattle.cond_formula.specs.Conditions.{condition_of, value};
 ghost use Rattle.project_file.specs.View.{project_view};
 ghost use Rattle.project_store.specs.Reads.{names_of};
+ghost use Rattle.project_check.specs.Parsed.{AreParsed};
 ghost use Rattle.project_check.specs.Broken.{TellsProgram};
 
 use crate::{ParsedUnits, parse_units};
@@ -18,6 +19,33 @@ use reduced_conditions::either;
 use std::alloc::Global;
 use text_edits::Files;
 use unit_outcomes::tokens_are_spelt;
+
+/// Where units that are parsed so have no program.
+pub fn where_parsed_broken<O: Oracle>(
+    alloc: Global,
+    oracle: &mut O,
+    project: &Project,
+    files: &Files,
+    parsed: &ParsedUnits,
+) -> Result<Formula, NoMemory>
+    requires named { map (λ f. f.name) (plain_files files.now) ≡ names_of (project_view project.now) }
+    requires as_many { length parsed.now.forests.items ≡ length project.now.units.items }
+    requires parsed { (c : List Bool) → IsTrue (value (has c) (O.admits oracle.old)) → AreParsed (has c) project.now (plain_files files.now) parsed.now }
+    ensures kept { O.admits oracle.new ≡ O.admits oracle.old }
+    ensures exact { IfOk result (λ f. (c : List Bool) → IsTrue (value (has c) (O.admits oracle.old))
+        → TellsProgram (value (has c) (condition_of f)) (project_view project.now) (plain_files files.now) (has c)) }
+{
+    programs_are_one();
+    outcomes_are_one();
+    tokens_spell_one_unit();
+    tokens_are_spelt();
+    let badly_made = where_not_elaborated(alloc, oracle, &project.units, &parsed.forests)?;
+    let unread = parsed.unread.try_clone(alloc)?;
+    let treeless = parsed.treeless.try_clone(alloc)?;
+    let unparsed = either(alloc, unread, treeless)?;
+    let f = either(alloc, unparsed, badly_made)?;
+    Ok(f)
+}
 
 /// Where the units that are present have no program.
 pub(crate) fn where_broken<O: Oracle>(
@@ -33,19 +61,7 @@ pub(crate) fn where_broken<O: Oracle>(
     ensures exact { IfOk result (λ f. (c : List Bool) → IsTrue (value (has c) (O.admits oracle.old))
         → TellsProgram (value (has c) (condition_of f)) (project_view project.now) (plain_files files.now) (has c)) }
 {
-    programs_are_one();
-    outcomes_are_one();
-    tokens_spell_one_unit();
-    tokens_are_spelt();
     let parsed = parse_units(alloc, project, files, oracle)?;
-    let badly_made = where_not_elaborated(alloc, oracle, &project.units, &parsed.forests)?;
-    let ParsedUnits {
-        streams: _,
-        forests: _,
-        unread,
-        treeless,
-    } = parsed;
-    let unparsed = either(alloc, unread, treeless)?;
-    let f = either(alloc, unparsed, badly_made)?;
+    let f = where_parsed_broken(alloc, oracle, project, files, &parsed)?;
     Ok(f)
 }

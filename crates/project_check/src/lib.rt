@@ -8,6 +8,7 @@ mod forests;
 mod outcomes;
 mod unit_forests;
 
+pub use broken::where_parsed_broken;
 pub use checking::check;
 pub use forests::{ParsedUnits, parse_units};
 pub use outcomes::CheckOutcome;

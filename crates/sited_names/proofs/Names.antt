@@ -1,5 +1,5 @@
 -- The names of units whose tokens have lost their sites.
-use Rattle.std.proofs.Common.{◌≡◌, ℕ, ◌+◌, Bool, true, false, List, [], ◌∷◌, map, refl, sym, ap, ◌∙◌}
+use Rattle.std.proofs.Common.{◌≡◌, ℕ, ◌+◌, Bool, true, false, List, [], ◌∷◌, map, refl, ap, ◌∙◌}
 use Rattle.std.specs.Prelude.{if◌then◌else◌}
 use Rattle.c_text.specs.Token.{PlainToken}
 use Rattle.c_tree.specs.Trees.{PlainTree, PlainTrees, leaf, node, none, more, written, all_written, spelled}
@@ -12,7 +12,7 @@ use Rattle.moved_programs.specs.Trees.{moved_tree, moved_trees}
 use Rattle.moved_programs.proofs.Moves.{moved_checked, stays}
 use Rattle.moved_programs.proofs.Constants.{KeepsPlaces}
 use Rattle.moved_programs.proofs.Items.{unit_moves}
-use Rattle.program_occurrences.specs.Occurrences.{Identifier, identifiers_from, with_entities, UnitNames, judged_bindings, has_external, names_of_unit, structs_behind, judged_behind, names_behind}
+use Rattle.program_occurrences.specs.Occurrences.{Identifier, identifiers_from, with_entities, judged_bindings, has_external, names_of_unit, structs_behind, judged_behind, names_behind}
 use Rattle.changed_forests.specs.Numbered.{unsited}
 use Rattle.sited_names.specs.Unsited.{unsited_identifier, unsited_names}
 use Rattle.sited_names.specs.Laws.{SitesDontName}
@@ -42,16 +42,13 @@ moved_identifier i = record i { token = unsited i.token }
 
 identifiers_moved : (number : ℕ) (tokens : List PlainToken) → identifiers_from number (map unsited tokens) ≡ map moved_identifier (identifiers_from number tokens)
 identifiers_moved number [] = refl
-identifiers_moved number (token ∷ rest) = by (is_name token)
+identifiers_moved number (token ∷ rest) = by (is_name token) (identifiers_moved (number + 1) rest)
   where
-    behind : identifiers_from (number + 1) (map unsited rest) ≡ map moved_identifier (identifiers_from (number + 1) rest)
-    behind = identifiers_moved (number + 1) rest
-
-    by : (b : Bool)
+    by : (b : Bool) → identifiers_from (number + 1) (map unsited rest) ≡ map moved_identifier (identifiers_from (number + 1) rest)
         → (if b then record { number = number; token = unsited token } ∷ identifiers_from (number + 1) (map unsited rest) else identifiers_from (number + 1) (map unsited rest))
         ≡ map moved_identifier (if b then record { number = number; token = token } ∷ identifiers_from (number + 1) rest else identifiers_from (number + 1) rest)
-    by true = ap (λ is. record { number = number; token = unsited token } ∷ is) behind
-    by false = behind
+    by true behind = ap (λ is. record { number = number; token = unsited token } ∷ is) behind
+    by false behind = behind
 
 entities_moved : (identifiers : List Identifier) (bindings : List Binding) → with_entities (map moved_identifier identifiers) bindings ≡ map unsited_identifier (with_entities identifiers bindings)
 entities_moved [] bindings = refl

@@ -1,15 +1,12 @@
 -- What tokens of files have to do with each other in units without the sites of their tokens.
 use Rattle.std.proofs.Common.{◌≡◌, ℕ, Bool, true, false, List, [], ◌∷◌, map, Option, Some, None, Contains, refl, sym, ap, subst, ◌∙◌}
-use Rattle.std.specs.Prelude.{◌↔◌, if◌then◌else◌, slice_get, option_map, IsTrue}
+use Rattle.std.specs.Prelude.{if◌then◌else◌, slice_get, option_map, IsTrue}
 use Rattle.std.proofs.lemmas.Option.{slice_get-map}
-use Rattle.c_tree.specs.Trees.{PlainTree}
-use Rattle.core_meaning.specs.Checking.{Entity, local_entity, local_of_function, file_entity, struct_entity, member_entity}
+use Rattle.core_meaning.specs.Checking.{Entity, local_entity, local_of_function, file_entity, struct_entity, member_entity, own_entity}
 use Rattle.bindings.specs.Judged.{Identified, same_entity, first_with}
 use Rattle.program_occurrences.specs.Occurrences.{UnitNames, names_of_units, Occurrence, or_itself, occurrence_among, occurrences_of, declares_itself, OccursIn, CommonName, member_by, common_name, common_name_by}
 use Rattle.program_occurrences.specs.Classes.{PlainFileToken, file_token, declaring_token}
 use Rattle.program_occurrences.proofs.Entities.{source_of, made_from}
-use Rattle.moved_programs.specs.Trees.{moved_tree}
-use Rattle.changed_forests.specs.Numbered.{unsited, AreSameButSites}
 use Rattle.tied_classes.specs.Told.{IsDeclaredBy, DeclaresName}
 use Rattle.sited_names.specs.Unsited.{unsited_identifier, unsited_names}
 use Rattle.sited_names.specs.Laws.{SitesDontName, AreTiedAlike, SitesDontTie}
@@ -59,6 +56,7 @@ name_by_moved unit text (member_entity struct number) =
     ap (λ first. member_by first text) (first_moved (struct_entity struct) unit.identified) ∙ member_moved (first_with (struct_entity struct) unit.identified) text
 name_by_moved unit text (local_entity number) = refl
 name_by_moved unit text (local_of_function function number) = refl
+name_by_moved unit text own_entity = refl
 
 name_moved : (unit : UnitNames) (i : Identified) → common_name (unsited_names unit) (unsited_identifier i) ≡ common_name unit i
 name_moved unit i = name_by_moved unit i.token.text i.entity
@@ -86,7 +84,7 @@ with_sites units without =
       occurrence_is = sym s.same;
     }
 
-without_sites : (units : List UnitNames) (found : OccursIn units) → OccursIn (map unsited_names units)
+abbrev without_sites : (units : List UnitNames) (found : OccursIn units) → OccursIn (map unsited_names units)
 without_sites units found = record {
   place = found.place;
   unit = unsited_names found.unit;

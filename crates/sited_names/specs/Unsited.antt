@@ -1,5 +1,5 @@
 -- The names of units without the sites of their tokens.
-use Rattle.std.specs.Prelude.{List, map}
+use Rattle.std.specs.Prelude.{map}
 use Rattle.bindings.specs.Judged.{Identified}
 use Rattle.program_occurrences.specs.Occurrences.{UnitNames}
 use Rattle.changed_forests.specs.Numbered.{unsited}

@@ -23,7 +23,7 @@ use Rattle.changed_forests.specs.Changed.{changed_leaf, changed_text}
 use Rattle.changed_forests.specs.Numbered.{numbering, IsNumbered}
 use Rattle.changed_forests.specs.Laws.{ChangesAreSeen}
 use Rattle.told_occurrences.specs.Told.{number_in}
-use Rattle.told_ties.specs.Ties.{copied}
+use Rattle.told_ties.specs.Ties.{copied, token_at}
 use Rattle.told_ties.proofs.Lists.{none_among, some_of}
 
 -- ---- identifiers
@@ -110,18 +110,16 @@ leaf_of on first (t ∷ rest) k leaf e = by (value on (condition_of t.when)) k (
     by true (suc k) behind e = leaf_later first t rest leaf (behind k e)
     by false k behind e = leaf_later first t rest leaf (behind k e)
 
--- a token is a copy of the stream's token with this number
-pub record IsCopyOf (tokens : List CondToken) (number : ℕ) (token : PlainToken) : Type 0 where
-  pub entry : CondToken
-  pub at : slice_get tokens number ≡ Some entry
-  pub copy : copied entry ≡ copied_by token
+-- a token is a copy of the same token of a file as the stream's token with this number
+abbrev pub IsCopyOf : List CondToken → ℕ → PlainToken → Type 0
+IsCopyOf tokens number token = token_at tokens number ≡ Some (copied_by token)
 
 copy_of_leaf : (tokens : List CondToken) (leaf : Leaf) → IsLeafOf 0 tokens leaf → IsCopyOf tokens (number_or_none leaf.number) (changed_text numbering leaf.number leaf.text)
 copy_of_leaf tokens leaf h =
     let own : number_or_none leaf.number ≡ h.place = ap number_or_none h.number ∙ omega arith in
     let same : changed_text numbering leaf.number leaf.text ≡ numbering (0 + h.place) (plain_token h.entry.token)
     = ap (λ (n : Option ℕ). changed_text numbering n leaf.text) h.number ∙ ap (numbering (0 + h.place)) h.text in
-    record { entry = h.entry; at = ap (slice_get tokens) own ∙ h.at; copy = ap copied_by (sym same) }
+    ap (token_at tokens) own ∙ (ap (option_map copied) h.at ∙ ap (λ (t : PlainToken). Some (copied_by t)) (sym same))
 
 module _ (spelt : LeavesAreSpelled) (seen : ChangesAreSeen) (on : ℕ → Bool) (forest new : Forest) (tokens : List CondToken) (numbers_are : IsNumbered forest new) (leaves : forest_leaves on forest ≡ numbered_at on 0 tokens) where
   new_leaves : forest_leaves on new ≡ map (changed_leaf numbering) (numbered_at on 0 tokens)

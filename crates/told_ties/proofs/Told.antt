@@ -1,6 +1,6 @@
 -- What is told of units by numbers is what there is in them.
 use Rattle.std.proofs.Common.{◌≡◌, ℕ, Bool, true, false, List, [], ◌∷◌, ◌++◌, map, Option, Some, None, Contains, refl, ap, sym, subst, ◌∙◌}
-use Rattle.std.specs.Prelude.{◌↔◌, IsTrue, flat_map, slice_get, if◌then◌else◌}
+use Rattle.std.specs.Prelude.{◌↔◌, IsTrue, flat_map, if◌then◌else◌}
 use Rattle.std.specs.List.{AllZip}
 use Rattle.cond_formula.specs.Conditions.{condition_of, value}
 use Rattle.c_tree.specs.Trees.{PlainTree}
@@ -30,10 +30,10 @@ use Rattle.sited_names.specs.Laws.{AreTiedAlike, SitesDontTie}
 use Rattle.told_occurrences.specs.declared.told.ToldUnit.{ToldUnit}
 use Rattle.told_occurrences.specs.Told.{number_in, pair_of, pairs_of, NumberedName, numbered, names_of, IsTold}
 use Rattle.told_occurrences.specs.Units.{names_seen, IsToldAs, IsSilent, AreTold, no_more, present, absent}
-use Rattle.told_ties.specs.Ties.{TiedPair, tied, NamedToken, named, copied as copied_of, tied_if, tied_by, named_if, named_by, tied_in, named_in}
+use Rattle.told_ties.specs.Ties.{TiedPair, tied, NamedToken, named, token_at, tied_if, tied_by, named_if, named_by, tied_in, named_in}
 use Rattle.told_ties.specs.Laws.{TieUnits, OccurrencesAreTied}
 use Rattle.told_ties.proofs.Lists.{none_among, alone_among, first_among, made_of, makes}
-use Rattle.told_ties.proofs.Numbers.{IsCopyOf, IsCopied, occurrence_copied}
+use Rattle.told_ties.proofs.Numbers.{IsCopied, occurrence_copied}
 use Rattle.told_ties.proofs.Found.{IsSaidOf, IsSaidIn, said_of_none, said_together, Ties, Names, declared_as_said, named_as_said}
 
 -- ---- one unit
@@ -60,14 +60,10 @@ module _ (tokens : List CondToken) (numbers : List ℕ) (unit : UnitNames) (copi
   tie_is : (o : Occurrence) → Contains (occurrences_of unit) o → tied_by tokens (pair_of numbers o) ≡ tied (file_token o) (declaring_token o) ∷ []
   tie_is o among =
       let c = copied o among in
-      ap (λ i. tied_if i (slice_get tokens (number_in numbers o.declared_by.number))) c.identifier.at
-      ∙ (ap (tied_if (Some c.identifier.entry)) c.declared_by.at
-      ∙ (ap (λ a. tied a (copied_of c.declared_by.entry) ∷ []) c.identifier.copy ∙ ap (λ b. tied (file_token o) b ∷ []) c.declared_by.copy))
+      ap (λ i. tied_if i (token_at tokens (number_in numbers o.declared_by.number))) c.identifier ∙ ap (tied_if (Some (file_token o))) c.declared_by
 
-  name_is : (o : Occurrence) → Contains (occurrences_of unit) o → (name : CommonName) → named_if (slice_get tokens (number_in numbers o.identifier.number)) name ≡ named (file_token o) name ∷ []
-  name_is o among name =
-      let c = copied o among in
-      ap (λ i. named_if i name) c.identifier.at ∙ ap (λ a. named a name ∷ []) c.identifier.copy
+  name_is : (o : Occurrence) → Contains (occurrences_of unit) o → (name : CommonName) → named_if (token_at tokens (number_in numbers o.identifier.number)) name ≡ named (file_token o) name ∷ []
+  name_is o among name = ap (λ i. named_if i name) (copied o among).identifier
 
   pairs_tie : (pairs : List Pair) → ((x : Pair) → Contains pairs x ↔ Contains (pairs_of numbers unit) x) → (a b : PlainFileToken) → Contains (flat_map (tied_by tokens) pairs) (tied a b) ↔ IsSaidOf (Ties a b) unit
   pairs_tie pairs same a b = (forth, back)
@@ -105,7 +101,7 @@ module _ (tokens : List CondToken) (numbers : List ℕ) (unit : UnitNames) (copi
           let o = s.source in
           let as = numbered_as (number_in numbers o.identifier.number) (declared_name unit o) m.source s.made in
           let made : Contains (named (file_token o) m.source.name ∷ []) (named t n)
-          = subst (λ (ts : List NamedToken). Contains ts (named t n)) (ap (λ k. named_if (slice_get tokens k) m.source.name) (sym as.number_is) ∙ name_is o s.among m.source.name) m.made in
+          = subst (λ (ts : List NamedToken). Contains ts (named t n)) (ap (λ k. named_if (token_at tokens k) m.source.name) (sym as.number_is) ∙ name_is o s.among m.source.name) m.made in
           let e = alone_among (named (file_token o) m.source.name) (named t n) made in
           let d = declares (declares_itself o) (common_name unit o.identifier) m.source.name as.name_is in
           record {

@@ -1,5 +1,5 @@
 -- The ties between tokens of files that a configuration sees, and those that are told of the tokens of units, by their numbers.
-use Rattle.std.specs.Prelude.{ℕ, Bool, List, [], ◌∷◌, ◌++◌, flat_map, Option, Some, None, slice_get, if◌then◌else◌}
+use Rattle.std.specs.Prelude.{ℕ, Bool, List, [], ◌∷◌, ◌++◌, flat_map, Option, Some, None, option_map, slice_get, if◌then◌else◌}
 use Rattle.cond_formula.specs.Conditions.{value}
 use Rattle.c_text.specs.Token.{plain_token}
 use Rattle.cond_tokens.specs.declared.tokens.CondToken.{CondToken}
@@ -45,20 +45,24 @@ module _ (on : ℕ → Bool) where
 abbrev pub copied : CondToken → PlainFileToken
 copied entry = copied_by (plain_token entry.token)
 
-abbrev pub tied_if : Option CondToken → Option CondToken → List TiedPair
-tied_if (Some identifier) (Some declared_by) = tied (copied identifier) (copied declared_by) ∷ []
+-- that of the stream's token with this number, if it has one
+abbrev pub token_at : List CondToken → ℕ → Option PlainFileToken
+token_at tokens number = option_map copied (slice_get tokens number)
+
+abbrev pub tied_if : Option PlainFileToken → Option PlainFileToken → List TiedPair
+tied_if (Some identifier) (Some declared_by) = tied identifier declared_by ∷ []
 tied_if identifier declared_by = []
 
--- a pair of numbers, where the stream has tokens with both
+-- the tokens with a pair's numbers, if the stream has both
 abbrev pub tied_by : List CondToken → Pair → List TiedPair
-tied_by tokens p = tied_if (slice_get tokens p.identifier) (slice_get tokens p.declared_by)
+tied_by tokens p = tied_if (token_at tokens p.identifier) (token_at tokens p.declared_by)
 
-abbrev pub named_if : Option CondToken → CommonName → List NamedToken
+abbrev pub named_if : Option PlainFileToken → CommonName → List NamedToken
 named_if None name = []
-named_if (Some entry) name = named (copied entry) name ∷ []
+named_if (Some token) name = named token name ∷ []
 
 abbrev pub named_by : List CondToken → NumberedName → List NamedToken
-named_by tokens n = named_if (slice_get tokens n.number) n.name
+named_by tokens n = named_if (token_at tokens n.number) n.name
 
 module _ (on : ℕ → Bool) where
   -- what a configuration sees of what is told of units, with the tokens of their streams

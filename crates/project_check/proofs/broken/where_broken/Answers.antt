@@ -1,30 +1,12 @@
-use Rattle.std.proofs.Common.{◌≡◌, ℕ, ◌||◌, List, length, IsTrue, sym, ap, subst, ◌∙◌}
-use Rattle.std.proofs.lemmas.List.{length-map}
-use Rattle.text_edits.specs.Files.{PlainFile, plain_files}
+use Rattle.std.proofs.Common.{ap, sym, ◌∙◌}
 use Rattle.cond_formula.specs.Features.{has}
-use Rattle.cond_formula.specs.Conditions.{condition_of, value}
-use Rattle.project_file.specs.View.{project_view}
-use Rattle.project_store.specs.Reads.{names_of}
-use Rattle.project_check.specs.Broken.{TellsProgram}
-use Rattle.project_check.proofs.Present.{trees_are_written, trees_are_one}
-use Rattle.project_check.proofs.BrokenLemmas.{tells_program, at_these}
+use Rattle.cond_formula.specs.Conditions.{value}
 use Rattle.project_check.proofs.broken.where_broken.Goals as goal
+
+pub where_parsed_broken-requires-clause-parsed : goal.where_parsed_broken-requires-clause-parsed
+where_parsed_broken-requires-clause-parsed g c = λ c' admitted.
+    c.in_ok-parsed.ensures.parsed c' (ap (value (has c')) (sym c.in_ok-parsed.ensures.kept) ∙ admitted)
 
 pub returns-clause-exact : goal.returns-clause-exact
 returns-clause-exact g c = λ c' admitted.
-    let there : IsTrue (value (has c') (g.O.Oracle.admits c.parse_units.new.oracle)) = ap (value (has c')) c.in_ok-parsed.ensures.kept ∙ admitted in
-    let project = c.args.project.now in
-    let view = project_view project in
-    let files = plain_files c.args.files.now in
-    let parsed = c.in_ok-parsed.parsed in
-    let filed : length files ≡ length (names_of view) = sym (length-map files (λ (f : PlainFile). f.name)) ∙ ap (λ (names : List (List ℕ)). length names) c.requires.named in
-    let unread = value (has c') (condition_of parsed.unread) in
-    let treeless = value (has c') (condition_of parsed.treeless) in
-    let badly_made = value (has c') (condition_of c.in_ok-badly_made.badly_made) in
-    let is : value (has c') (condition_of c.in_ok-f.f) ≡ ((unread || treeless) || badly_made) = c.in_ok-f.ensures (has c') ∙ ap (λ b. b || badly_made) (c.in_ok-unparsed.ensures (has c')) in
-    subst (λ b. TellsProgram b view files (has c')) (sym is)
-    (tells_program c.programs_are_one.ensures (has c') project files parsed.forests.items unread treeless badly_made
-    (trees_are_written c.tokens_are_spelt.ensures view files (has c') filed)
-    (trees_are_one c.outcomes_are_one.ensures c.tokens_spell_one_unit.ensures view files (has c'))
-    (c.in_ok-parsed.ensures.parsed c' admitted)
-    (at_these (has c') project.units.items c.deref.result.now parsed.forests.items c.deref-2.result.now badly_made c.deref.ensures.value c.deref-2.ensures.value (c.in_ok-badly_made.ensures.exact c' there)))
+    c.in_ok-f.ensures.exact c' (ap (value (has c')) c.in_ok-parsed.ensures.kept ∙ admitted)
