@@ -1,6 +1,6 @@
 -- What is said of an occurrence in some unit, unit by unit.
-use Rattle.std.proofs.Common.{◌≡◌, zero, suc, List, [], ◌∷◌, ◌++◌, Some, inl, inr, Contains, refl, ap, sym, subst, ◌∙◌}
-use Rattle.std.specs.Prelude.{◌⊎◌, ◌↔◌, IsTrue}
+use Rattle.std.proofs.Common.{◌≡◌, ℕ, zero, suc, List, [], ◌∷◌, ◌++◌, Some, inl, inr, Contains, refl, subst}
+use Rattle.std.specs.Prelude.{◌⊎◌, ◌↔◌, IsTrue, slice_get}
 use Rattle.std.proofs.lemmas.List.Elements.{Contains-append_left, Contains-append_right, Contains-append_cases}
 use Rattle.program_occurrences.specs.Occurrences.{UnitNames, Occurrence, occurrences_of, declares_itself, OccursIn, CommonName, common_name}
 use Rattle.program_occurrences.specs.Classes.{PlainFileToken, file_token, declaring_token}
@@ -35,11 +35,13 @@ module _ (P : UnitNames → Occurrence → Type 0) (unit : UnitNames) (units : L
   }
 
   said_cases : IsSaidIn P (unit ∷ units) → IsSaidOf P unit ⊎ IsSaidIn P units
-  said_cases (record { found = record { place = zero; unit = u; is_unit = is; occurrence = o; among = among }; holds = holds }) =
-      let same : u ≡ unit = cc in
-      inl (record { occurrence = o; among = subst (λ (x : UnitNames). Contains (occurrences_of x) o) same among; holds = subst (λ (x : UnitNames). P x o) same holds })
-  said_cases (record { found = record { place = suc k; unit = u; is_unit = is; occurrence = o; among = among }; holds = holds }) =
-      inr (record { found = record { place = k; unit = u; is_unit = is; occurrence = o; among = among }; holds = holds })
+  said_cases h = by h.found.place h.found.unit h.found.is_unit h.found.occurrence h.found.among h.holds
+    where
+      by : (place : ℕ) (u : UnitNames) → slice_get (unit ∷ units) place ≡ Some u → (o : Occurrence) → Contains (occurrences_of u) o → P u o → IsSaidOf P unit ⊎ IsSaidIn P units
+      by zero u is o among holds =
+          let same : u ≡ unit = cc in
+          inl (record { occurrence = o; among = subst (λ (x : UnitNames). Contains (occurrences_of x) o) same among; holds = subst (λ (x : UnitNames). P x o) same holds })
+      by (suc k) u is o among holds = inr (record { found = record { place = k; unit = u; is_unit = is; occurrence = o; among = among }; holds = holds })
 
   -- what is listed of this unit, and behind it of these, is said of all
   pub said_together :
@@ -69,11 +71,13 @@ pub record Names (token : PlainFileToken) (name : CommonName) (unit : UnitNames)
   pub name_is : common_name unit o.identifier ≡ Some name
 
 pub declared_as_said : (units : List UnitNames) (a b : PlainFileToken) → IsSaidIn (Ties a b) units ↔ IsDeclaredBy units a b
-declared_as_said units a b =
-    (λ h. record { found = h.found; identifier_is = h.holds.identifier_is; declared_by_is = h.holds.declared_by_is },
-    λ d. record { found = d.found; holds = record { identifier_is = d.identifier_is; declared_by_is = d.declared_by_is } })
+declared_as_said units a b = (
+  λ h. record { found = h.found; identifier_is = h.holds.identifier_is; declared_by_is = h.holds.declared_by_is },
+  λ d. record { found = d.found; holds = record { identifier_is = d.identifier_is; declared_by_is = d.declared_by_is } },
+)
 
 pub named_as_said : (units : List UnitNames) (token : PlainFileToken) (name : CommonName) → IsSaidIn (Names token name) units ↔ DeclaresName units token name
-named_as_said units token name =
-    (λ h. record { found = h.found; itself = h.holds.itself; token_is = h.holds.token_is; name_is = h.holds.name_is },
-    λ d. record { found = d.found; holds = record { itself = d.itself; token_is = d.token_is; name_is = d.name_is } })
+named_as_said units token name = (
+  λ h. record { found = h.found; itself = h.holds.itself; token_is = h.holds.token_is; name_is = h.holds.name_is },
+  λ d. record { found = d.found; holds = record { itself = d.itself; token_is = d.token_is; name_is = d.name_is } },
+)

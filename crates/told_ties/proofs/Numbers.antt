@@ -1,5 +1,5 @@
 -- The identifiers of a unit are tokens of its tree, and these are copies of tokens of its stream, by their numbers.
-use Rattle.std.proofs.Common.{◌≡◌, ℕ, zero, suc, ◌+◌, Bool, true, false, List, [], ◌∷◌, map, get_or, Option, Some, None, Contains, refl, sym, ap, subst, ◌∙◌, arith}
+use Rattle.std.proofs.Common.{◌≡◌, ℕ, zero, suc, ◌+◌, Bool, true, false, List, [], ◌∷◌, map, Option, Some, Contains, refl, sym, ap, subst, ◌∙◌, arith}
 use Rattle.std.specs.Prelude.{if◌then◌else◌, slice_get, option_map}
 use Rattle.std.proofs.lemmas.Option.{slice_get-map, get_or_from_slice_get}
 use Rattle.cond_formula.specs.Conditions.{condition_of, value}
@@ -7,7 +7,7 @@ use Rattle.c_text.specs.Token.{PlainToken, plain_token}
 use Rattle.c_tree.specs.Trees.{PlainTree, spelled}
 use Rattle.choice_trees.specs.declared.trees.Forest.{Forest}
 use Rattle.choice_trees.specs.ChoiceTrees.{forest_at}
-use Rattle.choice_trees.specs.Leaves.{Leaf, forest_leaves, texts, LeavesAreSpelled}
+use Rattle.choice_trees.specs.Leaves.{Leaf, forest_leaves, LeavesAreSpelled}
 use Rattle.core_meaning.specs.Checking.{Binding, Checked}
 use Rattle.core_meaning.specs.UnitNames.{UnitState}
 use Rattle.bindings.specs.Bindings.{is_name}

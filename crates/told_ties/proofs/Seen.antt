@@ -99,17 +99,19 @@ module _ (on : ℕ → Bool) where
       by false h = h
 
 ties_as_seen : (all : PlainTiedTokens) (c : List Bool) (a b : PlainFileToken) → Ties all c a b ↔ Contains (tied_seen (has c) all.ties) (tied a b)
-ties_as_seen all c a b =
-    (λ h. there h.tie h.among h.holds h.identifier_is h.declared_by_is,
-    λ h. let t = ties_of_seen (has c) all.ties a b h in record { tie = t.tie; among = t.among; holds = t.holds; identifier_is = t.identifier_is; declared_by_is = t.declared_by_is })
+ties_as_seen all c a b = (
+  λ h. there h.tie h.among h.holds h.identifier_is h.declared_by_is,
+  λ h. let t = ties_of_seen (has c) all.ties a b h in record { tie = t.tie; among = t.among; holds = t.holds; identifier_is = t.identifier_is; declared_by_is = t.declared_by_is },
+)
   where
     there : (tie : PlainTie) → Contains all.ties tie → IsTrue (value (has c) tie.when) → tie.identifier ≡ a → tie.declared_by ≡ b → Contains (tied_seen (has c) all.ties) (tied a b)
     there tie among holds i d = rw (sym i, sym d) (seen_of_ties (has c) all.ties tie among holds)
 
 names_as_seen : (all : PlainTiedTokens) (c : List Bool) (token : PlainFileToken) (name : CommonName) → Names all c token name ↔ Contains (named_seen (has c) all.names) (named token name)
-names_as_seen all c token name =
-    (λ h. there h.entry h.among h.holds h.token_is h.name_is,
-    λ h. let n = names_of_seen (has c) all.names token name h in record { entry = n.entry; among = n.among; holds = n.holds; token_is = n.token_is; name_is = n.name_is })
+names_as_seen all c token name = (
+  λ h. there h.entry h.among h.holds h.token_is h.name_is,
+  λ h. let n = names_of_seen (has c) all.names token name h in record { entry = n.entry; among = n.among; holds = n.holds; token_is = n.token_is; name_is = n.name_is },
+)
   where
     there : (entry : PlainDeclaredName) → Contains all.names entry → IsTrue (value (has c) entry.when) → entry.token ≡ token → entry.name ≡ name → Contains (named_seen (has c) all.names) (named token name)
     there entry among holds t n = rw (sym t, sym n) (seen_of_names (has c) all.names entry among holds)

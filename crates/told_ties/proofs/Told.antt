@@ -3,7 +3,6 @@ use Rattle.std.proofs.Common.{◌≡◌, ℕ, Bool, true, false, List, [], ◌�
 use Rattle.std.specs.Prelude.{◌↔◌, IsTrue, flat_map, if◌then◌else◌}
 use Rattle.std.specs.List.{AllZip}
 use Rattle.cond_formula.specs.Conditions.{condition_of, value}
-use Rattle.c_tree.specs.Trees.{PlainTree}
 use Rattle.core_meaning.specs.Checking.{Checked}
 use Rattle.core_meaning.specs.Entities.{Struct}
 use Rattle.core_meaning.specs.UnitNames.{UnitState}
@@ -26,12 +25,12 @@ use Rattle.name_spaces.specs.Laws.{declared_name}
 use Rattle.moved_programs.specs.Trees.{moved_tree}
 use Rattle.changed_forests.specs.Numbered.{unsited, AreSameButSites, IsNumbered}
 use Rattle.changed_forests.specs.Laws.{ChangesAreSeen, NumberingsAreSeen}
-use Rattle.sited_names.specs.Laws.{AreTiedAlike, SitesDontTie}
+use Rattle.sited_names.specs.Laws.{SitesDontTie}
 use Rattle.told_occurrences.specs.declared.told.ToldUnit.{ToldUnit}
-use Rattle.told_occurrences.specs.Told.{number_in, pair_of, pairs_of, NumberedName, numbered, names_of, IsTold}
+use Rattle.told_occurrences.specs.Told.{number_in, pair_of, pairs_of, NumberedName, numbered, names_of}
 use Rattle.told_occurrences.specs.Units.{names_seen, IsToldAs, IsSilent, AreTold, no_more, present, absent}
 use Rattle.told_ties.specs.Ties.{TiedPair, tied, NamedToken, named, token_at, tied_if, tied_by, named_if, named_by, tied_in, named_in}
-use Rattle.told_ties.specs.Laws.{TieUnits, OccurrencesAreTied}
+use Rattle.told_ties.specs.Laws.{OccurrencesAreTied}
 use Rattle.told_ties.proofs.Lists.{none_among, alone_among, first_among, made_of, makes}
 use Rattle.told_ties.proofs.Numbers.{IsCopied, occurrence_copied}
 use Rattle.told_ties.proofs.Found.{IsSaidOf, IsSaidIn, said_of_none, said_together, Ties, Names, declared_as_said, named_as_said}
@@ -99,11 +98,11 @@ module _ (tokens : List CondToken) (numbers : List ℕ) (unit : UnitNames) (copi
           let m = made_of (named_by tokens) names (named t n) h in
           let s = made_of of_occurrence (occurrences_of unit) m.source ((same m.source).0 m.among) in
           let o = s.source in
-          let as = numbered_as (number_in numbers o.identifier.number) (declared_name unit o) m.source s.made in
+          let told = numbered_as (number_in numbers o.identifier.number) (declared_name unit o) m.source s.made in
           let made : Contains (named (file_token o) m.source.name ∷ []) (named t n)
-          = subst (λ (ts : List NamedToken). Contains ts (named t n)) (ap (λ k. named_if (token_at tokens k) m.source.name) (sym as.number_is) ∙ name_is o s.among m.source.name) m.made in
+          = subst (λ (ts : List NamedToken). Contains ts (named t n)) (ap (λ k. named_if (token_at tokens k) m.source.name) (sym told.number_is) ∙ name_is o s.among m.source.name) m.made in
           let e = alone_among (named (file_token o) m.source.name) (named t n) made in
-          let d = declares (declares_itself o) (common_name unit o.identifier) m.source.name as.name_is in
+          let d = declares (declares_itself o) (common_name unit o.identifier) m.source.name told.name_is in
           record {
             occurrence = o;
             among = s.among;
@@ -178,7 +177,7 @@ module _ (declared : DeclarationsAreOccurrences) (spelt : LeavesAreSpelled) (see
   all_tied (stream ∷ streams) forests structs no_more are leaves numbers_are = absurd leaves
   all_tied [] forests structs (present there is rest) are leaves numbers_are = absurd leaves
   all_tied (stream ∷ streams) [] structs (present there is rest) are leaves numbers_are = absurd leaves
-  all_tied (stream ∷ streams) (old ∷ forests) structs (present {unit} {units} {forest} {new} {names} {more} {told} there is rest) are leaves numbers_are =
+  all_tied (stream ∷ streams) (old ∷ forests) structs (present {unit = unit} {units = units} {forest = forest} {forests = new} {names = names} {more = more} {told = told} there is rest) are leaves numbers_are =
       let tree = forest_at on forest in
       let both = parts_of names (names_of_unit tree (judged_behind structs tree)) more (names_behind (structs_behind structs (judged_behind structs tree)) (present_trees on units new))
       (are ∙ ap (names_behind structs) (if_present (value on (condition_of unit.when)) tree (present_trees on units new) there)) in
@@ -186,7 +185,7 @@ module _ (declared : DeclarationsAreOccurrences) (spelt : LeavesAreSpelled) (see
       (all_tied streams forests (structs_behind structs (judged_behind structs tree)) rest both.1 leaves.1 numbers_are.1)
   all_tied [] forests structs (absent there silent rest) are leaves numbers_are = absurd leaves
   all_tied (stream ∷ streams) [] structs (absent there silent rest) are leaves numbers_are = absurd leaves
-  all_tied (stream ∷ streams) (old ∷ forests) structs (absent {unit} {units} {forest} {new} {more} {told} there silent rest) are leaves numbers_are =
+  all_tied (stream ∷ streams) (old ∷ forests) structs (absent {unit = unit} {units = units} {forest = forest} {forests = new} {more = more} {told = told} there silent rest) are leaves numbers_are =
       silent_tied stream.tokens.items told more _ _ silent
       (all_tied streams forests structs rest (are ∙ ap (names_behind structs) (if_absent (value on (condition_of unit.when)) (forest_at on forest) (present_trees on units new) there)) leaves.1 numbers_are.1)
 
