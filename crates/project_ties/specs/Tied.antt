@@ -1,14 +1,11 @@
 -- Ties whose conditions name the features of a project alone.
 use Rattle.std.specs.Prelude.{ℕ, Bool, List, map, All, IsTrue}
 use Rattle.cond_formula.specs.Features.{has}
-use Rattle.cond_formula.specs.Conditions.{Condition, value, condition_of, VarsBelow}
-use Rattle.feature_model.specs.ModelView.{admitted}
+use Rattle.cond_formula.specs.Conditions.{Condition, value, VarsBelow}
 use Rattle.feature_ranges.specs.Ranges.{IsOffFrom}
-use Rattle.project_file.specs.declared.projects.Project.{Project}
 use Rattle.tied_tokens.specs.declared.names.DeclaredName.{DeclaredName}
 use Rattle.tied_tokens.specs.declared.ties.Tie.{Tie}
-use Rattle.tied_tokens.specs.Ties.{PlainTiedTokens, plain_tie, plain_declared_name}
-use Rattle.project_ties.specs.declared.projects.ProjectTies.{ProjectTies}
+use Rattle.tied_tokens.specs.Ties.{plain_tie, plain_declared_name}
 
 -- a configuration that this condition admits, with none but so many features
 pub record IsOwn (features : ℕ) (admits : Condition) (c : List Bool) : Type 0 where
@@ -20,12 +17,3 @@ TiesBelow features ties = All (λ tie. VarsBelow features tie.when) (map plain_t
 
 abbrev pub NamesBelow : ℕ → List DeclaredName → Type 0
 NamesBelow features names = All (λ n. VarsBelow features n.when) (map plain_declared_name names)
-
--- the ties and names of a project, in the configurations that it admits
-abbrev pub tied_tokens_of : Project → ProjectTies → PlainTiedTokens
-tied_tokens_of project t = record {
-  admitted = admitted project.model;
-  accepted = condition_of t.accepted;
-  ties = map plain_tie t.ties.items;
-  names = map plain_declared_name t.names.items;
-}

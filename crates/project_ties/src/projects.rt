@@ -17,7 +17,8 @@ ghost use Rattle.tied_tokens.specs.Ties.{plain_tied_tokens};
 ghost use Rattle.tied_classes.specs.Told.{TellsProducts};
 ghost use Rattle.changed_forests.specs.Numbered.{IsNumbered};
 ghost use Rattle.told_occurrences.specs.Units.{AreTold};
-ghost use Rattle.project_ties.specs.Tied.{IsOwn, tied_tokens_of};
+ghost use Rattle.project_ties.specs.Tied.{IsOwn};
+ghost use Rattle.project_ties.specs.Projects.{tied_tokens_of};
 
 use crate::conditions::own_condition;
 use crate::names::names_of_units;
