@@ -1,6 +1,6 @@
 -- Ties and names, pushed one by one.
-use Rattle.std.proofs.Common.{◌≡◌, ℕ, zero, suc, ◌+◌, ◌<◌, ◌≤◌, Bool, true, false, List, [], ◌∷◌, ◌++◌, map, drop, length, get_or, min, Option, Some, None, inl, inr, refl, sym, ap, subst, ◌∙◌, arith}
-use Rattle.std.specs.Prelude.{◌⊎◌, flat_map, IsTrue, if◌then◌else◌}
+use Rattle.std.proofs.Common.{◌≡◌, ℕ, zero, suc, ◌+◌, ◌<◌, ◌≤◌, Bool, true, false, List, [], ◌∷◌, ◌++◌, map, drop, length, get_or, min, Option, Some, None, inl, inr, refl, sym, ap, ◌∙◌, arith}
+use Rattle.std.specs.Prelude.{◌⊎◌, flat_map, if◌then◌else◌}
 use Rattle.std.proofs.lemmas.List.{append_assoc, append-nil, map-append, drop_more, drop_all}
 use Rattle.std.proofs.lemmas.List.Concat.{flat_map-append}
 use Rattle.cond_formula.specs.Features.{has}
@@ -15,9 +15,8 @@ use Rattle.tied_tokens.specs.declared.ties.Tie.{Tie}
 use Rattle.tied_tokens.specs.Ties.{PlainTie, plain_tie, PlainDeclaredName, plain_declared_name}
 use Rattle.told_occurrences.specs.declared.told.ToldName.{ToldName}
 use Rattle.told_occurrences.specs.declared.told.ToldUnit.{ToldUnit}
-use Rattle.told_occurrences.specs.Told.{NumberedName}
 use Rattle.told_occurrences.specs.Units.{plain_name, names_seen}
-use Rattle.told_ties.specs.Ties.{TiedPair, tied, NamedToken, named, tied_seen, named_seen, token_at, tied_if, tied_by, named_if, named_by, tied_in, named_in}
+use Rattle.told_ties.specs.Ties.{tied, named, tied_seen, named_seen, token_at, tied_if, tied_by, named_if, named_by, tied_in, named_in}
 use Rattle.project_ties.specs.Tied.{IsOwn}
 
 -- the same under a condition that is the same

@@ -1,4 +1,4 @@
-use Rattle.std.proofs.Common.{◌≡◌, ◌≤◌, List, Bool, ◌++◌, map, drop, length}
+use Rattle.std.proofs.Common.{◌≡◌, List, Bool, ◌++◌, map, drop}
 use Rattle.cond_formula.specs.Features.{has}
 use Rattle.tied_tokens.specs.Ties.{plain_tie}
 use Rattle.told_ties.specs.Ties.{tied_seen, tied_in}
