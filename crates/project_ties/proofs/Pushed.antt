@@ -1,6 +1,6 @@
 -- Ties and names, pushed one by one.
 use Rattle.std.proofs.Common.{◌≡◌, ℕ, zero, suc, ◌+◌, ◌<◌, ◌≤◌, Bool, true, false, List, [], ◌∷◌, ◌++◌, map, drop, length, get_or, min, Option, Some, None, inl, inr, refl, sym, ap, ◌∙◌, arith}
-use Rattle.std.specs.Prelude.{◌⊎◌, flat_map, if◌then◌else◌}
+use Rattle.std.specs.Prelude.{◌⊎◌, not, flat_map, if◌then◌else◌}
 use Rattle.std.proofs.lemmas.List.{append_assoc, append-nil, map-append, drop_more, drop_all}
 use Rattle.std.proofs.lemmas.List.Concat.{flat_map-append}
 use Rattle.cond_formula.specs.Features.{has}
@@ -200,3 +200,7 @@ one_ends a b n e = by (either_order a b)
     by : (a ≤ b) ⊎ (b ≤ a) → (a ≤ n) ⊎ (b ≤ n)
     by (inl h) = inl (omega (arith, h, e))
     by (inr h) = inr (omega (arith, h, e))
+
+pub not_not : (b : Bool) → not (not b) ≡ b
+not_not true = refl
+not_not false = refl

@@ -20,7 +20,9 @@ returns-clause-exact g c = λ c' admitted.
     let unread = value (has c') (condition_of parsed.unread) in
     let treeless = value (has c') (condition_of parsed.treeless) in
     let badly_made = value (has c') (condition_of c.in_ok-badly_made.badly_made) in
-    let is : value (has c') (condition_of c.in_ok-f.f) ≡ ((unread || treeless) || badly_made) = c.in_ok-f.ensures (has c') ∙ ap (λ b. b || badly_made) (c.in_ok-unparsed.ensures (has c')) in
+    let copies : (value (has c') (condition_of c.in_ok-unread.unread) || value (has c') (condition_of c.in_ok-treeless.treeless)) ≡ (unread || treeless)
+    = ap (λ b. b || value (has c') (condition_of c.in_ok-treeless.treeless)) (ap (value (has c')) c.in_ok-unread.ensures) ∙ ap (λ b. unread || b) (ap (value (has c')) c.in_ok-treeless.ensures) in
+    let is : value (has c') (condition_of c.in_ok-f.f) ≡ ((unread || treeless) || badly_made) = c.in_ok-f.ensures (has c') ∙ ap (λ b. b || badly_made) (c.in_ok-unparsed.ensures (has c') ∙ copies) in
     subst (λ b. TellsProgram b view files (has c')) (sym is)
     (tells_program c.programs_are_one.ensures (has c') project files parsed.forests.items unread treeless badly_made
     (trees_are_written c.tokens_are_spelt.ensures view files (has c') filed)
