@@ -1,0 +1,2 @@
+pub mod Unsited
+pub mod Laws
