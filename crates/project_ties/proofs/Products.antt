@@ -42,9 +42,17 @@ also : {A B C : Type 0} → A ↔ B → B ↔ C → A ↔ C
 also f g = (λ x. g.0 (f.0 x), λ z. f.1 (g.1 z))
 
 -- what becomes of units that all have a tree
-record HaveTrees (on : ℕ → Bool) (project : Project) (files : List PlainFile) (treeless : Bool) (forests : List Forest) : Type 0 where
-  well : treeless ≡ false
-  trees : AreTrees (project_view project) files on (present_trees on project.units.items forests)
+pub record HaveTrees (on : ℕ → Bool) (project : Project) (files : List PlainFile) (treeless : Bool) (forests : List Forest) : Type 0 where
+  pub well : treeless ≡ false
+  pub trees : AreTrees (project_view project) files on (present_trees on project.units.items forests)
+
+-- the units of a product have trees
+pub have_trees :
+    ProgramsAreOne → (project : Project) (files : List PlainFile) (forests : List Forest) (c : List Bool) → Product (project_view project) files c → (unread treeless : Bool)
+    → AreReadUnits (has c) project files unread treeless forests → HaveTrees (has c) project files treeless forests
+have_trees one project files forests c product true treeless h = absurd (one.not_both (project_view project) files (has c) product.program Preprocess product.is_program h)
+have_trees one project files forests c product false true h = absurd (one.not_both (project_view project) files (has c) product.program Parse product.is_program h)
+have_trees one project files forests c product false false h = record { well = refl; trees = h }
 
 module _ (one : ProgramsAreOne) (outcomes : OutcomesAreOne) (only : TreesAreOne) (tied_law : OccurrencesAreTied) (seen : TiesAreSeen)
     (project : Project) (files : List PlainFile) (parsed : ParsedUnits) (numbered : List Forest) (told : List ToldUnit) (t : ProjectTies)
@@ -71,16 +79,11 @@ module _ (one : ProgramsAreOne) (outcomes : OutcomesAreOne) (only : TreesAreOne)
       off = λ feature past. is.within feature (subst (λ (n : ℕ). n ≤ feature) (sym same_many) past);
     }
 
-    have_trees : (c : List Bool) → Product (project_view project) files c → (unread treeless : Bool) → AreReadUnits (has c) project files unread treeless parsed.forests.items → HaveTrees (has c) project files treeless parsed.forests.items
-    have_trees c product true treeless h = absurd (one.not_both (project_view project) files (has c) product.program Preprocess product.is_program h)
-    have_trees c product false true h = absurd (one.not_both (project_view project) files (has c) product.program Parse product.is_program h)
-    have_trees c product false false h = record { well = refl; trees = h }
-
     tie_units : (c : List Bool) (product : Product (project_view project) files c) → TieUnits (names_in product) (tied_in (has c) parsed.streams.items told) (named_in (has c) parsed.streams.items told)
     tie_units c product =
         let is = own c product.admitted in
         let trees = present_trees (has c) project.units.items parsed.forests.items in
-        let h = have_trees c product (value (has c) (condition_of parsed.unread)) (value (has c) (condition_of parsed.treeless)) (are_parsed c is.admitted) in
+        let h = have_trees one project files parsed.forests.items c product (value (has c) (condition_of parsed.unread)) (value (has c) (condition_of parsed.treeless)) (are_parsed c is.admitted) in
         let same : product.is_program.trees ≡ trees
         = trees_are_one outcomes only (project_view project) files (has c) trees product.is_program.trees h.trees product.is_program.are_trees in
         subst (λ (ts : List PlainTree). TieUnits (names_of_units ts) (tied_in (has c) parsed.streams.items told) (named_in (has c) parsed.streams.items told)) (sym same)

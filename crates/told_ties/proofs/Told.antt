@@ -191,7 +191,7 @@ module _ (declared : DeclarationsAreOccurrences) (spelt : LeavesAreSpelled) (see
 
 -- ---- with the sites that tokens had
 
-same_trees : NumberingsAreSeen → (on : ℕ → Bool) (units : List Unit) (forests new : List Forest) → AllZip IsNumbered forests new → AreSameButSites (present_trees on units new) (present_trees on units forests)
+pub same_trees : NumberingsAreSeen → (on : ℕ → Bool) (units : List Unit) (forests new : List Forest) → AllZip IsNumbered forests new → AreSameButSites (present_trees on units new) (present_trees on units forests)
 same_trees seen on [] forests new h = refl
 same_trees seen on (unit ∷ units) [] [] h = refl
 same_trees seen on (unit ∷ units) [] (f ∷ new) h = absurd h
