@@ -1,0 +1,10 @@
+pub mod Rows
+pub mod Walked
+pub mod Quiet
+pub mod Members
+pub mod Structs
+pub mod Unused
+pub mod Leaves
+pub mod Uses
+pub mod Names
+pub mod Units
