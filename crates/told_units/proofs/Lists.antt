@@ -25,7 +25,7 @@ use Rattle.told_occurrences.specs.Units.{names_seen}
 use Rattle.told_occurrences.specs.Units as told
 use Rattle.told_occurrences.specs.declared.told.ToldName.{ToldName}
 use Rattle.declared_tokens.specs.Declarations.{declared_among, is_among}
-use Rattle.told_units.specs.Read.{is_own_pair, name_read, names_read}
+use Rattle.read_occurrences.specs.Read.{is_own_pair, name_read, names_read}
 
 module _ (on : ℕ → Bool) where
   -- the pairs of two lists

@@ -1,4 +1,4 @@
--- What is told of each unit is what its readers note, one unit behind the other.
+-- What is told of each unit is what its readers note, which is what there is in it, one unit behind the other.
 use Rattle.std.proofs.Common.{◌≡◌, ℕ, zero, suc, ◌+◌, Bool, true, false, List, [], ◌∷◌, ◌++◌, length, get_or, map, refl, sym, ap, subst, ◌∙◌, if◌then◌else◌}
 use Rattle.std.specs.Prelude.{not, Some, slice_get, filter}
 use Rattle.std.specs.List.{AllZip}
@@ -8,6 +8,7 @@ use Rattle.conditional.specs.declared.lists.CondList.{CondList}
 use Rattle.c_tree.specs.Trees.{PlainTree}
 use Rattle.choice_trees.specs.declared.trees.Forest.{Forest}
 use Rattle.choice_trees.specs.ChoiceTrees.{forest_at}
+use Rattle.choice_trees.specs.Leaves.{forest_leaves, LeavesAreSpelled}
 use Rattle.project_file.specs.declared.projects.Unit.{Unit}
 use Rattle.bindings.specs.Laws.{AreWritten}
 use Rattle.core_meaning.specs.Checking.{Binding, Checked, fine, refused, broken, ◌>>=◌, give}
@@ -17,9 +18,10 @@ use Rattle.core_meaning.specs.Linking.{Units, closed, judged_units, no_numbers, 
 use Rattle.core_meaning.specs.Linking as linking
 use Rattle.core_meaning.proofs.Outlines.{bound, given_is}
 use Rattle.core_numbers.specs.Laws.{BindingsNeedNoNumbers}
-use Rattle.program_occurrences.specs.Occurrences.{UnitNames, names_of_unit, judged_behind, structs_behind, has_external, is_external_name}
+use Rattle.program_occurrences.specs.Occurrences.{UnitNames, names_of_unit, judged_behind, structs_behind, names_behind, names_of_units, has_external, is_external_name}
 use Rattle.cond_bindings.specs.declared.unit_bindings.UnitBindings.{UnitBindings}
 use Rattle.cond_bindings.specs.declared.unit_bindings.CondBindings.{CondBindings}
+use Rattle.cond_scopes.specs.Progress.{numbers as numbers_of}
 use Rattle.cond_scopes.specs.Units.{IsScoped, UnitsAreScoped, AreScoped, present_trees, bindings_at}
 use Rattle.member_uses.specs.Uses.{Use, uses_in}
 use Rattle.type_tables.specs.declared.tables.Tables.{Tables}
@@ -38,11 +40,14 @@ use Rattle.cond_unit_uses.specs.Units.{uses_in_units, of_units, AreNoted}
 use Rattle.cond_unit_uses.specs.declared.units.UnitUses.{UnitUses}
 use Rattle.cond_types.specs.declared.typing.CondTypes.{CondTypes}
 use Rattle.cond_types.specs.Typed.{IsLinkable}
-use Rattle.told_occurrences.specs.Units.{IsSilent}
+use Rattle.told_occurrences.specs.Told.{IsTold}
+use Rattle.told_occurrences.specs.Leaves.{TellNumbers}
+use Rattle.told_occurrences.specs.Units.{names_seen, IsSilent, AreTold, no_more, present, absent}
 use Rattle.told_occurrences.specs.declared.told.ToldUnit.{ToldUnit}
-use Rattle.told_units.specs.Read.{names_read}
+use Rattle.read_occurrences.specs.Read.{names_read}
+use Rattle.read_occurrences.specs.Laws.{IsUnit, AreTags, names_in_spaces, unit_pairs, OccurrencesAreRead}
 use Rattle.told_units.specs.Told.{TellsExternal, bound_pairs, IsToldBy, AreToldFrom}
-use Rattle.told_units.specs.Units.{structs_of, AreLeftWherePresent, IsReadAs, AreRead, no_more, present, absent}
+use Rattle.told_units.specs.Units.{AreLeftWherePresent, UnitsTellNumbers}
 use Rattle.told_units.proofs.Lists.{external_alike}
 use Rattle.told_units.proofs.Structs.{KeepNames, keep_all, keep_both, unit_keeps_names}
 
@@ -118,7 +123,7 @@ units_keep_names index structs (tree ∷ rest) all js e =
 
 -- ---- what is told
 
-module _ (on : ℕ → Bool) (no_need : BindingsNeedNoNumbers) (by : ℕ → ℕ) (tables : Tables) (numbers : ℕ → Numbers) (globals : ℕ)
+module _ (on : ℕ → Bool) (no_need : BindingsNeedNoNumbers) (spelled_alike : LeavesAreSpelled) (are_read : OccurrencesAreRead) (by : ℕ → ℕ) (tables : Tables) (numbers : ℕ → Numbers) (globals : ℕ)
     (left_tables : Tables) (left_by : ℕ → ℕ) (final : List Struct) where
   -- The units that are left are judged well, with these numbers and with none; these leave what they do, and structs have their tags.
   pub record AreAhead (structs : List Struct) (index : ℕ) (trees : List PlainTree) (left : List LeftUnit) : Type 0 where
@@ -144,9 +149,9 @@ module _ (on : ℕ → Bool) (no_need : BindingsNeedNoNumbers) (by : ℕ → ℕ
       ∙ external_alike left_by _ (unit.names name) (name_seen on left.names.items name) (leaves.names name)
 
   module _ (structs : List Struct) (index : ℕ) (unit : Unit) (units : List Unit) (forest : Forest) (forests : List Forest) (b : UnitBindings) (l : LeftUnit) (left : List LeftUnit) (u : CondList Selection)
-      (uses : List (CondList Selection)) (told : ToldUnit) (all : List ToldUnit) (scoped : IsScoped on (condition_of unit.when) forest b) (tells : IsToldBy on (condition_of unit.when) forest b l tables u told)
+      (uses : List (CondList Selection)) (told : ToldUnit) (all : List ToldUnit) (scoped : IsScoped on (condition_of unit.when) forest b) (telling : value on (condition_of unit.when) ≡ true → TellNumbers (forest_leaves on forest)) (tells : IsToldBy on (condition_of unit.when) forest b l tables u told)
       (go_on : (structs : List Struct) (index : ℕ) → AreAhead structs index (present_trees on units forests) (filter (is_present on) left)
-      → map (uses_at on) uses ≡ of_units on units (uses_ahead structs index (present_trees on units forests)) → AreRead on structs units forests all) where
+      → map (uses_at on) uses ≡ of_units on units (uses_ahead structs index (present_trees on units forests)) → AreTold on units forests (names_behind structs (present_trees on units forests)) all) where
     abbrev tree : PlainTree
     tree = forest_at on forest
 
@@ -161,7 +166,7 @@ module _ (on : ℕ → Bool) (no_need : BindingsNeedNoNumbers) (by : ℕ → ℕ
     of_none off (list ∷ lists) = ap (λ b. if b then list ∷ of_units on units lists else [] ∷ of_units on units (list ∷ lists)) off
 
     unit_present : value on (condition_of unit.when) ≡ true → AreAhead structs index (tree ∷ rest) (l ∷ filter (is_present on) left)
-        → uses_at on u ∷ map (uses_at on) uses ≡ of_units on (unit ∷ units) (uses_ahead structs index (tree ∷ rest)) → AreRead on structs (unit ∷ units) (forest ∷ forests) (told ∷ all)
+        → uses_at on u ∷ map (uses_at on) uses ≡ of_units on (unit ∷ units) (uses_ahead structs index (tree ∷ rest)) → AreTold on (unit ∷ units) (forest ∷ forests) (names_behind structs (tree ∷ rest)) (told ∷ all)
     unit_present here at used =
         let f = followed no_numbers 0 index structs tree rest at.first at.first_bindings at.judged in
         let g = followed numbers globals index structs tree rest at.linked at.linked_bindings at.judged_again in
@@ -185,32 +190,33 @@ module _ (on : ℕ → Bool) (no_need : BindingsNeedNoNumbers) (by : ℕ → ℕ
           tags = λ n s e. at.tags n s (ap (λ l. slice_get l n) f.structs_are ∙ e);
         } in
         let keeps : KeepNames state.scope.structs f.others.structs = units_keep_names (index + 1) state.scope.structs rest f.others f.bindings next.judged in
-        let behind : structs_of structs tree ≡ state.scope.structs = ap (structs_behind structs) well in
+        let behind : structs_behind structs (judged_behind structs tree) ≡ state.scope.structs = ap (structs_behind structs) well in
         let own : List Pair = declared_pairs (bindings_at on forest) in
         let bound_are : bound_pairs on b ≡ own = ap declared_pairs (scoped.present here at.written.0.unit) in
         let external = tells_external tree structs state f.closed_as.js g.closed_as.unit l well (g.closed_as.names ∙ sym same.names) leave.0 in
-        let reading : IsReadAs on structs forest told = record {
-          by = by;
-          tag = tag_of tables;
-          tags = λ n s e.
-              let kept = keeps n s (ap (λ l. slice_get l n) (sym behind) ∙ e) in
-              next.tags n kept.0 kept.1 ∙ kept.2;
-          pairs =
-              tells.pairs
-              ∙ ap (λ ps. ps ++ pairs_of_uses (tag_of tables) (under (value on (condition_of unit.when)) (spaces_at on forest)) (uses_at on u)) bound_are
-              ∙ ap (λ w. own ++ pairs_of_uses (tag_of tables) (under w (spaces_at on forest)) (uses_at on u)) here
-              ∙ ap (λ list. own ++ pairs_of_uses (tag_of tables) (spaces_at on forest) list) uses_are.0;
-          names =
-              tells.names (names_of_unit tree (judged_behind structs tree)) external
-              ∙ ap (λ w. names_read (names_of_unit tree (judged_behind structs tree)) (pairs_seen on told.pairs.items) (under w (spaces_at on forest))) here;
-        } in
-        present here reading
-        (subst (λ before. AreRead on before units forests all) (sym behind)
+        let names : UnitNames = names_of_unit tree (judged_behind structs tree) in
+        let leaves = forest_leaves on forest in
+        let pairs : List Pair = unit_pairs leaves structs tree by (tag_of tables) in
+        let pairs_are : pairs_seen on told.pairs.items ≡ pairs =
+        tells.pairs
+        ∙ ap (λ ps. ps ++ pairs_of_uses (tag_of tables) (under (value on (condition_of unit.when)) (spaces_at on forest)) (uses_at on u)) bound_are
+        ∙ ap (λ w. own ++ pairs_of_uses (tag_of tables) (under w (spaces_at on forest)) (uses_at on u)) here
+        ∙ ap (λ list. own ++ pairs_of_uses (tag_of tables) (spaces_at on forest) list) uses_are.0 in
+        let names_are : names_seen on told.names.items ≡ names_read names pairs (names_in_spaces leaves tree) =
+        tells.names names external
+        ∙ ap (λ w. names_read names (pairs_seen on told.pairs.items) (under w (spaces_at on forest))) here
+        ∙ ap (λ ps. names_read names ps (spaces_at on forest)) pairs_are in
+        let is_unit : IsUnit leaves structs tree state f.closed_as.js = record { written = at.written.0; spells = spelled_alike on forest; numbered = telling here; judged = well } in
+        let tags : AreTags by (tag_of tables) state.scope.structs = λ n s e. let kept = keeps n s e in next.tags n kept.0 kept.1 ∙ kept.2 in
+        let read : IsTold (numbers_of leaves) names pairs (names_read names pairs (names_in_spaces leaves tree)) = are_read leaves structs tree state f.closed_as.js is_unit by (tag_of tables) tags in
+        present here
+        (subst (λ ps. IsTold (numbers_of leaves) names ps (names_seen on told.names.items)) (sym pairs_are) (subst (λ ns. IsTold (numbers_of leaves) names pairs ns) (sym names_are) read))
+        (subst (λ before. AreTold on units forests (names_behind before rest) all) (sym behind)
         (go_on state.scope.structs (index + 1) next
         (uses_are.1 ∙ ap (λ c. of_units on units (uses_in_units by no_numbers 0 (index + 1) (noting.structs_behind structs c) rest)) well)))
 
     unit_absent : value on (condition_of unit.when) ≡ false → AreAhead structs index rest (filter (is_present on) left)
-        → uses_at on u ∷ map (uses_at on) uses ≡ of_units on (unit ∷ units) (uses_ahead structs index rest) → AreRead on structs (unit ∷ units) (forest ∷ forests) (told ∷ all)
+        → uses_at on u ∷ map (uses_at on) uses ≡ of_units on (unit ∷ units) (uses_ahead structs index rest) → AreTold on (unit ∷ units) (forest ∷ forests) (names_behind structs rest) (told ∷ all)
     unit_absent off at used =
         let uses_are = same_heads (uses_at on u) [] (map (uses_at on) uses) (of_units on units (uses_ahead structs index rest)) (used ∙ of_none off (uses_ahead structs index rest)) in
         let some : UnitNames = record { identified = []; is_external = λ name. is_so (λ n. not n.internal) (name_seen on l.names.items name) } in
@@ -224,7 +230,7 @@ module _ (on : ℕ → Bool) (no_need : BindingsNeedNoNumbers) (by : ℕ → ℕ
         absent off silent (go_on structs index at uses_are.1)
 
     pub one_unit : (here : Bool) → value on (condition_of unit.when) ≡ here → AreAhead structs index (if here then tree ∷ rest else rest) (if here then l ∷ filter (is_present on) left else filter (is_present on) left)
-        → uses_at on u ∷ map (uses_at on) uses ≡ of_units on (unit ∷ units) (uses_ahead structs index (if here then tree ∷ rest else rest)) → AreRead on structs (unit ∷ units) (forest ∷ forests) (told ∷ all)
+        → uses_at on u ∷ map (uses_at on) uses ≡ of_units on (unit ∷ units) (uses_ahead structs index (if here then tree ∷ rest else rest)) → AreTold on (unit ∷ units) (forest ∷ forests) (names_behind structs (if here then tree ∷ rest else rest)) (told ∷ all)
     one_unit true here at used = unit_present here at used
     one_unit false off at used = unit_absent off at used
 
@@ -240,29 +246,29 @@ module _ (on : ℕ → Bool) (no_need : BindingsNeedNoNumbers) (by : ℕ → ℕ
 
   some_uses : (unit : Unit) (units : List Unit) (lists : List (List Use)) → [] ≡ of_units on (unit ∷ units) lists → ⊥
   some_uses unit units [] e = cc
-  some_uses unit units (list ∷ lists) e = by (value on (condition_of unit.when)) e
+  some_uses unit units (list ∷ lists) e = either (value on (condition_of unit.when)) e
     where
-      by : (b : Bool) → [] ≡ (if b then list ∷ of_units on units lists else [] ∷ of_units on units (list ∷ lists)) → ⊥
-      by true e = cc
-      by false e = cc
+      either : (b : Bool) → [] ≡ (if b then list ∷ of_units on units lists else [] ∷ of_units on units (list ∷ lists)) → ⊥
+      either true e = cc
+      either false e = cc
 
-  pub each_read :
+  pub each_told :
       (structs : List Struct) (index : ℕ) (units : List Unit) (forests : List Forest) (bound : List UnitBindings) (left : List LeftUnit) (noted : List (CondList Selection)) (all : List ToldUnit)
-      → UnitsAreScoped on units forests bound → AreLeftWherePresent on units left → AreAhead structs index (present_trees on units forests) (filter (is_present on) left)
+      → UnitsAreScoped on units forests bound → UnitsTellNumbers on units forests → AreLeftWherePresent on units left → AreAhead structs index (present_trees on units forests) (filter (is_present on) left)
       → map (uses_at on) noted ≡ of_units on units (uses_ahead structs index (present_trees on units forests)) → AreToldFrom on bound left tables noted 0 units forests all
-      → AreRead on structs units forests all
-  each_read structs index [] forests bound left noted [] scoped here at used tells = no_more
-  each_read structs index [] forests bound left noted (told ∷ all) scoped here at used tells = absurd tells
-  each_read structs index (unit ∷ units) [] bound left noted all scoped here at used tells = absurd tells
-  each_read structs index (unit ∷ units) (forest ∷ forests) bound left noted [] scoped here at used tells = absurd tells
-  each_read structs index (unit ∷ units) (forest ∷ forests) [] left noted (told ∷ all) scoped here at used tells = absurd scoped
-  each_read structs index (unit ∷ units) (forest ∷ forests) (b ∷ bound) [] noted (told ∷ all) scoped here at used tells = absurd (let e = here in cc)
-  each_read structs index (unit ∷ units) (forest ∷ forests) (b ∷ bound) (l ∷ left) [] (told ∷ all) scoped here at used tells =
+      → AreTold on units forests (names_behind structs (present_trees on units forests)) all
+  each_told structs index [] forests bound left noted [] scoped telling here at used tells = no_more
+  each_told structs index [] forests bound left noted (told ∷ all) scoped telling here at used tells = absurd tells
+  each_told structs index (unit ∷ units) [] bound left noted all scoped telling here at used tells = absurd tells
+  each_told structs index (unit ∷ units) (forest ∷ forests) bound left noted [] scoped telling here at used tells = absurd tells
+  each_told structs index (unit ∷ units) (forest ∷ forests) [] left noted (told ∷ all) scoped telling here at used tells = absurd scoped
+  each_told structs index (unit ∷ units) (forest ∷ forests) (b ∷ bound) [] noted (told ∷ all) scoped telling here at used tells = absurd (let e = here in cc)
+  each_told structs index (unit ∷ units) (forest ∷ forests) (b ∷ bound) (l ∷ left) [] (told ∷ all) scoped telling here at used tells =
       absurd (some_uses unit units (uses_ahead structs index (present_trees on (unit ∷ units) (forest ∷ forests))) used)
-  each_read structs index (unit ∷ units) (forest ∷ forests) (b ∷ bound) (l ∷ left) (u ∷ noted) (told ∷ all) scoped here at used tells =
+  each_told structs index (unit ∷ units) (forest ∷ forests) (b ∷ bound) (l ∷ left) (u ∷ noted) (told ∷ all) scoped telling here at used tells =
       let same = same_heads (value on (condition_of l.when)) (value on (condition_of unit.when)) (map (λ l. value on (condition_of l.when)) left) (map (λ u. value on (condition_of u.when)) units) here in
-      one_unit structs index unit units forest forests b l left u noted told all scoped.0 (tells.0.by b l u refl refl refl)
-      (λ structs index at used. each_read structs index units forests bound left noted all scoped.1 same.1 at used (shifted b bound l left u noted 0 units forests all tells.1))
+      one_unit structs index unit units forest forests b l left u noted told all scoped.0 telling.0 (tells.0.by b l u refl refl refl)
+      (λ structs index at used. each_told structs index units forests bound left noted all scoped.1 telling.1 same.1 at used (shifted b bound l left u noted 0 units forests all tells.1))
       (value on (condition_of unit.when)) refl
       (subst (λ w. AreAhead structs index (present_trees on (unit ∷ units) (forest ∷ forests)) (if w then l ∷ filter (is_present on) left else filter (is_present on) left)) same.0 at)
       used
@@ -276,20 +282,20 @@ tag_is on [] n declared = absurd cc
 tag_is on (s ∷ structs) zero declared = ap (λ b. if b then s.tag.items else []) (sym declared)
 tag_is on (s ∷ structs) (suc n) declared = tag_is on structs n declared
 
-pub units_read :
-    (on : ℕ → Bool) → BindingsNeedNoNumbers → (units : List Unit) (forests : List Forest) (b : CondBindings) (t : CondTypes) (noted : UnitUses) (all : List ToldUnit) (linked : Units) (js : List Binding)
-    → AreScoped on units forests b → AreWritten (present_trees on units forests) → judged_program (present_trees on units forests) ≡ fine linked js
+pub units_told :
+    (on : ℕ → Bool) → BindingsNeedNoNumbers → LeavesAreSpelled → OccurrencesAreRead → (units : List Unit) (forests : List Forest) (b : CondBindings) (t : CondTypes) (noted : UnitUses) (all : List ToldUnit) (linked : Units) (js : List Binding)
+    → AreScoped on units forests b → AreWritten (present_trees on units forests) → judged_program (present_trees on units forests) ≡ fine linked js → UnitsTellNumbers on units forests
     → AreLeftWherePresent on units t.units.items → IsLinkable on linked t
     → ((first : Units) (ks : List Binding) → judged_units no_numbers 0 0 [] (present_trees on units forests) ≡ fine first ks
     → AreNoted on first.structs units (λ by. uses_in_units by no_numbers 0 0 [] (present_trees on units forests)) noted)
     → AreToldFrom on b.units.items t.units.items noted.tables noted.units.items 0 units forests all
-    → AreRead on [] units forests all
-units_read on no_need units forests b t noted all linked js scoped written judged here linkable notes tells =
+    → AreTold on units forests (names_of_units (present_trees on units forests)) all
+units_told on no_need spelled_alike are_read units forests b t noted all linked js scoped written judged telling here linkable notes tells =
     let trees : List PlainTree = present_trees on units forests in
     let p = bound (judged_units no_numbers 0 0 [] trees) (λ first. judged_units (numbers_in first.units (literals_of trees)) (length (listed first.units false)) 0 [] trees) linked js judged in
     let n = notes p.value p.before p.first in
-    each_read on no_need n.by noted.tables (numbers_in p.value.units (literals_of trees)) (length (listed p.value.units false)) t.tables linkable.by linked.structs
-    [] 0 units forests b.units.items t.units.items noted.units.items all scoped.bound here
+    each_told on no_need spelled_alike are_read n.by noted.tables (numbers_in p.value.units (literals_of trees)) (length (listed p.value.units false)) t.tables linkable.by linked.structs
+    [] 0 units forests b.units.items t.units.items noted.units.items all scoped.bound telling here
     (record {
       written = written;
       first = p.value;

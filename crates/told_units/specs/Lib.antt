@@ -1,3 +1,2 @@
-pub mod Read
 pub mod Told
 pub mod Units

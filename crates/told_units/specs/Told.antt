@@ -19,7 +19,7 @@ use Rattle.member_pairs.specs.Members.{tag_of, pairs_of_uses}
 use Rattle.cond_unit_uses.specs.Noted.{uses_at}
 use Rattle.told_occurrences.specs.Units.{names_seen}
 use Rattle.told_occurrences.specs.declared.told.ToldUnit.{ToldUnit}
-use Rattle.told_units.specs.Read.{names_read}
+use Rattle.read_occurrences.specs.Read.{names_read}
 
 module _ (on : ℕ → Bool) where
   -- what a unit leaves tells which names have external linkage (6.2.2)

@@ -13,7 +13,7 @@ ghost use Rattle.cond_name_spaces.specs.Spaced.{plain_space, plain_name};
 ghost use Rattle.declared_tokens.specs.Declarations.{declared_at, is_among};
 ghost use Rattle.told_occurrences.specs.Told.{numbered};
 ghost use Rattle.told_occurrences.specs.Units.{names_seen};
-ghost use Rattle.told_units.specs.Read.{is_own_pair, name_read, names_read};
+ghost use Rattle.read_occurrences.specs.Read.{is_own_pair, name_read, names_read};
 ghost use Rattle.told_units.specs.Told.{TellsExternal};
 
 use crate::own::where_own;

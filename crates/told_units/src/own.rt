@@ -4,7 +4,7 @@ ghost use Rattle.std.specs.List.{list_any};
 ghost use Rattle.cond_formula.specs.Conditions.{condition_of, value};
 ghost use Rattle.cond_pairings.specs.Pairs.{pairs_seen};
 ghost use Rattle.declared_tokens.specs.Declarations.{numbers_at, declared_at, is_among};
-ghost use Rattle.told_units.specs.Read.{is_own_pair};
+ghost use Rattle.read_occurrences.specs.Read.{is_own_pair};
 
 use cond_formula::{Formula, NoMemory};
 use cond_pairings::CondPairing;

@@ -1,5 +1,5 @@
 //! The units of a project.
-ghost use Rattle.std.specs.Prelude.{◌≡◌, ℕ, ◌<◌, Bool, List, [], ◌++◌, Some, slice_get, length, IsTrue, IfOk, OnOk};
+ghost use Rattle.std.specs.Prelude.{◌≡◌, ℕ, Bool, List, ◌++◌, length, IsTrue, IfOk};
 ghost use Rattle.cond_formula.specs.Features.{has};
 ghost use Rattle.cond_formula.specs.Conditions.{condition_of, value};
 ghost use Rattle.core_meaning.specs.Checking.{Binding, fine};
@@ -14,11 +14,13 @@ ghost use Rattle.conditional.specs.Entries.{seen, listed};
 ghost use Rattle.cond_name_spaces.specs.Spaced.{plain_name};
 ghost use Rattle.member_pairs.specs.Members.{tag_of, pairs_of_uses};
 ghost use Rattle.told_units.specs.Told.{IsToldBy, IsToldAt, AreToldFrom};
-ghost use Rattle.told_units.specs.Units.{AreLeftWherePresent, AreRead};
+ghost use Rattle.told_units.specs.Units.{AreLeftWherePresent, UnitsTellNumbers};
+ghost use Rattle.told_occurrences.specs.Units.{AreTold};
+ghost use Rattle.program_occurrences.specs.Occurrences.{names_of_units};
 
 use crate::names::told_names;
 use crate::own::own_tokens;
-use choice_trees::Forest;
+use choice_trees::{Forest, leaves_are_spelled};
 use cond_bindings::{CondBindings, UnitBindings};
 use cond_formula::{Formula, NoMemory, Oracle};
 use cond_name_spaces::{SpacedName, note_spaces};
@@ -32,6 +34,7 @@ use core_numbers::bindings_need_no_numbers;
 use link_faults::LeftUnit;
 use member_pairs::member_pairs;
 use project_file::Unit;
+use read_occurrences::occurrences_are_read;
 use std::alloc::Global;
 use told_occurrences::ToldUnit;
 use type_tables::Tables;
@@ -143,7 +146,7 @@ fn told_each<O: Oracle>(
 }
 
 /// The occurrences of the units of a project and the names that they declare for all units, in all configurations at once, by the trees of each
-/// unit, by what its identifiers are bound to and by what it leaves for linking. Where a unit is refused they say nothing.
+/// unit, by what its identifiers are bound to and by what it leaves for linking. In a configuration that has no program they say nothing.
 pub fn told_units<F: FileItems, O: Oracle>(
     alloc: Global,
     oracle: &mut O,
@@ -155,13 +158,15 @@ pub fn told_units<F: FileItems, O: Oracle>(
 ) -> Result<Vec<ToldUnit>, NoMemory>
     requires { length forests.now ≡ length units.now }
     ensures kept { O.admits oracle.new ≡ O.admits oracle.old }
-    ensures read { IfOk result (λ all. (c : List Bool) (linked : Units) (js : List Binding) → IsTrue (value (has c) (O.admits oracle.old))
+    ensures told { IfOk result (λ all. (c : List Bool) (linked : Units) (js : List Binding) → IsTrue (value (has c) (O.admits oracle.old))
         → AreScoped (has c) units.now forests.now b.now → AreWritten (present_trees (has c) units.now forests.now)
-        → judged_program (present_trees (has c) units.now forests.now) ≡ fine linked js
+        → judged_program (present_trees (has c) units.now forests.now) ≡ fine linked js → UnitsTellNumbers (has c) units.now forests.now
         → AreLeftWherePresent (has c) units.now t.now.units.items → IsLinkable (has c) linked t.now
-        → AreRead (has c) [] units.now forests.now all.items) }
+        → AreTold (has c) units.now forests.now (names_of_units (present_trees (has c) units.now forests.now)) all.items) }
 {
     bindings_need_no_numbers();
+    leaves_are_spelled();
+    occurrences_are_read();
     let noted = note_units(alloc, oracle, file_items, units, forests)?;
     let all = told_each(alloc, oracle, units, forests, &b.units, &t.units, &noted)?;
     Ok(all)

@@ -7,7 +7,7 @@ use Rattle.name_spaces.specs.Laws.{common_by}
 use Rattle.cond_name_spaces.specs.Spaced.{plain_space}
 use Rattle.told_occurrences.specs.Told.{numbered}
 use Rattle.told_occurrences.specs.Units.{names_seen}
-use Rattle.told_units.specs.Read.{is_own_pair}
+use Rattle.read_occurrences.specs.Read.{is_own_pair}
 use Rattle.told_units.proofs.Lists.{both_too}
 use Rattle.told_units.proofs.names.push_entry.Goals as goal
 

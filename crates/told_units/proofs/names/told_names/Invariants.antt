@@ -6,7 +6,7 @@ use Rattle.cond_pairings.specs.Pairs.{Pair}
 use Rattle.cond_name_spaces.specs.Spaced.{plain_name}
 use Rattle.declared_tokens.specs.Declarations.{declared_at, is_among}
 use Rattle.told_occurrences.specs.Units.{names_seen}
-use Rattle.told_units.specs.Read.{is_own_pair, names_read}
+use Rattle.read_occurrences.specs.Read.{is_own_pair, names_read}
 use Rattle.told_units.specs.Told.{TellsExternal}
 use Rattle.told_units.proofs.names.told_names.Given as goal
 

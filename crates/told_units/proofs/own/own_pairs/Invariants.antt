@@ -1,7 +1,7 @@
 use Rattle.std.proofs.Common.{◌≡◌, ℕ, Bool, ◌||◌, drop}
 use Rattle.std.specs.List.{list_any}
 use Rattle.cond_pairings.specs.Pairs.{pairs_seen}
-use Rattle.told_units.specs.Read.{is_own_pair}
+use Rattle.read_occurrences.specs.Read.{is_own_pair}
 use Rattle.told_units.proofs.own.own_pairs.Given as goal
 
 abbrev pub invariant-loop-pair : goal.invariant-loop-pair

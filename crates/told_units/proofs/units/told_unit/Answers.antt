@@ -4,7 +4,7 @@ use Rattle.cond_formula.specs.Features.{has}
 use Rattle.cond_pairings.specs.Pairs.{pairs_seen}
 use Rattle.member_pairs.specs.Members.{tag_of, pairs_of_uses}
 use Rattle.cond_unit_uses.specs.Noted.{uses_at}
-use Rattle.told_units.specs.Read.{is_own_pair, names_read}
+use Rattle.read_occurrences.specs.Read.{is_own_pair, names_read}
 use Rattle.told_units.specs.Told.{bound_pairs}
 use Rattle.told_units.proofs.units.told_unit.Goals as goal
 
