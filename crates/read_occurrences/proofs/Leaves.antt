@@ -1,9 +1,9 @@
 -- The leaves of a unit that are identifiers are its identifiers, with their numbers in the stream.
-use Rattle.std.proofs.Common.{◌≡◌, ℕ, suc, ◌+◌, Bool, true, false, List, [], ◌∷◌, ◌++◌, map, length, drop, get_or, refl, sym, ap, subst, ◌∙◌, append_assoc, drop-drop, get_or-drop, add-zero, IsTrue, arith}
-use Rattle.std.specs.Prelude.{Option, Some, None, option_map, slice_get, filter, if◌then◌else◌}
+use Rattle.std.proofs.Common.{◌≡◌, ℕ, ◌+◌, Bool, true, false, List, [], ◌∷◌, ◌++◌, map, length, drop, get_or, refl, sym, ap, subst, ◌∙◌, append_assoc, drop-drop, get_or-drop, add-zero, IsTrue, arith}
+use Rattle.std.specs.Prelude.{Some, option_map, slice_get, filter, if◌then◌else◌}
 use Rattle.std.specs.List.{AllZip, AllByRecursion}
 use Rattle.std.proofs.lemmas.List.{length-append}
-use Rattle.std.proofs.lemmas.Option.{same_Some, slice_get-map, get_or_from_slice_get}
+use Rattle.std.proofs.lemmas.Option.{slice_get-map, get_or_from_slice_get}
 use Rattle.c_text.specs.Token.{PlainToken}
 use Rattle.bindings.specs.Visible.{Occurrence as BoundIdentifier}
 use Rattle.bindings.specs.Bindings.{is_name}

@@ -2,6 +2,8 @@ pub mod Rows
 pub mod Walked
 pub mod Quiet
 pub mod Members
+pub mod Growth
+pub mod Settings
 pub mod Structs
 pub mod Unused
 pub mod Leaves

@@ -1,10 +1,9 @@
 -- Where a reading declares members: their names are in the name space of a struct's members.
-use Rattle.std.proofs.Common.{◌≡◌, ℕ, suc, ◌+◌, ◌≤◌, Bool, true, false, ◌||◌, ◌&&◌, List, [], ◌∷◌, ◌++◌, length, inl, inr, refl, sym, ap, subst, ◌∙◌, append_assoc, append-nil, arith}
-use Rattle.std.specs.Prelude.{◌⊎◌, Option, Some, None, if◌then◌else◌}
-use Rattle.std.specs.List.{AllByRecursion, AllZip}
+use Rattle.std.proofs.Common.{◌≡◌, ℕ, suc, ◌+◌, ◌≤◌, Bool, true, false, ◌||◌, ◌&&◌, List, [], ◌∷◌, ◌++◌, length, inl, inr, refl, sym, subst, ◌∙◌, append_assoc, arith}
+use Rattle.std.specs.Prelude.{◌⊎◌, Option, Some, if◌then◌else◌}
+use Rattle.std.specs.List.{AllByRecursion}
 use Rattle.std.specs.Str.{bytes_eq}
 use Rattle.std.proofs.lemmas.Bool.{false≢true}
-use Rattle.std.proofs.lemmas.List.{length-append}
 use Rattle.std.proofs.lemmas.Option.{none-some, same_Some}
 use Rattle.c_text.specs.Token.{PlainToken}
 use Rattle.c_tree.specs.declared.kinds.Kind.{Kind}
@@ -13,16 +12,16 @@ use Rattle.c_tree.specs.declared.terminals.Terminal.TheVariants as t
 use Rattle.c_tree.specs.Terminals.{terminal, same}
 use Rattle.c_tree.specs.Trees.{PlainTree, PlainTrees, leaf, node, none, more}
 use Rattle.core_meaning.specs.Declarations.{name_in}
-use Rattle.bindings.specs.Visible.{NameSpace, ordinary, tags, members_of, Entry, look_up, Binding, bound_to, undeclared, member_use, Occurrence, Reading, start, passed, occurs, leave, with_file_entry}
+use Rattle.bindings.specs.Visible.{NameSpace, members_of, Entry, look_up, Binding, bound_to, undeclared, member_use, Occurrence, Reading, start, passed, occurs, leave}
 use Rattle.bindings.specs.Bindings.{is_name, at_file, among_members, may_declare_tags, declared, read_expression, read_expressions, read_words, read_declarator, read_declared, read_declarators, read_suffix, read_closed_suffix, read_declaration, read_statement, read_members, tag_text, read_item, read_items}
-use Rattle.scope_readings.specs.Walks.{Role, declared_name, role, turns, declaration_in}
-use Rattle.name_spaces.specs.Spaces.{space_by, struct_in, spaces_in_parts, spaces_of}
+use Rattle.scope_readings.specs.Walks.{Role, declared_name, role, turns}
+use Rattle.name_spaces.specs.Spaces.{space_by, spaces_in_parts, spaces_of}
 use Rattle.name_spaces.proofs.Formed.{IsFormed, AreFormed, AreDeclarators, AreMembers}
 use Rattle.name_spaces.proofs.Uses.{names, all_names}
 use Rattle.name_spaces.proofs.Embeddings.{Spaces}
 use Rattle.name_spaces.proofs.Listed.{spaces_at, part_is, parts_count, part_count}
 use Rattle.read_occurrences.proofs.Walked.{IsMember}
-use Rattle.read_occurrences.proofs.Quiet.{Marked, IsOfMarked, Holds, last_marked, one_more, Unmarked, Quiet, quiet_then, stays, passes, leaves, expression_quiet, expressions_quiet, words_quiet, closed_suffix_quiet, suffix_quiet, declared_quiet, declarators_quiet, declaration_quiet, statement_quiet}
+use Rattle.read_occurrences.proofs.Quiet.{Marked, IsOfMarked, Holds, last_marked, one_more, Unmarked, Quiet, quiet_then, stays, passes, leaves, expression_quiet, expressions_quiet, words_quiet, closed_suffix_quiet, suffix_quiet, declarators_quiet, declaration_quiet, statement_quiet}
 
 -- ---- marks among the names of a tree: names may be passed over
 
@@ -192,7 +191,6 @@ module _ (tag struct : List ℕ) where
   member_reads :
       (parts : PlainTrees) → IsFormed (node k.Member parts) → (r : Reading) → Reads (spaces_in_parts k.Member struct k.Member false parts) r (read_declaration (among_members tag) parts r)
   member_reads (more (node kind words) (more (node inner list) (more (leaf semicolon) none))) h r =
-      let place = among_members tag in
       let one : Reading = read_words (may_declare_tags (among_members tag)) words r in
       let two : Reading = read_declarators read_closed_suffix (among_members tag) list one in
       part_then k.Member struct k.Member false (node kind words) (more (node inner list) (more (leaf semicolon) none)) r one (passed two)

@@ -1,6 +1,6 @@
 -- The identifiers that are bound, and those that declare names in common.
-use Rattle.std.proofs.Common.{◌≡◌, ℕ, ◌==◌, Bool, true, false, ◌&&◌, List, [], ◌∷◌, ◌++◌, map, inl, inr, refl, sym, ap, ap₂, subst, ◌∙◌}
-use Rattle.std.specs.Prelude.{◌⊎◌, ◌||◌, Option, Some, None, flat_map, if◌then◌else◌}
+use Rattle.std.proofs.Common.{◌≡◌, ℕ, ◌==◌, Bool, true, false, List, [], ◌∷◌, ◌++◌, map, inl, inr, refl, sym, ap, ap₂, subst, ◌∙◌}
+use Rattle.std.specs.Prelude.{◌||◌, Option, Some, None, flat_map, if◌then◌else◌}
 use Rattle.std.specs.List.{list_any}
 use Rattle.std.proofs.lemmas.Bool.{false≢true, and_parts, and_from, eq-eqb, eqb-true}
 use Rattle.c_text.specs.Token.{PlainToken}
@@ -18,8 +18,8 @@ use Rattle.occurrence_names.proofs.Kept.{In, in-map}
 use Rattle.name_spaces.specs.Laws.{common_by, declared_name}
 use Rattle.told_occurrences.specs.Told.{number_in, pair_of, NumberedName, numbered}
 use Rattle.read_occurrences.specs.Read.{is_own_pair, number_of_name, name_read, names_read}
-use Rattle.read_occurrences.proofs.Rows.{Row, Facts, row_bound, in_left, in_right, in_either, Source, in_source, in_origin, in_made}
-use Rattle.read_occurrences.proofs.Uses.{Known, spaced_of, Spaced, from_spaced, to_spaced}
+use Rattle.read_occurrences.proofs.Rows.{Row, Source, in_source, in_origin, in_made}
+use Rattle.read_occurrences.proofs.Uses.{Known, spaced_of, from_spaced, to_spaced}
 
 -- ---- the pairs of bindings
 
@@ -85,10 +85,6 @@ any_one test (q ∷ pairs) e = by (λ f. any_one test pairs f) (test q) refl e
 
 abbrev pub name_of : List ℕ → UnitNames → Occurrence → List NumberedName
 name_of numbers unit o = numbered (number_in numbers o.identifier.number) (declared_name unit o)
-
-record AtName (r : Row) (x : NumberedName) (unit : UnitNames) (pairs : List Pair) (n : InSpace) : Type 0 where
-  own : list_any (is_own_pair (number_of_name n)) pairs ≡ true
-  made : In x (numbered (number_of_name n) (common_by unit (Some n.space) n.name.text.text))
 
 if_read : (b : Bool) (x : NumberedName) (l : List NumberedName) → In x (if b then l else []) → (b ≡ true) × In x l
 if_read true x l i = (refl, i)

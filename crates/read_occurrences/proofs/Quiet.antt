@@ -4,12 +4,11 @@ use Rattle.std.specs.Prelude.{◌⊎◌, Option, Some, None, if◌then◌else◌
 use Rattle.std.specs.List.{AllByRecursion}
 use Rattle.std.proofs.lemmas.List.{length-append}
 use Rattle.c_text.specs.Token.{PlainToken}
-use Rattle.c_tree.specs.declared.kinds.Kind.{Kind}
 use Rattle.c_tree.specs.declared.kinds.Kind.TheVariants as k
 use Rattle.c_tree.specs.declared.terminals.Terminal.TheVariants as t
 use Rattle.c_tree.specs.Terminals.{terminal, same}
 use Rattle.c_tree.specs.Trees.{PlainTree, PlainTrees, leaf, node, none, more}
-use Rattle.bindings.specs.Visible.{NameSpace, ordinary, tags as tag_space, members_of, Entry, look_up, Binding, bound_to, undeclared, member_use, Occurrence, Reading, passed, occurs, occurs_as, leave, binding_found, visible_name, is_of_file, used, member_used, tag_found, tag_named}
+use Rattle.bindings.specs.Visible.{tags as tag_space, members_of, Entry, look_up, Binding, bound_to, undeclared, member_use, Occurrence, Reading, passed, occurs, occurs_as, leave, binding_found, visible_name, is_of_file, used, member_used, tag_found, tag_named}
 use Rattle.bindings.specs.Bindings.{is_name, Where, at_file, in_block, among_members, may_declare_tags, declaring, declared, read_expression, read_expressions, read_words, read_declarator, read_declared, read_declarators, read_parameter, read_parameters, read_suffix, read_closed_suffix, read_declaration, read_statement, read_statements}
 use Rattle.name_spaces.proofs.Formed.{IsFormed, AreFormed}
 use Rattle.name_spaces.proofs.Uses.{names, all_names}
@@ -224,12 +223,6 @@ module _ (behind : PlainTrees → Reading → Reading) (place : Where) (outside 
   declarator_quiet none h r = stays 0 r
   declarator_quiet (more (leaf token) rest) h r = by (is_name token) (same t.OpenBracket (terminal token)) (declarator_quiet rest h.1 (passed r))
     where
-      n : ℕ
-      n = declaring place token r
-
-      one : Reading
-      one = occurs token (bound_to n) r
-
       by :
           (b c : Bool) → Quiet (all_names rest) (passed r) (read_declarator behind place rest (passed r))
           → Quiet ((if b then 1 else 0) + all_names rest) r

@@ -1,11 +1,11 @@
 -- The identifiers of a unit one by one, with all that is known of each.
-use Rattle.std.proofs.Common.{◌≡◌, ℕ, ◌==◌, Bool, true, false, List, [], ◌∷◌, ◌++◌, map, inl, inr, refl, sym, ap, ap₂, subst, ◌∙◌}
-use Rattle.std.specs.Prelude.{◌⊎◌, Option, Some, None, flat_map, if◌then◌else◌}
+use Rattle.std.proofs.Common.{◌≡◌, ℕ, true, false, List, [], ◌∷◌, ◌++◌, map, inl, inr, refl, sym, ap, subst, ◌∙◌}
+use Rattle.std.specs.Prelude.{◌⊎◌, Option, Some, flat_map}
 use Rattle.std.specs.List.{AllZip, AllByRecursion}
 use Rattle.std.proofs.lemmas.Bool.{eqb-true}
 use Rattle.core_meaning.specs.Checking.{Entity, local_entity, local_of_function, file_entity, struct_entity, member_entity, own_entity, Binding}
 use Rattle.core_meaning.specs.Entities.{Table}
-use Rattle.bindings.specs.Visible.{NameSpace, Binding as Bound, bound_to, undeclared, member_use, Occurrence as BoundIdentifier}
+use Rattle.bindings.specs.Visible.{NameSpace, Binding as Bound, Occurrence as BoundIdentifier}
 use Rattle.bindings.specs.Judged.{Identified, first_with}
 use Rattle.choice_trees.specs.Leaves.{Leaf}
 use Rattle.changed_forests.specs.Numbered.{number_of}

@@ -1,10 +1,10 @@
 -- The structs of a unit that is judged well: a tag stands for the struct of its name, members have the numbers that their names tell, and who
 -- stands for a member stands for one that its struct has in the end.
-use Rattle.std.proofs.Common.{◌≡◌, inl, inr, ℕ, zero, suc, ◌+◌, ◌≤◌, ◌<◌, Bool, true, false, List, [], ◌∷◌, ◌++◌, map, refl, sym, ap, subst, ◌∙◌, length, append-nil, arith}
-use Rattle.std.specs.Prelude.{◌⊎◌, Option, Some, None, is_some, not, slice_get, replicate, ◌==◌, if◌then◌else◌}
+use Rattle.std.proofs.Common.{◌≡◌, inl, inr, ℕ, ◌<◌, Bool, true, false, List, [], ◌∷◌, map, refl, sym, ap, subst, ◌∙◌, length, arith}
+use Rattle.std.specs.Prelude.{◌⊎◌, Option, Some, None, is_some, not, slice_get, replicate, if◌then◌else◌}
 use Rattle.std.specs.Str.{bytes_eq}
 use Rattle.std.specs.Cmp.Lexicographic.{bytes_decides}
-use Rattle.std.proofs.lemmas.Bool.{false≢true, eq-eqb, eqb-true}
+use Rattle.std.proofs.lemmas.Bool.{false≢true}
 use Rattle.std.proofs.lemmas.List.{length-replicate}
 use Rattle.std.proofs.lemmas.Option.{same_Some, none-some}
 use Rattle.c_text.specs.Token.{PlainToken}
@@ -14,270 +14,26 @@ use Rattle.c_tree.specs.declared.kinds.Kind.{Kind}
 use Rattle.c_tree.specs.declared.kinds.Kind.TheVariants as k
 use Rattle.c_tree.specs.declared.terminals.Terminal.TheVariants as t
 use Rattle.c_tree.specs.Trees.{PlainTree, PlainTrees, leaf, node, none, more}
-use Rattle.core_meaning.specs.declared.refusals.TypeKind.{TypeKind}
 use Rattle.core_meaning.specs.declared.refusals.TypeKind.TheVariants.{Redeclared, Incomplete}
-use Rattle.core_meaning.specs.Checking.{Entity, local_entity, local_of_function, file_entity, struct_entity, member_entity, own_entity, Binding, Checked, fine, refused, broken, with_bindings, ◌>>=◌, give, unless_so, or_broken, declares, in_function, numbered_binding}
-use Rattle.core_meaning.specs.Entities.{Table, no_entry, with_entry, Struct, Local, Numbers, Scope, local_in, Sort, variable, function}
+use Rattle.core_meaning.specs.Checking.{Entity, local_entity, local_of_function, file_entity, struct_entity, member_entity, own_entity, Binding, Checked, fine, refused, broken, with_bindings, ◌>>=◌, give, unless_so, or_broken, declares, in_function, numbered as numbered_entity, numbered_binding}
+use Rattle.core_meaning.specs.Entities.{Table, no_entry, Struct, Local, Numbers, Scope, local_in, Sort, variable, function}
 use Rattle.core_meaning.specs.Typing.{is_complete}
 use Rattle.core_meaning.specs.Expressions.{has_terminal, arithmetic_words}
-use Rattle.core_meaning.specs.Declarations.{Based, based, based_on_tag, name_in, behind_word, new_struct, with_struct, object_type}
+use Rattle.core_meaning.specs.Declarations.{Based, based, based_on_tag, name_in, behind_word, new_struct, object_type}
 use Rattle.core_meaning.specs.UnitNames.{UnitState, Storage, storage_of, with_scope, declared_from, defined_function, count_functions, Members, with_member, declared_member, one_member, members_from, AllMembers, all_members, completed, with_members_at, is_defined_struct, is_defined_tag, number_of_struct, defined_struct, judged_item, judged_file_items, unit_start, too_big_in, unless_too_big, judged_unit}
 use Rattle.bindings.proofs.Types.{Tagged as TagOf, Made, AllMade, MadeSort}
 use Rattle.entity_numbers.specs.Slots.{HasNamedParameters, IsNamedFunction, AreNamedFunctions}
 use Rattle.entity_numbers.proofs.Uses.{Sense, Gives, All, all_append, Binds}
 use Rattle.entity_numbers.proofs.Slots.{Base, Knows, Slots, no_more, known, next}
-use Rattle.entity_numbers.proofs.Functions.{Keeps, Ended, function_ends}
-use Rattle.entity_kinds.proofs.Pairs.{Never, none_bound, quiet_unless}
+use Rattle.entity_numbers.proofs.Functions.{Ended, function_ends}
+use Rattle.entity_kinds.proofs.Pairs.{Never}
 use Rattle.entity_kinds.proofs.Declarators.{object_quiet}
 use Rattle.bound_slots.specs.Laws.{SizesBindNothing}
-use Rattle.unit_numbers.proofs.Fitting.{within, at_more, longer}
-use Rattle.unit_numbers.proofs.Names.{AtFile, Kept, names_declared}
+use Rattle.unit_numbers.proofs.Fitting.{within, at_more}
+use Rattle.unit_numbers.proofs.Names.{Kept, names_declared}
 use Rattle.name_spaces.proofs.Formed.{IsFormed, AreFormed, NameAStruct}
-
--- ---- lists
-
-get_on : {A : Type 0} (xs ys : List A) (n : ℕ) (x : A) → slice_get xs n ≡ Some x → slice_get (xs ++ ys) n ≡ Some x
-get_on [] ys n x e = absurd (none-some x e)
-get_on (y ∷ xs) ys zero x e = e
-get_on (y ∷ xs) ys (suc n) x e = get_on xs ys n x e
-
-get_last : {A : Type 0} (xs : List A) (y : A) → slice_get (xs ++ y ∷ []) (length xs) ≡ Some y
-get_last [] y = refl
-get_last (x ∷ xs) y = get_last xs y
-
-same_or_other : (m n : ℕ) → (m ≡ n) ⊎ (m ≡ n → ⊥)
-same_or_other m n = by (m == n) refl
-  where
-    by : (b : Bool) → (m == n) ≡ b → (m ≡ n) ⊎ (m ≡ n → ⊥)
-    by true e = inl (eqb-true m n e)
-    by false e = inr (λ is. false≢true (sym e ∙ eq-eqb m n is))
-
--- ---- structs that only get further members
-
-record Found (structs : List Struct) (n : ℕ) (x : Struct) : Type 0 where
-  struct : Struct
-  is : slice_get structs n ≡ Some struct
-  members : (m : ℕ) (y : PlainMember) → slice_get x.members m ≡ Some y → slice_get struct.members m ≡ Some y
-
-abbrev Grown : List Struct → List Struct → Type 0
-Grown s u = (n : ℕ) (x : Struct) → slice_get s n ≡ Some x → Found u n x
-
-grown_itself : (s : List Struct) → Grown s s
-grown_itself s n x e = record { struct = x; is = e; members = λ m y f. f }
-
-grown_both : (s u v : List Struct) → Grown s u → Grown u v → Grown s v
-grown_both s u v f g n x e =
-    let a = f n x e in
-    let b = g n a.struct a.is in
-    record { struct = b.struct; is = b.is; members = λ m y h. b.members m y (a.members m y h) }
-
--- structs that stay as they are, before others
-abbrev Extends : List Struct → List Struct → Type 0
-Extends s u = (n : ℕ) (x : Struct) → slice_get s n ≡ Some x → slice_get u n ≡ Some x
-
-extends_grown : (s u : List Struct) → Extends s u → Grown s u
-extends_grown s u f n x e = record { struct = x; is = f n x e; members = λ m y g. g }
-
--- the struct with this number has a member with this one
-pub record HasMember (structs : List Struct) (n m : ℕ) : Type 0 where
-  pub struct : Struct
-  pub is : slice_get structs n ≡ Some struct
-  pub member : PlainMember
-  pub is_member : slice_get struct.members m ≡ Some member
-
-abbrev pub IsKnown : List Struct → Entity → Type 0
-IsKnown last (member_entity n m) = HasMember last n m
-IsKnown last other = Unit {0}
-
--- ---- scopes, where structs from this number on are the unit's own
-
-pub record NamedStruct (first : ℕ) (structs : List Struct) (tag : List ℕ) (n : ℕ) : Type 0 where
-  pub own : first ≤ n
-  pub struct : Struct
-  pub is : slice_get structs n ≡ Some struct
-  pub name : struct.name ≡ tag
-
-pub record Good (first : ℕ) (s : Scope) : Type 0 where
-  pub named : (tag : List ℕ) (n : ℕ) → s.tags tag ≡ Some n → NamedStruct first s.structs tag n
-  pub numbered : (n : ℕ) (x : Struct) (m : ℕ) (y : PlainMember) → first ≤ n → slice_get s.structs n ≡ Some x → slice_get x.members m ≡ Some y → x.numbers y.name ≡ Some m
-  pub empty : (n : ℕ) (x : Struct) → first ≤ n → slice_get s.structs n ≡ Some x → x.complete ≡ false → x.members ≡ []
-  pub below : first ≤ length s.structs
-  pub outside : s.blocks ≡ []
-
-good_kept : (first : ℕ) (s x : Scope) → x.blocks ≡ s.blocks → x.structs ≡ s.structs → x.tags ≡ s.tags → Good first s → Good first x
-good_kept first s x blocks structs tags h = record {
-  named = λ tag n e. subst (λ (l : List Struct). NamedStruct first l tag n) (sym structs) (h.named tag n (ap (λ (table : Table ℕ). table tag) (sym tags) ∙ e));
-  numbered = λ n y m z own e f. h.numbered n y m z own (ap (λ (l : List Struct). slice_get l n) (sym structs) ∙ e) f;
-  empty = λ n y own e f. h.empty n y own (ap (λ (l : List Struct). slice_get l n) (sym structs) ∙ e) f;
-  below = subst (λ (l : List Struct). first ≤ length l) (sym structs) h.below;
-  outside = blocks ∙ h.outside;
-}
-
-new_good : (first : ℕ) (s : Scope) (tag : List ℕ) → Good first s → Good first (with_struct s tag)
-new_good first s tag h = record {
-  named = λ name n e. named name n (bytes_eq name tag) refl e;
-  numbered = λ n x m y own e f. numbered n x m y own f (at_more s.structs (new_struct tag) n x e);
-  empty = λ n x own e f. empty n x own f (at_more s.structs (new_struct tag) n x e);
-  below = let under : first ≤ length s.structs = h.below in let l : length (s.structs ++ new_struct tag ∷ []) ≡ suc (length s.structs) = longer s.structs (new_struct tag) in omega (arith, under, l);
-  outside = h.outside;
-}
-  where
-    named : (name : List ℕ) (n : ℕ) (b : Bool) → bytes_eq name tag ≡ b → (if b then Some (length s.structs) else s.tags name) ≡ Some n → NamedStruct first (s.structs ++ new_struct tag ∷ []) name n
-    named name n true same_ e =
-        subst (λ (i : ℕ). NamedStruct first (s.structs ++ new_struct tag ∷ []) name i) (same_Some (length s.structs) n e)
-        (record { own = h.below; struct = new_struct tag; is = get_last s.structs (new_struct tag); name = sym ((bytes_decides name tag).0 same_) })
-    named name n false same_ e =
-        let f = h.named name n e in
-        record { own = f.own; struct = f.struct; is = get_on s.structs (new_struct tag ∷ []) n f.struct f.is; name = f.name }
-
-    numbered :
-        (n : ℕ) (x : Struct) (m : ℕ) (y : PlainMember) → first ≤ n → slice_get x.members m ≡ Some y → (slice_get s.structs n ≡ Some x) ⊎ ((n ≡ length s.structs) × (x ≡ new_struct tag)) → x.numbers y.name ≡ Some m
-    numbered n x m y own f (inl e) = h.numbered n x m y own e f
-    numbered n x m y own f (inr e) = absurd (none-some y (ap (λ (z : Struct). slice_get z.members m) (sym e.1) ∙ f))
-
-    empty : (n : ℕ) (x : Struct) → first ≤ n → x.complete ≡ false → (slice_get s.structs n ≡ Some x) ⊎ ((n ≡ length s.structs) × (x ≡ new_struct tag)) → x.members ≡ []
-    empty n x own f (inl e) = h.empty n x own e f
-    empty n x own f (inr e) = ap (λ (z : Struct). z.members) e.1
-
--- ---- a struct that is completed
-
-at_same : (xs : List Struct) (n : ℕ) (members : Members) (x : Struct) → slice_get xs n ≡ Some x → slice_get (with_members_at n members xs) n ≡ Some (completed members x)
-at_same [] n members x e = absurd (none-some x e)
-at_same (y ∷ xs) zero members x e = ap (λ (z : Struct). Some (completed members z)) (same_Some y x e)
-at_same (y ∷ xs) (suc n) members x e = at_same xs n members x e
-
-at_other : (xs : List Struct) (n m : ℕ) (members : Members) → (m ≡ n → ⊥) → slice_get (with_members_at n members xs) m ≡ slice_get xs m
-at_other [] n m members other = refl
-at_other (y ∷ xs) zero zero members other = absurd (other refl)
-at_other (y ∷ xs) zero (suc m) members other = refl
-at_other (y ∷ xs) (suc n) zero members other = refl
-at_other (y ∷ xs) (suc n) (suc m) members other = at_other xs n m members (λ e. other (ap suc e))
-
-as_many : (xs : List Struct) (n : ℕ) (members : Members) → length (with_members_at n members xs) ≡ length xs
-as_many [] n members = refl
-as_many (y ∷ xs) zero members = refl
-as_many (y ∷ xs) (suc n) members = ap suc (as_many xs n members)
-
--- names tell the numbers of members
-abbrev GoodMembers : Members → Type 0
-GoodMembers members = (m : ℕ) (y : PlainMember) → slice_get members.members m ≡ Some y → members.numbers y.name ≡ Some m
-
-completed_grown : (xs : List Struct) (n : ℕ) (members : Members) (x : Struct) → slice_get xs n ≡ Some x → x.members ≡ [] → Grown xs (with_members_at n members xs)
-completed_grown xs n members x e none_ i y f = by (same_or_other i n)
-  where
-    by : (i ≡ n) ⊎ (i ≡ n → ⊥) → Found (with_members_at n members xs) i y
-    by (inl is) =
-        let same_ : x ≡ y = same_Some x y (sym e ∙ ap (slice_get xs) (sym is) ∙ f) in
-        record {
-          struct = completed members x;
-          is = ap (slice_get (with_members_at n members xs)) is ∙ at_same xs n members x e;
-          members = λ m z g. absurd (none-some z (ap (λ (l : List PlainMember). slice_get l m) (sym (ap (λ (s : Struct). s.members) (sym same_) ∙ none_)) ∙ g));
-        }
-    by (inr other) = record { struct = y; is = at_other xs n i members other ∙ f; members = λ m z g. g }
-
-completed_good : (first : ℕ) (s : Scope) (n : ℕ) (members : Members) (x : Struct) → slice_get s.structs n ≡ Some x → GoodMembers members → Good first s → Good first (record s { structs = with_members_at n members s.structs })
-completed_good first s n members x e good h = record {
-  named = λ tag i f. named tag i (h.named tag i f) (same_or_other i n);
-  numbered = λ i y m z own f g. numbered i y m z own f g (same_or_other i n);
-  empty = λ i y own f open_. empty i y own f open_ (same_or_other i n);
-  below = subst (λ (l : ℕ). first ≤ l) (sym (as_many s.structs n members)) h.below;
-  outside = h.outside;
-}
-  where
-    it : (i : ℕ) (y : Struct) → i ≡ n → slice_get (with_members_at n members s.structs) i ≡ Some y → completed members x ≡ y
-    it i y is f = same_Some (completed members x) y (sym (at_same s.structs n members x e) ∙ ap (slice_get (with_members_at n members s.structs)) (sym is) ∙ f)
-
-    named : (tag : List ℕ) (i : ℕ) → NamedStruct first s.structs tag i → (i ≡ n) ⊎ (i ≡ n → ⊥) → NamedStruct first (with_members_at n members s.structs) tag i
-    named tag i f (inl is) =
-        record {
-          own = f.own;
-          struct = completed members f.struct;
-          is = ap (slice_get (with_members_at n members s.structs)) is ∙ at_same s.structs n members f.struct (ap (slice_get s.structs) (sym is) ∙ f.is);
-          name = f.name;
-        }
-    named tag i f (inr other) = record { own = f.own; struct = f.struct; is = at_other s.structs n i members other ∙ f.is; name = f.name }
-
-    numbered :
-        (i : ℕ) (y : Struct) (m : ℕ) (z : PlainMember) → first ≤ i → slice_get (with_members_at n members s.structs) i ≡ Some y → slice_get y.members m ≡ Some z → (i ≡ n) ⊎ (i ≡ n → ⊥) → y.numbers z.name ≡ Some m
-    numbered i y m z own f g (inl is) =
-        let same_ = it i y is f in
-        ap (λ (s : Struct). s.numbers z.name) (sym same_) ∙ good m z (ap (λ (s : Struct). slice_get s.members m) same_ ∙ g)
-    numbered i y m z own f g (inr other) = h.numbered i y m z own (sym (at_other s.structs n i members other) ∙ f) g
-
-    empty : (i : ℕ) (y : Struct) → first ≤ i → slice_get (with_members_at n members s.structs) i ≡ Some y → y.complete ≡ false → (i ≡ n) ⊎ (i ≡ n → ⊥) → y.members ≡ []
-    empty i y own f open_ (inl is) = absurd (false≢true (sym open_ ∙ ap (λ (s : Struct). s.complete) (sym (it i y is f))))
-    empty i y own f open_ (inr other) = h.empty i y own (sym (at_other s.structs n i members other) ∙ f) open_
-
--- ---- judgements from one state to another: who is bound is known where the last state has what the state behind has
-
-record Setting : Type 1 where
-  State : Type 0
-  Le : State → State → Type 0
-  itself : (a : State) → Le a a
-  both : (a b c : State) → Le a b → Le b c → Le a c
-  Last : State → Type 0
-  lower : (a b : State) → Le a b → Last b → Last a
-  knows : Entity → Type 0
-
-module _ (w : Setting) where
-  abbrev WalkedOf : {A : Type 0} → w.State → (A → w.State) → (A → Type 0) → Checked A → Type 0
-  WalkedOf before behind V (fine x js) = (w.Le before (behind x) × V x) × (w.Last (behind x) → All w.knows js)
-  WalkedOf before behind V (refused kind token) = Unit {0}
-  WalkedOf before behind V broken = Unit {0}
-
-  record Walks {A : Type 0} (before : w.State) (behind : A → w.State) (V : A → Type 0) (c : Checked A) : Type 0 where
-    walked : WalkedOf before behind V c
-
-  then_of :
-      {B : Type 0} (before middle : w.State) (behind : B → w.State) (W : B → Type 0) (js : List Binding) (c : Checked B) → w.Le before middle → (w.Last middle → All w.knows js) → WalkedOf middle behind W c
-      → WalkedOf before behind W (with_bindings js c)
-  then_of before middle behind W js (fine y ks) g f h =
-      ((w.both before middle (behind y) g h.0.0, h.0.1), λ l. all_append w.knows js ks (f (w.lower middle (behind y) h.0.0 l)) (h.1 l))
-  then_of before middle behind W js (refused kind token) g f h = tt
-  then_of before middle behind W js broken g f h = tt
-
-  walks_then :
-      {A B : Type 0} (before : w.State) (middle : A → w.State) (behind : B → w.State) (V : A → Type 0) (W : B → Type 0) (c : Checked A) (f : A → Checked B) → Walks before middle V c
-      → ((x : A) → w.Le before (middle x) → V x → Walks (middle x) behind W (f x)) → Walks before behind W (c >>= f)
-  walks_then before middle behind V W (fine x js) f h g =
-      record { walked = then_of before (middle x) behind W js (f x) h.walked.0.0 h.walked.1 (g x h.walked.0.0 h.walked.0.1).walked }
-  walks_then before middle behind V W (refused kind token) f h g = record { walked = tt }
-  walks_then before middle behind V W broken f h g = record { walked = tt }
-
-  module _ {B : Type 0} (before : w.State) (behind : B → w.State) (W : B → Type 0) where
-    walks_give : (x : B) → w.Le before (behind x) → W x → Walks before behind W (give x)
-    walks_give x g v = record { walked = ((g, v), λ l. tt) }
-
-    walks_as : (V : B → Type 0) (c : Checked B) → Walks before behind V c → ((x : B) → V x → W x) → Walks before behind W c
-    walks_as V (fine x js) h f = record { walked = ((h.walked.0.0, f x h.walked.0.1), h.walked.1) }
-    walks_as V (refused kind token) h f = record { walked = tt }
-    walks_as V broken h f = record { walked = tt }
-
-    -- one that binds nothing first
-    quiet_then : {A : Type 0} (c : Checked A) (f : A → Checked B) → Binds Never c → ((x : A) → Walks before behind W (f x)) → Walks before behind W (c >>= f)
-    quiet_then {A = A} c f h g = walks_then before (λ (x : A). before) behind (λ (x : A). Unit {0}) W c f (by c h) (λ x y z. g x)
-      where
-        by : (c : Checked A) → Binds Never c → Walks before (λ (x : A). before) (λ (x : A). Unit {0}) c
-        by (fine x js) h = record { walked = ((w.itself before, tt), λ l. subst (λ (b : List Binding). All w.knows b) (sym (none_bound js h.all)) tt) }
-        by (refused kind token) h = record { walked = tt }
-        by broken h = record { walked = tt }
-
-    some_then : {A : Type 0} (o : Option A) (f : A → Checked B) → ((x : A) → o ≡ Some x → Walks before behind W (f x)) → Walks before behind W (or_broken o >>= f)
-    some_then {A = A} (Some x) f g = walks_then before (λ (y : A). before) behind (λ (y : A). x ≡ y) W (give x) f (record { walked = ((w.itself before, refl), λ l. tt) }) (λ y h e. g y (ap Some e))
-    some_then None f g = record { walked = tt }
-
-    unless_then : (b : Bool) (kind : TypeKind) (token : PlainToken) (f : Unit {0} → Checked B) → (b ≡ true → (x : Unit {0}) → Walks before behind W (f x)) → Walks before behind W (unless_so b kind token >>= f)
-    unless_then true kind token f g = walks_then before (λ (x : Unit {0}). before) behind (λ (x : Unit {0}). Unit {0}) W (give tt) f (record { walked = ((w.itself before, tt), λ l. tt) }) (λ x h e. g refl x)
-    unless_then false kind token f g = record { walked = tt }
-
-    -- an identifier that declares, which is known behind
-    declares_then : (e : Entity) (f : Unit {0} → Checked B) → Walks before behind W (f tt) → ((x : B) → W x → w.Last (behind x) → w.knows e) → Walks before behind W (declares e >>= f)
-    declares_then e f h g = record { walked = by (f tt) h.walked }
-      where
-        by : (c : Checked B) → WalkedOf before behind W c → WalkedOf before behind W (with_bindings (record { entity = e; in_expression = false } ∷ []) c)
-        by (fine x js) h = (h.0, λ l. (g x h.0.1 l, h.1 l))
-        by (refused kind token) h = tt
-        by broken h = tt
+use Rattle.read_occurrences.proofs.Growth.{get_on, get_last, grown_itself, grown_both, extends_grown, HasMember, Good, good_kept, new_good, at_same, completed_grown, completed_good, Grown, Extends, IsKnown, GoodMembers}
+use Rattle.read_occurrences.proofs.Settings.{Setting, WalkedOf, Walks, walks_then, walks_give, walks_as, quiet_then, some_then, unless_then, declares_then}
 
 module _ (first : ℕ) (last : List Struct) (counts : SizesBindNothing) where
   abbrev structs : Setting
@@ -373,9 +129,6 @@ module _ (first : ℕ) (last : List Struct) (counts : SizesBindNothing) where
         → Walks (inside number) (at s before) (at s) GoodMembers (declared_member s number before ty kind parts name)
     declared_walk s before ty kind parts name h = by (before.numbers name.text) refl
       where
-        rest : Unit {0} → Checked Members
-        rest bound = object_type s ty kind parts name None >>= (λ whole. unless_so (is_complete s.structs whole) Incomplete name >>= (λ complete. give (with_member s.structs before name.text whole)))
-
         by :
             (o : Option ℕ) → before.numbers name.text ≡ o
             → Walks (inside number) (at s before) (at s) GoodMembers
@@ -440,24 +193,28 @@ module _ (first : ℕ) (last : List Struct) (counts : SizesBindNothing) where
 
   open_based : (s : Scope) (tag : PlainToken) (o : Option ℕ) → s.tags tag.text ≡ o → is_defined_tag s o ≡ false → Good first s → BasedOf (Open s) (based_on_tag true s tag o)
   open_based s tag (Some n) e undefined h =
-      let f = h.named tag.text n e in
-      (record {
-        then_ = record { extends = λ n x e. e; good = h };
-        number = n;
-        ty = refl;
-        struct = f.struct;
-        is = f.is;
-        none_yet = h.empty n f.struct f.own f.is (sym (ap is_defined_struct f.is) ∙ undefined);
-      }, (tt, tt))
-  open_based s tag None e undefined h =
-      (record {
-        then_ = record { extends = λ n x e. get_on s.structs (new_struct tag.text ∷ []) n x e; good = new_good first s tag.text h };
-        number = length s.structs;
-        ty = refl;
-        struct = new_struct tag.text;
-        is = get_last s.structs (new_struct tag.text);
-        none_yet = refl;
-      }, (tt, tt))
+      let f = h.named tag.text n e in (
+        record {
+          then_ = record { extends = λ n x e. e; good = h };
+          number = n;
+          ty = refl;
+          struct = f.struct;
+          is = f.is;
+          none_yet = h.empty n f.struct f.own f.is (sym (ap is_defined_struct f.is) ∙ undefined);
+        },
+        (tt, tt),
+      )
+  open_based s tag None e undefined h = (
+    record {
+      then_ = record { extends = λ n x e. get_on s.structs (new_struct tag.text ∷ []) n x e; good = new_good first s tag.text h };
+      number = length s.structs;
+      ty = refl;
+      struct = new_struct tag.text;
+      is = get_last s.structs (new_struct tag.text);
+      none_yet = refl;
+    },
+    (tt, tt),
+  )
 
   abbrev none_known : Members
   none_known = record { members = []; numbers = no_entry; scalars = 0 }
@@ -485,12 +242,14 @@ module _ (first : ℕ) (last : List Struct) (counts : SizesBindNothing) where
           let is = h.0.0.structs_stay v.number v.struct v.is in
           record {
             walked = (
-              (grown_both base.scope.structs x.scope.structs (with_members_at v.number x.known x.scope.structs) (extends_grown base.scope.structs x.scope.structs h.0.0.structs_stay)
-              (completed_grown x.scope.structs v.number x.known v.struct is v.none_yet),
-              completed_good first x.scope v.number x.known v.struct is h.0.1.members h.0.1.scope),
+              (
+                grown_both base.scope.structs x.scope.structs (with_members_at v.number x.known x.scope.structs) (extends_grown base.scope.structs x.scope.structs h.0.0.structs_stay)
+                    (completed_grown x.scope.structs v.number x.known v.struct is v.none_yet),
+                completed_good first x.scope v.number x.known v.struct is h.0.1.members h.0.1.scope,
+              ),
               λ g. all_append (IsKnown last) js [] (h.1 (λ m y e.
-              let f = g v.number (completed x.known v.struct) (at_same x.scope.structs v.number x.known v.struct is) in
-              record { struct = f.struct; is = f.is; member = y; is_member = f.members m y e })) tt,
+                  let f = g v.number (completed x.known v.struct) (at_same x.scope.structs v.number x.known v.struct is) in
+                  record { struct = f.struct; is = f.is; member = y; is_member = f.members m y e })) tt,
             );
           }
       by (refused kind token) h = record { walked = tt }
@@ -604,14 +363,14 @@ module _ (first : ℕ) (last : List Struct) (counts : SizesBindNothing) where
   slots_known f no_more = tt
   slots_known f (known {n = n} {b = b} h run) = (by b.entity h, slots_known f run)
     where
-      by : (e : Entity) → Knows (sense (IsKnown last)) n e → IsKnown last (Rattle.core_meaning.specs.Checking.numbered f e)
+      by : (e : Entity) → Knows (sense (IsKnown last)) n e → IsKnown last (numbered_entity f e)
       by (local_entity slot) h = tt
       by (local_of_function g slot) h = tt
       by (file_entity name) h = tt
       by (struct_entity i) h = tt
       by (member_entity i j) h = h
       by own_entity h = tt
-  slots_known f (next {n = n} {b = b} is unused run) = (subst (λ (e : Entity). IsKnown last (Rattle.core_meaning.specs.Checking.numbered f e)) (sym is) tt, slots_known f run)
+  slots_known f (next {n = n} {b = b} is unused run) = (subst (λ (e : Entity). IsKnown last (numbered_entity f e)) (sym is) tt, slots_known f run)
 
   function_walk :
       (unit : UnitState) (f : ℕ) (storage : Storage) (ty : PlainType) (parts : PlainTrees) (name : PlainToken) (body : PlainTree) → HasNamedParameters (behind_word t.OpenParenthesis parts) → Good first unit.scope

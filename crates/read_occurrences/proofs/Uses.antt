@@ -1,15 +1,15 @@
 -- Each use of a member is paired with the one identifier that declares the member, by the tag of its struct and its name.
-use Rattle.std.proofs.Common.{◌≡◌, ℕ, ◌==◌, Bool, true, false, ◌&&◌, List, [], ◌∷◌, ◌++◌, map, inl, inr, refl, sym, ap, ap₂, subst, ◌∙◌}
-use Rattle.std.specs.Prelude.{◌⊎◌, Option, Some, None, flat_map, if◌then◌else◌}
+use Rattle.std.proofs.Common.{◌≡◌, ℕ, ◌==◌, Bool, true, false, List, [], ◌∷◌, inl, inr, refl, sym, ap, ap₂, subst, ◌∙◌}
+use Rattle.std.specs.Prelude.{Option, Some, None, flat_map, if◌then◌else◌}
 use Rattle.std.specs.Str.{bytes_eq}
 use Rattle.std.specs.Cmp.Lexicographic.{bytes_decides}
-use Rattle.std.proofs.lemmas.Bool.{false≢true, and_parts, and_from, eq-eqb}
+use Rattle.std.proofs.lemmas.Bool.{false≢true, and_parts, and_from}
 use Rattle.std.proofs.lemmas.Option.{same_Some, none-some}
 use Rattle.c_text.specs.Token.{PlainToken}
 use Rattle.core_meaning.specs.Checking.{Entity, local_entity, local_of_function, file_entity, struct_entity, member_entity, own_entity, Binding}
 use Rattle.core_meaning.specs.Entities.{Table}
-use Rattle.bindings.specs.Visible.{NameSpace, ordinary, tags as tag_space, members_of, Binding as Bound, bound_to, undeclared, member_use}
-use Rattle.bindings.specs.Judged.{Identified, first_with, struct_of}
+use Rattle.bindings.specs.Visible.{NameSpace, ordinary, tags as tag_space, members_of, Binding as Bound, bound_to, member_use}
+use Rattle.bindings.specs.Judged.{Identified, first_with}
 use Rattle.choice_trees.specs.Leaves.{Leaf}
 use Rattle.cond_pairings.specs.Pairs.{Pair}
 use Rattle.changed_forests.specs.Numbered.{number_of}
@@ -17,8 +17,8 @@ use Rattle.selections.specs.Laws.{structure_of_entity}
 use Rattle.member_uses.specs.Uses.{Use, structure_used}
 use Rattle.member_pairs.specs.Members.{is_member_space, declares_member, declaring_number, pair_of as use_pair, pairs_of_use, pairs_of_uses}
 use Rattle.cond_name_spaces.specs.Spaced.{InSpace}
-use Rattle.program_occurrences.specs.Occurrences.{UnitNames, or_itself, Occurrence, declares_itself}
-use Rattle.program_occurrences.specs.Laws.{IsMemberOf, IsBoundTo}
+use Rattle.program_occurrences.specs.Occurrences.{UnitNames, declares_itself}
+use Rattle.program_occurrences.specs.Laws.{IsMemberOf}
 use Rattle.occurrence_names.proofs.Kept.{In}
 use Rattle.name_spaces.specs.Laws.{binds_itself}
 use Rattle.name_spaces.proofs.Embeddings.{Declares}

@@ -1,11 +1,11 @@
 -- A walk pairs each name of a declarator among members with itself.
-use Rattle.std.proofs.Common.{◌≡◌, ℕ, ◌+◌, Bool, true, false, ◌||◌, List, [], ◌∷◌, ◌++◌, drop, get_or, map, inl, inr, refl, sym, ap, subst, ◌∙◌, append_assoc, append-nil, drop-drop, get_or-drop, add-zero}
+use Rattle.std.proofs.Common.{◌≡◌, ℕ, Bool, true, false, ◌||◌, List, [], ◌∷◌, ◌++◌, drop, get_or, inl, inr, refl, sym, ap, subst, ◌∙◌, append_assoc, append-nil}
 use Rattle.std.specs.Prelude.{Option, Some, None, if◌then◌else◌}
 use Rattle.std.specs.List.{AllZip}
 use Rattle.c_text.specs.Token.{PlainToken}
 use Rattle.c_tree.specs.declared.kinds.Kind.{Kind}
 use Rattle.c_tree.specs.declared.kinds.Kind.TheVariants as k
-use Rattle.c_tree.specs.Trees.{PlainTree, PlainTrees, leaf, node, none, more, all_written, spelled}
+use Rattle.c_tree.specs.Trees.{PlainTrees, leaf, node, none, more, all_written, spelled}
 use Rattle.bindings.specs.Visible.{NameSpace, ordinary, tags as tag_space, members_of}
 use Rattle.bindings.specs.Bindings.{is_name}
 use Rattle.scope_readings.specs.Scopes.{Pairing, Scopes, this, or_own, passed, paired, used, tagged, Scope, file_scope, block_scope, members, named, shown, starting}

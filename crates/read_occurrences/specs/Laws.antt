@@ -1,5 +1,5 @@
 -- That what readers note of a unit is what there is in it; each law is the contract of a function of this crate.
-use Rattle.std.specs.Prelude.{◌≡◌, ℕ, List, [], Some, slice_get}
+use Rattle.std.specs.Prelude.{◌≡◌, ℕ, List, Some, slice_get}
 use Rattle.c_tree.specs.Trees.{PlainTree, spelled}
 use Rattle.core_meaning.specs.Checking.{Binding, fine}
 use Rattle.core_meaning.specs.Entities.{Struct}
@@ -9,7 +9,7 @@ use Rattle.choice_trees.specs.Leaves.{Leaf, texts}
 use Rattle.cond_scopes.specs.Progress.{numbers}
 use Rattle.cond_pairings.specs.Pairs.{Pair}
 use Rattle.member_uses.specs.Uses.{uses_in}
-use Rattle.program_occurrences.specs.Occurrences.{UnitNames, names_of_unit, judged_behind}
+use Rattle.program_occurrences.specs.Occurrences.{names_of_unit, judged_behind}
 use Rattle.name_spaces.specs.Spaces.{spaces_of}
 use Rattle.cond_name_spaces.specs.Spaced.{InSpace, names_among, spaced}
 use Rattle.told_occurrences.specs.Told.{HaveSame, pairs_of, names_of, IsTold}

@@ -1,5 +1,3 @@
-use Rattle.cond_scopes.specs.Progress.{numbers}
-use Rattle.program_occurrences.specs.Occurrences.{names_of_unit, judged_behind}
 use Rattle.read_occurrences.specs.Laws.{unit_pairs}
 use Rattle.read_occurrences.proofs.laws.occurrences_are_read.Goals as goal
 
