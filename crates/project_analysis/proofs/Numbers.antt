@@ -27,12 +27,17 @@ module _ (on : ℕ → Bool) where
   abbrev this : ℕ → CondToken → Leaf
   this number first = changed_leaf numbering (record { number = Some number; text = plain_token first.token })
 
+  -- the first of them, if it is there, and those behind it
+  abbrev sited_next : Bool → ℕ → CondToken → List CondToken → List Leaf
+  sited_next there number first rest =
+      map (changed_leaf numbering) (if there then record { number = Some number; text = plain_token first.token } ∷ numbered_at on (suc number) rest else numbered_at on (suc number) rest)
+
   tell : (number : ℕ) (tokens : List CondToken) → AllByRecursion TellsNumber (sited_from number tokens)
   tell number [] = tt
   tell number (first ∷ rest) = by (value on (condition_of first.when)) (tell (suc number) rest)
     where
       by : (b : Bool) → AllByRecursion TellsNumber (sited_from (suc number) rest)
-          → AllByRecursion TellsNumber (map (changed_leaf numbering) (if b then record { number = Some number; text = plain_token first.token } ∷ numbered_at on (suc number) rest else numbered_at on (suc number) rest))
+          → AllByRecursion TellsNumber (sited_next b number first rest)
       by true behind = ((λ name. refl), behind)
       by false behind = behind
 
@@ -42,7 +47,7 @@ module _ (on : ℕ → Bool) where
   above number (first ∷ rest) i a e = by (value on (condition_of first.when)) i e (λ j f. above (suc number) rest j a f)
     where
       by : (b : Bool) (i : ℕ)
-          → slice_get (map (changed_leaf numbering) (if b then record { number = Some number; text = plain_token first.token } ∷ numbered_at on (suc number) rest else numbered_at on (suc number) rest)) i ≡ Some a
+          → slice_get (sited_next b number first rest) i ≡ Some a
           → ((j : ℕ) → slice_get (sited_from (suc number) rest) j ≡ Some a → suc number ≤ number_of a.text) → number ≤ number_of a.text
       by true zero e behind = let same : this number first ≡ a = cc in subst (λ (l : Leaf). number ≤ number_of l.text) same (omega arith)
       by true (suc j) e behind = let later = behind j e in omega (arith, later)
@@ -54,10 +59,7 @@ module _ (on : ℕ → Bool) where
   apart number [] i j a b e f same = absurd (cc)
   apart number (first ∷ rest) i j a b e f same = by (value on (condition_of first.when)) i j e f (λ k l g h. apart (suc number) rest k l a b g h same)
     where
-      abbrev list : Bool → List Leaf
-      list x = map (changed_leaf numbering) (if x then record { number = Some number; text = plain_token first.token } ∷ numbered_at on (suc number) rest else numbered_at on (suc number) rest)
-
-      by : (x : Bool) (i j : ℕ) → slice_get (list x) i ≡ Some a → slice_get (list x) j ≡ Some b
+      by : (x : Bool) (i j : ℕ) → slice_get (sited_next x number first rest) i ≡ Some a → slice_get (sited_next x number first rest) j ≡ Some b
           → ((k l : ℕ) → slice_get (sited_from (suc number) rest) k ≡ Some a → slice_get (sited_from (suc number) rest) l ≡ Some b → k ≡ l) → i ≡ j
       by false i j e f behind = behind i j e f
       by true zero zero e f behind = refl

@@ -43,7 +43,7 @@ module _ (one : ProgramsAreOne) (outcomes : OutcomesAreOne) (only : TreesAreOne)
   pub units_told :
       Product (project_view project) files c → AreParsed (has c) project files parsed → HaveLeaves (has c) project parsed
       → ((linked : Units) (js : List Binding) → AreWritten sited → judged_program sited ≡ fine linked js → UnitsTellNumbers (has c) project.units.items numbered
-          → AreTold (has c) project.units.items numbered (names_of_units sited) told)
+      → AreTold (has c) project.units.items numbered (names_of_units sited) told)
       → AreTold (has c) project.units.items numbered (names_of_units sited) told
   units_told product are_parsed leaves tells =
       let trees = present_trees (has c) project.units.items parsed.forests.items in

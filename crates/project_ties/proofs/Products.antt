@@ -62,7 +62,7 @@ module _ (one : ProgramsAreOne) (outcomes : OutcomesAreOne) (only : TreesAreOne)
     (leaves : (c : List Bool) → IsTrue (value (has c) admits) → HaveLeaves (has c) project parsed)
     (numbers_are : AllZip IsNumbered parsed.forests.items numbered)
     (are_told : (c : List Bool) → Product (project_view project) files c
-        → AreTold (has c) project.units.items numbered (names_of_units (present_trees (has c) project.units.items numbered)) told)
+    → AreTold (has c) project.units.items numbered (names_of_units (present_trees (has c) project.units.items numbered)) told)
     (accepted_below : VarsBelow (length project.features.items) (condition_of t.accepted))
     (ties_below : TiesBelow features t.ties.items)
     (names_below : NamesBelow features t.names.items)

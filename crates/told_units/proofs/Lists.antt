@@ -16,7 +16,7 @@ use Rattle.bindings.specs.Visible.{ordinary}
 use Rattle.name_spaces.specs.Laws.{common_by}
 use Rattle.std.proofs.lemmas.Bool.{eqb-true}
 use Rattle.cond_pairings.specs.Pairs.{Pair, one_seen, pairs_seen}
-use Rattle.cond_pairings.proofs.Walks.{one_of, pair_more}
+use Rattle.cond_pairings.proofs.Walks.{one_of}
 use Rattle.cond_pairings.specs.declared.pairs.CondPairing.{CondPairing}
 use Rattle.cond_name_spaces.specs.declared.entries.SpacedName.{SpacedName}
 use Rattle.cond_name_spaces.specs.Spaced.{InSpace, plain_name}
@@ -106,55 +106,3 @@ own_among number (p ∷ rest) =
       | true ↦ ap (λ c. p.declared_by == number || c) (own_among number rest)
       | false ↦ own_among number rest
     ]
-
-or_assoc : (a b c : Bool) → ((a || b) || c) ≡ (a || (b || c))
-or_assoc true b c = refl
-or_assoc false b c = refl
-
-any_behind : {X : Type 0} (test : X → Bool) (xs ys : List X) → list_any test (xs ++ ys) ≡ (list_any test xs || list_any test ys)
-any_behind test [] ys = refl
-any_behind test (x ∷ xs) ys = ap (λ b. test x || b) (any_behind test xs ys) ∙ sym (or_assoc (test x) (list_any test xs) (list_any test ys))
-
--- none that declares another is paired with itself
-not_own : (number : ℕ) (p : Pair) → (p.identifier ≡ p.declared_by → ⊥) → is_own_pair number p ≡ false
-not_own number p other = by (p.identifier == number) (p.declared_by == number) refl refl
-  where
-    by : (a b : Bool) → (p.identifier == number) ≡ a → (p.declared_by == number) ≡ b → (a && b) ≡ false
-    by true true e f = absurd (other (eqb-true p.identifier number e ∙ sym (eqb-true p.declared_by number f)))
-    by true false e f = refl
-    by false b e f = refl
-
-module _ (on : ℕ → Bool) (number : ℕ) where
-  abbrev own_in : List CondPairing → Bool
-  own_in pairs = list_any (is_own_pair number) (pairs_seen on pairs)
-
-  abbrev is_own : CondPairing → Bool
-  is_own p = list_any (is_own_pair number) (one_seen on p)
-
-  module _ (own pairs : List CondPairing) (p : CondPairing) (i : ℕ) (whole : Bool) (within : i < length pairs) (is : p ≡ get_or pairs i p) (so_far : (own_in own || own_in (drop i pairs)) ≡ whole) where
-    next_is : own_in (drop i pairs) ≡ (is_own p || own_in (drop (i + 1) pairs))
-    next_is = ap own_in (one_of pairs p i within is) ∙ any_behind (is_own_pair number) (one_seen on p) (pairs_seen on (drop (i + 1) pairs))
-
-    pub own_pushed : (new : List CondPairing) (q : CondPairing) → new ≡ own ++ q ∷ [] → q.identifier ≡ p.identifier → q.declared_by ≡ p.declared_by → condition_of q.when ≡ condition_of p.when
-        → (own_in new || own_in (drop (i + 1) pairs)) ≡ whole
-    own_pushed new q made same by when =
-        ap (λ l. own_in l || own_in (drop (i + 1) pairs)) made
-        ∙ ap (λ l. list_any (is_own_pair number) l || own_in (drop (i + 1) pairs)) (pair_more on own q)
-        ∙ ap (λ b. b || own_in (drop (i + 1) pairs)) (any_behind (is_own_pair number) (pairs_seen on own) (one_seen on q))
-        ∙ or_assoc (own_in own) (is_own q) (own_in (drop (i + 1) pairs))
-        ∙ ap (λ b. own_in own || (b || own_in (drop (i + 1) pairs))) copied
-        ∙ ap (λ b. own_in own || b) (sym next_is)
-        ∙ so_far
-      where
-        copied : is_own q ≡ is_own p
-        copied =
-            ap (λ c. list_any (is_own_pair number) (if value on c then record { identifier = q.identifier; declared_by = q.declared_by } ∷ [] else [])) when
-            ∙ ap (λ n. list_any (is_own_pair number) (if value on (condition_of p.when) then record { identifier = n; declared_by = q.declared_by } ∷ [] else [])) same
-            ∙ ap (λ n. list_any (is_own_pair number) (if value on (condition_of p.when) then record { identifier = p.identifier; declared_by = n } ∷ [] else [])) by
-
-    pub own_passed : (p.identifier ≡ p.declared_by → ⊥) → (own_in own || own_in (drop (i + 1) pairs)) ≡ whole
-    own_passed other = ap (λ b. own_in own || b) (sym (next_is ∙ ap (λ b. b || own_in (drop (i + 1) pairs)) (none (value on (condition_of p.when))))) ∙ so_far
-      where
-        none : (b : Bool) → list_any (is_own_pair number) (if b then record { identifier = p.identifier; declared_by = p.declared_by } ∷ [] else []) ≡ false
-        none true = ap (λ c. c || false) (not_own number (record { identifier = p.identifier; declared_by = p.declared_by }) other)
-        none false = refl

@@ -5,7 +5,4 @@ use Rattle.told_units.proofs.Lists.{own_among}
 use Rattle.told_units.proofs.own.own_tokens.Goals as goal
 
 pub returns : goal.returns
-returns c on number =
-    ap (λ l. is_among l number) (c.in_ok-all.ensures.declared on number)
-    ∙ own_among number (pairs_seen on c.in_ok-own.own.items)
-    ∙ c.in_ok-own.ensures on number
+returns c on number = ap (λ l. is_among l number) (c.in_ok-all.ensures on number) ∙ own_among number (pairs_seen on c.args.pairs.now)
