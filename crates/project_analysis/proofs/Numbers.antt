@@ -1,13 +1,12 @@
 -- The leaves of trees whose tokens tell their numbers.
-use Rattle.std.proofs.Common.{◌≡◌, ℕ, zero, suc, ◌<◌, ◌≤◌, Bool, true, false, List, [], ◌∷◌, map, All, Some, refl, sym, ap, subst, ◌∙◌, arith}
-use Rattle.std.specs.Prelude.{IsTrue, slice_get, if◌then◌else◌}
+use Rattle.std.proofs.Common.{◌≡◌, ℕ, zero, suc, ◌≤◌, Bool, true, false, List, [], ◌∷◌, map, Some, refl, sym, ap, subst, ◌∙◌, arith}
+use Rattle.std.specs.Prelude.{slice_get, if◌then◌else◌}
 use Rattle.std.specs.List.{AllByRecursion, AllZip}
 use Rattle.std.proofs.lemmas.List.Elements.{All-from_recursion}
 use Rattle.cond_formula.specs.Conditions.{condition_of, value}
 use Rattle.c_text.specs.Token.{plain_token}
-use Rattle.bindings.specs.Bindings.{is_name}
 use Rattle.choice_trees.specs.declared.trees.Forest.{Forest}
-use Rattle.choice_trees.specs.Leaves.{Leaf, forest_leaves}
+use Rattle.choice_trees.specs.Leaves.{Leaf}
 use Rattle.project_file.specs.declared.projects.Unit.{Unit}
 use Rattle.cond_tokens.specs.declared.tokens.CondToken.{CondToken}
 use Rattle.cond_tokens.specs.declared.tokens.CondStream.{CondStream}

@@ -12,15 +12,16 @@ use Rattle.tied_classes.specs.Told.{TellsProducts}
 use Rattle.changed_forests.specs.Numbered.{IsNumbered}
 use Rattle.told_occurrences.specs.Units.{AreTold}
 use Rattle.project_ties.specs.Projects.{tied_tokens_of}
+use Rattle.project_analysis.specs.declared.analysis.ToldProject.{ToldProject}
 use Rattle.project_analysis.specs.declared.analysis.Analysis.{Analysis}
 
--- the units of a product, by the trees whose tokens tell their numbers
-pub record IsToldOf (project : Project) (files : List PlainFile) (c : List Bool) (a : Analysis) : Type 0 where
-  pub told : AreTold (has c) project.units.items a.numbered.items (names_of_units (present_trees (has c) project.units.items a.numbered.items)) a.told.items
+-- A product's units are told by the numbers of their tokens.
+pub record IsToldOf (project : Project) (c : List Bool) (told : ToldProject) : Type 0 where
+  pub units : AreTold (has c) project.units.items told.numbered.items (names_of_units (present_trees (has c) project.units.items told.numbered.items)) told.units.items
 
--- It tells the units of each product and which tokens are tied in it.
+-- It tells the units of each product, and which tokens of files are tied in it.
 pub record IsAnalysed (project : Project) (files : List PlainFile) (a : Analysis) : Type 0 where
   -- the trees once more, whose tokens tell their numbers
-  pub numbered : AllZip IsNumbered a.parsed.forests.items a.numbered.items
-  pub units : (c : List Bool) → Product (project_view project) files c → IsToldOf project files c a
+  pub numbered : AllZip IsNumbered a.parsed.forests.items a.told.numbered.items
+  pub told : (c : List Bool) → Product (project_view project) files c → IsToldOf project c a.told
   pub ties : TellsProducts (project_view project) files (tied_tokens_of project a.ties)

@@ -12,6 +12,8 @@ ghost use Rattle.project_file.specs.View.{project_view};
 ghost use Rattle.project_store.specs.Reads.{names_of};
 ghost use Rattle.cond_scopes.specs.Units.{present_trees};
 ghost use Rattle.program_occurrences.specs.Occurrences.{names_of_units};
+ghost use Rattle.reference_classes.specs.Products.{Product};
+ghost use Rattle.project_check.specs.Parsed.{AreParsed, HaveLeaves};
 ghost use Rattle.changed_forests.specs.Numbered.{IsNumbered};
 ghost use Rattle.told_occurrences.specs.Units.{AreTold};
 ghost use Rattle.told_units.specs.Units.{UnitsTellNumbers};
@@ -36,15 +38,21 @@ use told_units::told_units;
 use unit_outcomes::tokens_are_spelt;
 use verdict_query::ModelOracle;
 
+/// What is told of the identifiers of a project's units in all configurations.
+#[derive(Drop)]
+pub struct ToldProject {
+    /// The trees of each unit; the site of each token is its number in the unit's stream.
+    pub numbered: Vec<Forest>,
+    /// The occurrences of each unit, and the names that it declares for all, by the numbers of tokens.
+    pub units: Vec<ToldUnit>,
+}
+
 /// What is known of a project in all configurations.
 #[derive(Drop)]
 pub struct Analysis {
     /// The tokens of its units and their trees, and where there are none.
     pub parsed: ParsedUnits,
-    /// The trees once more; the site of each token is its number in its unit's stream.
-    pub numbered: Vec<Forest>,
-    /// The occurrences of each unit, and the names that it declares for all, by the numbers of tokens.
-    pub told: Vec<ToldUnit>,
+    pub told: ToldProject,
     /// The same by the tokens of files.
     pub ties: ProjectTies,
 }
@@ -81,13 +89,23 @@ fn told_of<O: Oracle>(
     Ok(all)
 }
 
-/// What is known of a project in all configurations. `files` are its headers and then its units.
-pub fn analysed(alloc: Global, project: &Project, files: &Files) -> Result<Analysis, NoMemory>
+/// What is told of the identifiers of a project whose units are parsed so.
+fn told_project<O: Oracle>(
+    alloc: Global,
+    oracle: &mut O,
+    project: &Project,
+    files: &Files,
+    parsed: &ParsedUnits,
+) -> Result<ToldProject, NoMemory>
     requires named { map (λ f. f.name) (plain_files files.now) ≡ names_of (project_view project.now) }
-    requires short { All (λ f. length f.bytes ≤ 4294967295) (plain_files files.now) }
-    requires few { length files.now.list.items < 4294967295 }
-    requires below { VarsBelow (length project.now.features.items) (admitted project.now.model) }
-    ensures { IfOk result (IsAnalysed project.now (plain_files files.now)) }
+    requires as_many { length parsed.now.forests.items ≡ length project.now.units.items }
+    requires model { O.admits oracle.old ≡ admitted project.now.model }
+    requires parsed { (c : List Bool) → IsTrue (value (has c) (O.admits oracle.old)) → AreParsed (has c) project.now (plain_files files.now) parsed.now }
+    requires leaves { (c : List Bool) → IsTrue (value (has c) (O.admits oracle.old)) → HaveLeaves (has c) project.now parsed.now }
+    ensures kept { O.admits oracle.new ≡ O.admits oracle.old }
+    ensures numbered { IfOk result (λ t. AllZip IsNumbered parsed.now.forests.items t.numbered.items) }
+    ensures told { IfOk result (λ t. (c : List Bool) → Product (project_view project.now) (plain_files files.now) c
+        → AreTold (has c) project.now.units.items t.numbered.items (names_of_units (present_trees (has c) project.now.units.items t.numbered.items)) t.units.items) }
 {
     programs_are_one();
     outcomes_are_one();
@@ -97,23 +115,30 @@ pub fn analysed(alloc: Global, project: &Project, files: &Files) -> Result<Analy
     numberings_are_seen();
     sites_dont_matter();
     units_stay_units();
+    let numbered = all_numbered(alloc, &parsed.forests)?;
+    let units = told_of(alloc, oracle, &project.units, &numbered)?;
+    Ok(ToldProject { numbered, units })
+}
+
+/// What is known of a project in all configurations. `files` are its headers and then its units.
+pub fn analysed(alloc: Global, project: &Project, files: &Files) -> Result<Analysis, NoMemory>
+    requires named { map (λ f. f.name) (plain_files files.now) ≡ names_of (project_view project.now) }
+    requires short { All (λ f. length f.bytes ≤ 4294967295) (plain_files files.now) }
+    requires few { length files.now.list.items < 4294967295 }
+    requires below { VarsBelow (length project.now.features.items) (admitted project.now.model) }
+    ensures { IfOk result (IsAnalysed project.now (plain_files files.now)) }
+{
     let mut oracle = ModelOracle::new(alloc, &project.model);
     let parsed = parse_units(alloc, project, files, &mut oracle)?;
-    let numbered = all_numbered(alloc, &parsed.forests)?;
-    let told = told_of(alloc, &mut oracle, &project.units, &numbered)?;
+    let told = told_project(alloc, &mut oracle, project, files, &parsed)?;
     let ties = ties_of_told(
         alloc,
         &mut oracle,
         project,
         files,
         &parsed,
-        &numbered,
-        &told,
+        &told.numbered,
+        &told.units,
     )?;
-    Ok(Analysis {
-        parsed,
-        numbered,
-        told,
-        ties,
-    })
+    Ok(Analysis { parsed, told, ties })
 }

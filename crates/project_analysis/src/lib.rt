@@ -4,4 +4,4 @@
 
 mod analysis;
 
-pub use analysis::{Analysis, analysed};
+pub use analysis::{Analysis, ToldProject, analysed};
