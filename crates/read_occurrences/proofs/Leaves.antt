@@ -16,7 +16,7 @@ use Rattle.cond_name_spaces.specs.Spaced.{names_among}
 use Rattle.told_occurrences.specs.Told.{number_in}
 use Rattle.told_occurrences.specs.Leaves.{TellsNumber}
 use Rattle.read_occurrences.proofs.Walked.{token_names}
-use Rattle.read_occurrences.proofs.Rows.{IsLeafOf}
+use Rattle.read_occurrences.proofs.OneByOne.{IsLeafOf}
 
 -- an identifier among the leaves
 pub record IsLeafAt (leaves : List Leaf) (i : Identifier) (l : Leaf) : Type 0 where

@@ -1,4 +1,4 @@
-pub mod Rows
+pub mod OneByOne
 pub mod Walked
 pub mod Quiet
 pub mod Members

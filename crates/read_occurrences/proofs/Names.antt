@@ -18,7 +18,7 @@ use Rattle.occurrence_names.proofs.Kept.{In, in-map}
 use Rattle.name_spaces.specs.Laws.{common_by, declared_name}
 use Rattle.told_occurrences.specs.Told.{number_in, pair_of, NumberedName, numbered}
 use Rattle.read_occurrences.specs.Read.{is_own_pair, number_of_name, name_read, names_read}
-use Rattle.read_occurrences.proofs.Rows.{Row, Source, in_source, in_origin, in_made}
+use Rattle.read_occurrences.proofs.OneByOne.{Row, Source, in_source, in_origin, in_made}
 use Rattle.read_occurrences.proofs.Uses.{Known, spaced_of, from_spaced, to_spaced}
 
 -- ---- the pairs of bindings

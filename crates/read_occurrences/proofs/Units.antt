@@ -57,7 +57,7 @@ use Rattle.read_occurrences.proofs.Growth.{HasMember, IsKnown}
 use Rattle.read_occurrences.proofs.Structs.{Ends, unit_ends}
 use Rattle.read_occurrences.proofs.Unused.{each_unused}
 use Rattle.read_occurrences.proofs.Leaves.{IsLeafAt, names_placed, leaves_told, tokens_named, names_numbered}
-use Rattle.read_occurrences.proofs.Rows.{Row, Facts, IsJudgedAs, IsFirst, Rows, rows_of, in_left, in_right, in_either, Source, in_source, in_origin, in_made, row_bound, row_first}
+use Rattle.read_occurrences.proofs.OneByOne.{Row, Facts, IsJudgedAs, IsFirst, Rows, rows_of, in_left, in_right, in_either, Source, in_source, in_origin, in_made, row_bound, row_first}
 use Rattle.read_occurrences.proofs.Uses.{Known, spaced_with, spaced_of, use_with, use_of, pairs_sound, pairs_complete}
 use Rattle.read_occurrences.proofs.Names.{pairs_of_binding, bindings_pair, IsPairOf, from_binding, name_of, names_sound, names_complete}
 

@@ -12,7 +12,7 @@ use Rattle.entity_numbers.specs.Bound.{AreUsedBehind}
 use Rattle.entity_numbers.proofs.Places.{of_more}
 use Rattle.program_occurrences.specs.Occurrences.{occurrence_among, declares_itself}
 use Rattle.name_spaces.proofs.Told.{Below, below_more, declared_before}
-use Rattle.read_occurrences.proofs.Rows.{IsUnused}
+use Rattle.read_occurrences.proofs.OneByOne.{IsUnused}
 
 placed : (e : Entity) (before : List Identified) (js : List Binding) → AreOf before js → first_with e before ≡ None → first_place e js ≡ None
 placed e [] [] of_ f = refl

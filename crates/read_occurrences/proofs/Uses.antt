@@ -25,7 +25,7 @@ use Rattle.name_spaces.specs.Laws.{binds_itself}
 use Rattle.name_spaces.proofs.Embeddings.{Declares}
 use Rattle.told_occurrences.specs.Told.{number_in, pair_of}
 use Rattle.read_occurrences.proofs.Walked.{IsMember}
-use Rattle.read_occurrences.proofs.Rows.{Row, Facts, row_bound, row_first, Source, in_origin, in_made}
+use Rattle.read_occurrences.proofs.OneByOne.{Row, Facts, row_bound, row_first, Source, in_origin, in_made}
 
 -- what is known of the rows of a unit
 pub record Known (unit : UnitNames) (tags : Table ℕ) (numbers : List ℕ) (by : ℕ → ℕ) (tag : ℕ → List ℕ) (members : ℕ → List ℕ → Option ℕ) (rows : List Row) : Type 0 where

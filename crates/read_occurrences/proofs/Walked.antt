@@ -11,7 +11,7 @@ use Rattle.bindings.specs.Bindings.{is_name}
 use Rattle.scope_readings.specs.Scopes.{Pairing, Scopes, this, or_own, passed, paired, used, tagged, Scope, file_scope, block_scope, members, named, shown, starting}
 use Rattle.scope_readings.specs.Walks.{Role, ordinary_use, member_use, tag, declared_name, role, turns, declaration_in, scope_of, may_declare, ends_scope, leave_if, walk_name, walk_parts, walk_unit}
 use Rattle.occurrence_names.proofs.Kept.{In}
-use Rattle.read_occurrences.proofs.Rows.{in_left}
+use Rattle.read_occurrences.proofs.OneByOne.{in_left}
 use Rattle.name_spaces.specs.Spaces.{space_in, space_by, struct_in, spaces_in_parts, spaces_of}
 
 in_last : {X : Type 0} (x : X) (xs : List X) → In x (xs ++ x ∷ [])

@@ -4,5 +4,7 @@
 #![tactic(auto)]
 
 mod laws;
+mod rows;
 
 pub use laws::{names_are_read, occurrences_are_read, pairs_are_read};
+pub use rows::worked_rows;
