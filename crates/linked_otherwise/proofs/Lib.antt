@@ -1,3 +1,4 @@
+mod Closed
 mod Lists
 mod Units
 pub mod Trees

@@ -9,7 +9,11 @@ use Rattle.bindings.specs.Laws.{AreWritten}
 use Rattle.program_occurrences.specs.Occurrences.{UnitNames, names_of_units}
 use Rattle.program_occurrences.specs.Links.{bound_numbers, links_of}
 use Rattle.changed_forests.specs.Renamed.{is_of_class, renamed_tree}
-use Rattle.linked_otherwise.specs.Otherwise.{AreAllInOrder, AreRenamed, AreNamed, AreWrittenSo, AreRenamedTogether, IsLinkedOtherwise}
+use Rattle.linked_otherwise.specs.Otherwise.{AreAllInOrder, AreRenamed, AreNamed, AreWrittenSo, AreRenamedTogether, IsClosed, IsLinkedOtherwise}
+
+-- A class that has with each identifier all that it brings along has all declarations of a name or none.
+abbrev pub ClosedAreRenamedTogether : Type 0
+ClosedAreRenamedTogether = (of_class : PlainToken → Bool) (units : List UnitNames) → IsClosed of_class units → AreRenamedTogether of_class units
 
 -- Where identifiers are declared by those that declared them, and declarations of a name with external linkage are renamed together, each is
 -- linked to the one to which it was linked exactly where none is linked otherwise, as the names before tell.

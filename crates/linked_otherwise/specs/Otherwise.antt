@@ -5,6 +5,7 @@ use Rattle.c_text.specs.Token.{PlainToken}
 use Rattle.core_meaning.specs.Linking.{built_in_named}
 use Rattle.entity_numbers.specs.Firsts.{AreInOrder}
 use Rattle.program_occurrences.specs.Occurrences.{UnitNames, Occurrence, occurrences_of, OccursIn, CommonName, external_name}
+use Rattle.program_occurrences.specs.Classes.{file_token, Brings}
 use Rattle.name_spaces.specs.Laws.{declared_name}
 
 -- ---- declarations of names with external linkage
@@ -55,6 +56,12 @@ module _ (of_class : PlainToken → Bool) where
   -- Declarations of one name are all of the class, or none is.
   pub record AreRenamedTogether (units : List UnitNames) : Type 0 where
     pub together : (d e : ExternalDeclaration units) → d.name ≡ e.name → of_class (token_of d) ≡ of_class (token_of e)
+
+  -- with an identifier each is of the class that it brings along
+  pub record IsClosed (units : List UnitNames) : Type 0 where
+    pub closed :
+        (o p : OccursIn units) → Brings units (file_token o.occurrence) (file_token p.occurrence) → of_class o.occurrence.identifier.token ≡ true
+        → of_class p.occurrence.identifier.token ≡ true
 
   -- ---- what it links otherwise
 

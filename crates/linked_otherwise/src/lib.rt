@@ -2,7 +2,12 @@
 //! Here are the definitions (in `specs/`) and the laws, the contracts of functions without a body of their own.
 #![tactic(auto)]
 
-ghost use Rattle.linked_otherwise.specs.Laws.{LinksAreTold, LinksOfRenamedAreTold};
+ghost use Rattle.linked_otherwise.specs.Laws.{ClosedAreRenamedTogether, LinksAreTold, LinksOfRenamedAreTold};
+
+/// A class that has all that its identifiers bring along has all declarations of a name or none.
+pub fn closed_are_renamed_together()
+    ensures { ClosedAreRenamedTogether }
+{}
 
 /// Units whose declarations are renamed together are linked as they were exactly where none is linked otherwise.
 pub fn links_are_told()
