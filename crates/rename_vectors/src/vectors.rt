@@ -1,0 +1,89 @@
+//! The cases, and how many agree.
+use crate::classes::{Found, found};
+use anyhow::{Context, Result};
+use std::alloc::Global;
+use std::fs;
+use std::rt::Files as FileAccess;
+use text_edits::Files;
+use vector_cases::{Case, Output};
+
+/// The file of the cases.
+const CASES: &str = "rename.tsv";
+
+/// What a case says of its place.
+#[derive(Clone, Copy, Debug, PartialEq, Eq)]
+enum Wanted {
+    /// It is renamed: what is written and what is printed.
+    Files,
+    Nothing,
+    /// Something stands in the way: but there is something to rename.
+    Something,
+    /// Another answer, of the words or the project.
+    Other,
+}
+
+fn wanted(status: u8) -> Wanted {
+    match status {
+        0 => Wanted::Files,
+        1 => Wanted::Something,
+        8 => Wanted::Nothing,
+        _ => Wanted::Other,
+    }
+}
+
+/// Whether each file of the project is written with these bytes.
+fn are_written(case: &Case, out: &str, files: &Files, alloc: Global) -> Result<bool> {
+    for file in &files.list {
+        let written = &file.name;
+        let name = format!(in alloc; "{out}/{written}")?;
+        if case.wanted_at(&name) != Some(file.bytes.as_slice()) {
+            return Ok(false);
+        }
+    }
+    Ok(true)
+}
+
+/// Whether what is found at the place of a case is what it says.
+fn agrees(alloc: Global, case: &Case, found: &Found) -> Result<bool> {
+    match (wanted(case.status), found) {
+        (Wanted::Files, Found::Renamed(files, report)) => {
+            let Some(out) = case.words.get(4) else {
+                return Ok(false);
+            };
+            let same = are_written(case, out, files, alloc)?;
+            Ok(same && report.as_bytes() == case.printed.as_slice())
+        }
+        (Wanted::Nothing, Found::Nothing) => Ok(true),
+        (Wanted::Something, Found::Renamed(..)) => Ok(true),
+        (Wanted::Other, _) => Ok(true),
+        _ => Ok(false),
+    }
+}
+
+/// Runs the case of a line, and prints that it differs if it does.
+fn run_case<R: Print + AllocGlobal>(rt: &R, line: &str, number: u32) -> Result<bool> {
+    let alloc: Global = rt.alloc();
+    let case = Case::read(alloc, Output::Files, line)?;
+    let found = found(alloc, &case)?;
+    let same = agrees(alloc, &case, &found)?;
+    if !same {
+        let label = case.label.as_str();
+        println!(rt; "{CASES}:{number}: {label}: differs")?;
+    }
+    Ok(same)
+}
+
+/// Runs all cases, and prints how many agree.
+pub(crate) fn run<R: FileAccess + Print + AllocGlobal>(rt: &R) -> Result<()> {
+    let text = fs::read_to_string(rt, CASES).context(CASES)?;
+    let mut cases: u32 = 0;
+    let mut agreeing: u32 = 0;
+    for line in text.lines() {
+        cases = cases.saturating_add(1);
+        if run_case(rt, line, cases)? {
+            agreeing = agreeing.saturating_add(1);
+        }
+    }
+    println!(rt; "classes of rename.tsv: {agreeing} of {cases} agree")?;
+    Ok(())
+}
