@@ -1,5 +1,5 @@
 -- What becomes of all products of a project (ISO/IEC 9899:2011, 5.1.1.2).
-use Rattle.std.specs.Prelude.{ℕ, Bool, List}
+use Rattle.std.specs.Prelude.{Bool, List}
 use Rattle.cond_formula.specs.Features.{has}
 use Rattle.text_edits.specs.Files.{PlainFile}
 use Rattle.core_meaning.specs.Program.{PlainProgram}
