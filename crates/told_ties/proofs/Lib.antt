@@ -3,3 +3,4 @@ pub mod Numbers
 pub mod Found
 pub mod Told
 pub mod Seen
+pub mod Tell
