@@ -3,4 +3,3 @@ pub mod Numbers
 pub mod Found
 pub mod Told
 pub mod Seen
-pub mod Tell

@@ -79,7 +79,7 @@ record IsLeafOf (first : ℕ) (tokens : List CondToken) (leaf : Leaf) : Type 0 w
   number : leaf.number ≡ Some (first + place)
   text : leaf.text ≡ plain_token entry.token
 
-abbrev pub own_leaf : ℕ → CondToken → Leaf
+abbrev own_leaf : ℕ → CondToken → Leaf
 own_leaf number t = record { number = Some number; text = plain_token t.token }
 
 leaf_first : (first : ℕ) (t : CondToken) (rest : List CondToken) (leaf : Leaf) → own_leaf first t ≡ leaf → IsLeafOf first (t ∷ rest) leaf

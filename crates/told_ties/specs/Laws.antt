@@ -1,11 +1,8 @@
 -- What ties that are told of units say of them; each is the contract of a function of this crate.
-use Rattle.std.specs.Prelude.{◌≡◌, ◌↔◌, ℕ, Bool, List, Contains}
+use Rattle.std.specs.Prelude.{◌↔◌, ℕ, Bool, List, Contains}
 use Rattle.std.specs.List.{AllZip}
 use Rattle.cond_formula.specs.Features.{has}
 use Rattle.choice_trees.specs.declared.trees.Forest.{Forest}
-use Rattle.choice_trees.specs.Leaves.{forest_leaves}
-use Rattle.choice_parser.specs.Units.{numbered_at}
-use Rattle.cond_tokens.specs.declared.tokens.CondToken.{CondToken}
 use Rattle.project_file.specs.declared.projects.Unit.{Unit}
 use Rattle.cond_tokens.specs.declared.tokens.CondStream.{CondStream}
 use Rattle.cond_scopes.specs.Units.{present_trees}
@@ -16,7 +13,6 @@ use Rattle.tied_tokens.specs.Ties.{PlainTiedTokens}
 use Rattle.tied_classes.specs.Told.{IsDeclaredBy, DeclaresName, Ties, Names}
 use Rattle.changed_forests.specs.Numbered.{IsNumbered}
 use Rattle.told_occurrences.specs.declared.told.ToldUnit.{ToldUnit}
-use Rattle.told_occurrences.specs.Leaves.{TellNumbers}
 use Rattle.told_occurrences.specs.Units.{AreTold}
 use Rattle.told_ties.specs.Ties.{TiedPair, NamedToken, tied, named, tied_seen, named_seen, tied_in, named_in}
 
@@ -40,9 +36,3 @@ pub record TiesAreSeen : Type 0 where
   pub names_are :
       (all : PlainTiedTokens) (c : List Bool) (token : PlainFileToken) (name : CommonName)
       → Names all c token name ↔ Contains (named_seen (has c) all.names) (named token name)
-
--- The leaves of trees whose tokens tell their numbers in the stream tell them, where they are the stream's tokens.
-abbrev pub NumberedLeavesTell : Type 0
-NumberedLeavesTell =
-    (on : ℕ → Bool) (tokens : List CondToken) (forest numbered : Forest) → IsNumbered forest numbered → forest_leaves on forest ≡ numbered_at on 0 tokens
-    → TellNumbers (forest_leaves on numbered)

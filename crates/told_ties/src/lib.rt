@@ -2,7 +2,7 @@
 //! sees of them (in `specs/`), and the laws that this is what there is in its units, each the contract of a function without a body.
 #![tactic(auto)]
 
-ghost use Rattle.told_ties.specs.Laws.{OccurrencesAreTied, TiesAreSeen, NumberedLeavesTell};
+ghost use Rattle.told_ties.specs.Laws.{OccurrencesAreTied, TiesAreSeen};
 
 use changed_forests::{changes_are_seen, numberings_are_seen};
 use choice_trees::leaves_are_spelled;
@@ -25,10 +25,3 @@ pub fn occurrences_are_tied()
 pub fn ties_are_seen()
     ensures { TiesAreSeen }
 {}
-
-/// The leaves of trees whose tokens tell their numbers tell them, each identifier another one.
-pub fn numbered_leaves_tell()
-    ensures { NumberedLeavesTell }
-{
-    changes_are_seen();
-}
