@@ -8,7 +8,6 @@ use Rattle.text_edits.specs.Files.{PlainFile}
 use Rattle.cond_formula.specs.Features.{has}
 use Rattle.cond_formula.specs.Conditions.{Condition, condition_of, value, VarsBelow}
 use Rattle.feature_model.specs.ModelView.{admitted}
-use Rattle.feature_ranges.specs.Ranges.{IsOffFrom}
 use Rattle.c_tree.specs.Trees.{PlainTree}
 use Rattle.c_tree.specs.ReadingLaws.{TreesAreOne}
 use Rattle.choice_trees.specs.declared.trees.Forest.{Forest}
@@ -24,10 +23,10 @@ use Rattle.project_check.specs.declared.forests.ParsedUnits.{ParsedUnits}
 use Rattle.project_check.specs.Parsed.{AreReadUnits, AreParsed, HaveLeaves}
 use Rattle.project_check.specs.Broken.{TellsProgram}
 use Rattle.project_check.proofs.Present.{trees_are_one}
-use Rattle.program_occurrences.specs.Occurrences.{UnitNames, CommonName, names_of_units}
+use Rattle.program_occurrences.specs.Occurrences.{CommonName, names_of_units}
 use Rattle.program_occurrences.specs.Classes.{PlainFileToken}
 use Rattle.reference_classes.specs.Products.{Product, names_in}
-use Rattle.tied_tokens.specs.Ties.{plain_tie, plain_declared_name, NamesFeaturesBelow}
+use Rattle.tied_tokens.specs.Ties.{plain_tie, plain_declared_name}
 use Rattle.tied_classes.specs.Told.{IsDeclaredBy, DeclaresName, Ties, Names, TellsProducts}
 use Rattle.changed_forests.specs.Numbered.{IsNumbered}
 use Rattle.told_occurrences.specs.declared.told.ToldUnit.{ToldUnit}

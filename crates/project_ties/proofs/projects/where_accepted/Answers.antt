@@ -1,8 +1,8 @@
-use Rattle.std.proofs.Common.{◌≡◌, Bool, length, IsTrue, rules, sym, ap, subst, ◌∙◌}
+use Rattle.std.proofs.Common.{◌≡◌, length, rules, sym, ap, subst, ◌∙◌}
 use Rattle.std.specs.Prelude.{not}
 use Rattle.text_edits.specs.Files.{plain_files}
 use Rattle.cond_formula.specs.Features.{has}
-use Rattle.cond_formula.specs.Conditions.{condition_of, value, VarsBelow}
+use Rattle.cond_formula.specs.Conditions.{condition_of, value}
 use Rattle.project_file.specs.View.{project_view}
 use Rattle.project_check.specs.Broken.{TellsProgram}
 use Rattle.project_ties.specs.Tied.{IsOwn}
