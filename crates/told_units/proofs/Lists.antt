@@ -1,14 +1,14 @@
 -- Pairs and names one behind the other.
-use Rattle.std.proofs.Common.{◌≡◌, ℕ, suc, ◌+◌, ◌<◌, ◌≤◌, Bool, true, false, ◌&&◌, List, [], ◌∷◌, ◌++◌, drop, length, get_or, refl, sym, ap, ap₂, ◌∙◌, arith}
+use Rattle.std.proofs.Common.{◌≡◌, ℕ, ◌+◌, ◌<◌, Bool, true, false, ◌&&◌, List, [], ◌∷◌, ◌++◌, drop, length, get_or, refl, sym, ap, ◌∙◌}
 use Rattle.std.specs.Prelude.{Option, Some, None, not, ◌==◌, ◌||◌, if◌then◌else◌}
 use Rattle.std.specs.List.{list_any}
-use Rattle.std.proofs.lemmas.List.{append-nil, append_assoc, drop_all}
+use Rattle.std.proofs.lemmas.List.{append-nil, append_assoc}
 use Rattle.cond_formula.specs.Conditions.{condition_of, value}
 use Rattle.conditional.specs.Entries.{seen, under, entries_of}
 use Rattle.conditional.specs.declared.entries.Guarded.{Guarded}
 use Rattle.core_meaning.specs.Entities.{Signature}
 use Rattle.core_meaning.specs.Entities as scopes
-use Rattle.program_occurrences.specs.Occurrences.{UnitNames, CommonName, external_name, is_external_name}
+use Rattle.program_occurrences.specs.Occurrences.{UnitNames, external_name, is_external_name}
 use Rattle.type_tables.specs.Tables.{FileName}
 use Rattle.type_tables.specs.Follows.{NameFollows}
 use Rattle.link_faults.specs.Measures.{is_so}
@@ -19,7 +19,7 @@ use Rattle.cond_pairings.specs.Pairs.{Pair, one_seen, pairs_seen}
 use Rattle.cond_pairings.proofs.Walks.{one_of}
 use Rattle.cond_pairings.specs.declared.pairs.CondPairing.{CondPairing}
 use Rattle.cond_name_spaces.specs.declared.entries.SpacedName.{SpacedName}
-use Rattle.cond_name_spaces.specs.Spaced.{InSpace, plain_name}
+use Rattle.cond_name_spaces.specs.Spaced.{plain_name}
 use Rattle.told_occurrences.specs.Told.{NumberedName, numbered}
 use Rattle.told_occurrences.specs.Units.{names_seen}
 use Rattle.told_occurrences.specs.Units as told

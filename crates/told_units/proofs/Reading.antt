@@ -12,7 +12,7 @@ use Rattle.choice_trees.specs.Leaves.{forest_leaves, LeavesAreSpelled}
 use Rattle.project_file.specs.declared.projects.Unit.{Unit}
 use Rattle.bindings.specs.Laws.{AreWritten}
 use Rattle.core_meaning.specs.Checking.{Binding, Checked, fine, refused, broken, ◌>>=◌, give}
-use Rattle.core_meaning.specs.Entities.{Struct, Numbers, FileName}
+use Rattle.core_meaning.specs.Entities.{Struct, Numbers}
 use Rattle.core_meaning.specs.UnitNames.{UnitState, judged_unit}
 use Rattle.core_meaning.specs.Linking.{Units, closed, judged_units, no_numbers, numbers_in, literals_of, listed, judged_program}
 use Rattle.core_meaning.specs.Linking as linking

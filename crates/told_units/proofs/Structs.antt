@@ -11,7 +11,7 @@ use Rattle.c_tree.specs.declared.terminals.Terminal.TheVariants as t
 use Rattle.c_tree.specs.Trees.{PlainTree, PlainTrees, leaf, node, none, more}
 use Rattle.c_tree.specs.Grammar.{is_word}
 use Rattle.core_meaning.specs.declared.refusals.TypeKind.TheVariants.{Redeclared}
-use Rattle.core_meaning.specs.Checking.{Binding, Checked, fine, refused, broken, with_bindings, ◌>>=◌, give, unless_so, or_broken, file_entity, declares, in_function}
+use Rattle.core_meaning.specs.Checking.{Binding, Checked, fine, refused, broken, ◌>>=◌, give, unless_so, or_broken, file_entity, declares, in_function}
 use Rattle.core_meaning.specs.Entities.{Struct, Sort, variable, function, FileName, Numbers, Scope, no_entry}
 use Rattle.core_meaning.specs.Expressions.{has_terminal, arithmetic_words}
 use Rattle.core_meaning.specs.Declarations.{Based, based_on_tag, based, name_in, new_struct, starred, behind_word, object_type, Parameter, with_block, parameters_of}

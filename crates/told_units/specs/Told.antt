@@ -26,7 +26,7 @@ module _ (on : ℕ → Bool) where
   abbrev pub TellsExternal : LeftUnit → UnitNames → Type 0
   TellsExternal left unit = (name : List ℕ) → unit.is_external name ≡ is_so (λ n. not n.internal) (name_seen on left.names.items name)
 
-  -- the pairs of identifiers to which others are bound
+  -- identifiers with those to which they are bound
   abbrev pub bound_pairs : UnitBindings → List Pair
   bound_pairs bound = declared_pairs (pairings_at on (identifiers_of bound))
 

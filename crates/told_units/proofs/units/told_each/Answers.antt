@@ -1,4 +1,4 @@
-use Rattle.std.proofs.Common.{◌≡◌, List, [], ◌∷◌, length, Iter, arith, rules, refl, sym, ap, ◌∙◌}
+use Rattle.std.proofs.Common.{◌≡◌, List, length, Iter, arith, rules, refl, sym, ap, ◌∙◌}
 use Rattle.std.specs.declared.iter.Zip.{Zip}
 use Rattle.std.proofs.lemmas.Iterator.{empty_from_Zip}
 use Rattle.std.proofs.lemmas.Slice.Zip.{Zip-more}

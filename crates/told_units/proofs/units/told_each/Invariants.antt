@@ -1,4 +1,4 @@
-use Rattle.std.proofs.Common.{◌≡◌, ℕ, Bool, List, length, IsTrue}
+use Rattle.std.proofs.Common.{◌≡◌, Bool, List, length, IsTrue}
 use Rattle.cond_formula.specs.Features.{has}
 use Rattle.cond_formula.specs.Conditions.{value}
 use Rattle.told_units.proofs.Each.{GoesOn}
