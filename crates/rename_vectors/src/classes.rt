@@ -46,7 +46,7 @@ fn number_of(files: &Files, name: &str) -> Option<u32> {
 }
 
 /// The files in which these tokens get a new name, and what is reported of it.
-fn renamed(alloc: Global, files: &Files, class: &[FileToken], new: &[u8]) -> Result<Found> {
+fn with_new_name(alloc: Global, files: &Files, class: &[FileToken], new: &[u8]) -> Result<Found> {
     let edits = edits_of(alloc, files.list.len(), class, new)?;
     if edits.len() > u32::MAX as usize {
         bail!("too many edits");
@@ -81,7 +81,7 @@ fn found_in(
     let analysis = analysed(alloc, project, files)?;
     match class_of(alloc, project, &analysis.ties, &at)? {
         ClassAnswer::Nothing => Ok(Found::Nothing),
-        ClassAnswer::Class(class) => renamed(alloc, files, &class, new),
+        ClassAnswer::Class(class) => with_new_name(alloc, files, &class, new),
     }
 }
 
@@ -111,7 +111,7 @@ fn found_at(
 }
 
 /// What is found at the place of a case.
-pub(crate) fn found(alloc: Global, case: &Case) -> Result<Found> {
+pub(crate) fn renamed_at_place(alloc: Global, case: &Case) -> Result<Found> {
     let [_, name, place, new, _] = case.words.as_slice() else {
         return Ok(Found::Unread);
     };

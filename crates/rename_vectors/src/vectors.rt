@@ -1,5 +1,5 @@
 //! The cases, and how many agree.
-use crate::classes::{Found, found};
+use crate::classes::{Found, renamed_at_place};
 use anyhow::{Context, Result};
 use std::alloc::Global;
 use std::fs;
@@ -12,7 +12,7 @@ const CASES: &str = "rename.tsv";
 
 /// What a case says of its place.
 #[derive(Clone, Copy, Debug, PartialEq, Eq)]
-enum Wanted {
+enum Answer {
     /// It is renamed: what is written and what is printed.
     Files,
     Nothing,
@@ -22,12 +22,12 @@ enum Wanted {
     Other,
 }
 
-fn wanted(status: u8) -> Wanted {
+fn wanted_of(status: u8) -> Answer {
     match status {
-        0 => Wanted::Files,
-        1 => Wanted::Something,
-        8 => Wanted::Nothing,
-        _ => Wanted::Other,
+        0 => Answer::Files,
+        1 => Answer::Something,
+        8 => Answer::Nothing,
+        _ => Answer::Other,
     }
 }
 
@@ -45,17 +45,17 @@ fn are_written(case: &Case, out: &str, files: &Files, alloc: Global) -> Result<b
 
 /// Whether what is found at the place of a case is what it says.
 fn agrees(alloc: Global, case: &Case, found: &Found) -> Result<bool> {
-    match (wanted(case.status), found) {
-        (Wanted::Files, Found::Renamed(files, report)) => {
+    match (wanted_of(case.status), found) {
+        (Answer::Files, Found::Renamed(files, report)) => {
             let Some(out) = case.words.get(4) else {
                 return Ok(false);
             };
             let same = are_written(case, out, files, alloc)?;
             Ok(same && report.as_bytes() == case.printed.as_slice())
         }
-        (Wanted::Nothing, Found::Nothing) => Ok(true),
-        (Wanted::Something, Found::Renamed(..)) => Ok(true),
-        (Wanted::Other, _) => Ok(true),
+        (Answer::Nothing, Found::Nothing) => Ok(true),
+        (Answer::Something, Found::Renamed(..)) => Ok(true),
+        (Answer::Other, _) => Ok(true),
         _ => Ok(false),
     }
 }
@@ -64,7 +64,7 @@ fn agrees(alloc: Global, case: &Case, found: &Found) -> Result<bool> {
 fn run_case<R: Print + AllocGlobal>(rt: &R, line: &str, number: u32) -> Result<bool> {
     let alloc: Global = rt.alloc();
     let case = Case::read(alloc, Output::Files, line)?;
-    let found = found(alloc, &case)?;
+    let found = renamed_at_place(alloc, &case)?;
     let same = agrees(alloc, &case, &found)?;
     if !same {
         let label = case.label.as_str();
