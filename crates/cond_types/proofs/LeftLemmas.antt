@@ -1,5 +1,5 @@
 -- What is seen of the units that are present says what they leave, with the names that they use.
-use Rattle.std.proofs.Common.{◌≡◌, ℕ, Bool, true, false, List, [], ◌∷◌, map, filter, IsTrue, refl, sym, ap, ◌∙◌}
+use Rattle.std.proofs.Common.{◌≡◌, ℕ, suc, Bool, true, false, List, [], ◌∷◌, map, filter, IsTrue, refl, sym, ap, ◌∙◌}
 use Rattle.std.specs.Prelude.{if◌then◌else◌}
 use Rattle.std.specs.List.{AllZip}
 use Rattle.cond_formula.specs.Conditions.{condition_of, value}
@@ -102,6 +102,17 @@ module _ (on : ℕ → Bool) where
         (λ present unit x y. leaves unit f u b t l have.0 names.0 present grammar.0 x y)
         (λ others x y. all_leave units forests bound typed left names.1 grammar.1 tails (shifted b bound 0 typed left have.1) others x y)
         judged uses is
+
+  -- units are left where they were taken
+  pub left_where_taken :
+      (bound : List UnitBindings) (place : ℕ) (typed : List TypedUnit) (left : List LeftUnit) → HaveUses bound place typed left
+      → map (λ (u : LeftUnit). value on (condition_of u.when)) left ≡ map (λ (u : TypedUnit). value on (condition_of u.when)) typed
+  left_where_taken bound place [] [] have = refl
+  left_where_taken bound place [] (l ∷ left) have = absurd have
+  left_where_taken bound place (t ∷ typed) [] have = absurd have
+  left_where_taken bound place (t ∷ typed) (l ∷ left) have =
+      ap (λ f. value on (condition_of f) ∷ map (λ (u : LeftUnit). value on (condition_of u.when)) left) have.0.when
+      ∙ ap (λ list. value on (condition_of t.when) ∷ list) (left_where_taken bound (suc place) typed left have.1)
 
 -- ---- units
 

@@ -1,7 +1,7 @@
 //! The types of units with the names that they use.
-ghost use Rattle.std.specs.Prelude.{◌≡◌, ℕ, List, [], Bool, length, IsTrue, IfOk};
+ghost use Rattle.std.specs.Prelude.{◌≡◌, ℕ, List, [], Bool, length, map, IsTrue, IfOk};
 ghost use Rattle.cond_formula.specs.Features.{has};
-ghost use Rattle.cond_formula.specs.Conditions.{value};
+ghost use Rattle.cond_formula.specs.Conditions.{condition_of, value};
 ghost use Rattle.core_meaning.specs.Entities.{Numbers};
 ghost use Rattle.core_meaning.specs.Linking.{judged_units, judged_program};
 ghost use Rattle.bindings.specs.Laws.{AreWritten};
@@ -67,6 +67,8 @@ pub fn types<O: Oracle>(
 ) -> Result<CondTypes, NoMemory>
     requires { length forests.now ≡ length units.now }
     ensures kept { O.admits oracle.new ≡ O.admits oracle.old }
+    ensures present { IfOk result (λ t. (c : List Bool) → IsTrue (value (has c) (O.admits oracle.old))
+        → map (λ u. value (has c) (condition_of u.when)) t.units.items ≡ map (λ u. value (has c) (condition_of u.when)) units.now) }
     ensures typed { IfOk result (λ t. (c : List Bool) → IsTrue (value (has c) (O.admits oracle.old)) → AreScoped (has c) units.now forests.now b.now
         → AreWritten (present_trees (has c) units.now forests.now) → (globals : ℕ) (numbers : ℕ → Numbers)
         → IsTypedAs (has c) (judged_units numbers globals 0 [] (present_trees (has c) units.now forests.now)) t) }

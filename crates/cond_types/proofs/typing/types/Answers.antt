@@ -1,10 +1,10 @@
-use Rattle.std.proofs.Common.{List, refl, subst}
+use Rattle.std.proofs.Common.{List, refl, subst, ◌∙◌}
 use Rattle.cond_formula.specs.Features.{has}
 use Rattle.cond_bindings.specs.declared.unit_bindings.UnitBindings.{UnitBindings}
 use Rattle.cond_scopes.specs.Units.{present_trees}
 use Rattle.cond_types.specs.Uses.{HaveUses}
 use Rattle.cond_types.proofs.Judged.{program_typed}
-use Rattle.cond_types.proofs.LeftLemmas.{in_grammar, types_told}
+use Rattle.cond_types.proofs.LeftLemmas.{in_grammar, left_where_taken, types_told}
 use Rattle.cond_types.proofs.typing.types.Goals as goal
 
 pub returns-clause-typed : goal.returns-clause-typed
@@ -21,3 +21,9 @@ pub returns-clause-judged : goal.returns-clause-judged
 returns-clause-judged g c = λ c' admitted scoped written.
     program_typed (has c') (record { units = c.in_ok-units.units; tables = c.in_ok-found.found.tables; refused = c.in_ok-found.found.refused }) (present_trees (has c') c.args.units.now c.args.forests.now)
     (λ globals numbers. returns-clause-typed g c c' admitted scoped written globals numbers)
+
+pub returns-clause-present : goal.returns-clause-present
+returns-clause-present g c = λ c' admitted.
+    let found = c.in_ok-found.found in
+    let have = subst (λ (bs : List UnitBindings). HaveUses bs 0 found.units.items c.in_ok-units.units.items) c.deref.ensures.value c.in_ok-units.ensures in
+    left_where_taken (has c') c.args.b.now.units.items 0 found.units.items c.in_ok-units.units.items have ∙ c.in_ok-found.ensures.present c' admitted
