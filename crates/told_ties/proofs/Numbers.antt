@@ -136,10 +136,6 @@ numbered_copy : (number : Option ℕ) (t : PlainToken) → copied_by (changed_te
 numbered_copy None t = refl
 numbered_copy (Some number) t = refl
 
-copy_of_leaf : (tokens : List CondToken) (leaf : Leaf) → IsLeafOf 0 tokens leaf → IsCopyOf tokens (number_or_none leaf.number) (changed_text numbering leaf.number leaf.text)
-copy_of_leaf tokens leaf h =
-    copy_of_token tokens (number_or_none leaf.number) leaf.text (token_of_leaf tokens leaf h) ∙ ap Some (sym (numbered_copy leaf.number leaf.text))
-
 -- a token of a unit's tree is that of its stream
 pub token_of :
     LeavesAreSpelled → (on : ℕ → Bool) (forest : Forest) (tokens : List CondToken) → forest_leaves on forest ≡ numbered_at on 0 tokens
@@ -157,30 +153,31 @@ token_of spelt on forest tokens leaves k token e =
     subst (λ (n : ℕ). IsTokenOf tokens n token) (sym same)
     (subst (IsTokenOf tokens (number own.0)) own.2 (token_of_leaf tokens own.0 (leaf_of on 0 tokens k own.0 own.1)))
 
-module _ (spelt : LeavesAreSpelled) (seen : ChangesAreSeen) (on : ℕ → Bool) (forest new : Forest) (tokens : List CondToken) (numbers_are : IsNumbered forest new) (leaves : forest_leaves on forest ≡ numbered_at on 0 tokens) where
-  new_leaves : forest_leaves on new ≡ map (changed_leaf numbering) (numbered_at on 0 tokens)
-  new_leaves = seen numbering forest new numbers_are on ∙ ap (map (changed_leaf numbering)) leaves
+-- numbers stay where trees' tokens are changed
+pub same_numbers : ChangesAreSeen → (on : ℕ → Bool) (forest new : Forest) → IsNumbered forest new → numbers (forest_leaves on new) ≡ numbers (forest_leaves on forest)
+same_numbers seen on forest new are = ap numbers (seen numbering forest new are on) ∙ kept (forest_leaves on forest)
+  where
+    kept : (leaves : List Leaf) → numbers (map (changed_leaf numbering) leaves) ≡ numbers leaves
+    kept [] = refl
+    kept (leaf ∷ rest) = ap (λ ns. number_or_none leaf.number ∷ ns) (kept rest)
 
-  leaf_with : {A : Type 0} (f : Leaf → A) (k : ℕ) → slice_get (map f (forest_leaves on new)) k ≡ option_map f (option_map (changed_leaf numbering) (slice_get (numbered_at on 0 tokens) k))
-  leaf_with f k =
-      ap (λ leaves. slice_get (map f leaves) k) new_leaves
-      ∙ (slice_get-map f (map (changed_leaf numbering) (numbered_at on 0 tokens)) k ∙ ap (option_map f) (slice_get-map (changed_leaf numbering) (numbered_at on 0 tokens) k))
-
-  pub copy_of :
-      (k : ℕ) (token : PlainToken) → slice_get (spelled (forest_at on new)) k ≡ Some token
-      → IsCopyOf tokens (number_in (numbers (forest_leaves on new)) k) token
-  copy_of k token e =
-      let here : option_map (λ (leaf : Leaf). leaf.text) (option_map (changed_leaf numbering) (slice_get (numbered_at on 0 tokens) k)) ≡ Some token
-      = sym (leaf_with (λ (leaf : Leaf). leaf.text) k) ∙ (ap (λ ts. slice_get ts k) (spelt on new) ∙ e) in
-      let changed = some_of (λ (leaf : Leaf). leaf.text) (option_map (changed_leaf numbering) (slice_get (numbered_at on 0 tokens) k)) token here in
-      let own = some_of (changed_leaf numbering) (slice_get (numbered_at on 0 tokens) k) changed.0 changed.1 in
-      let leaf = own.0 in
-      let number : number_in (numbers (forest_leaves on new)) k ≡ number_or_none leaf.number
-      = get_or_from_slice_get (numbers (forest_leaves on new)) k (number_or_none leaf.number) 0
-      (leaf_with (λ (l : Leaf). number_or_none l.number) k ∙ ap (λ (l : Option Leaf). option_map (λ (l : Leaf). number_or_none l.number) (option_map (changed_leaf numbering) l)) own.1) in
-      let text : changed_text numbering leaf.number leaf.text ≡ token = ap (λ (l : Leaf). l.text) own.2 ∙ changed.2 in
-      subst (λ (n : ℕ). IsCopyOf tokens n token) (sym number)
-      (subst (IsCopyOf tokens (number_or_none leaf.number)) text (copy_of_leaf tokens leaf (leaf_of on 0 tokens k leaf own.1)))
+-- and a token of the tree whose tokens tell their numbers is a copy of it
+pub copy_of :
+    LeavesAreSpelled → ChangesAreSeen → (on : ℕ → Bool) (forest new : Forest) (tokens : List CondToken) → IsNumbered forest new → forest_leaves on forest ≡ numbered_at on 0 tokens
+    → (k : ℕ) (token : PlainToken) → slice_get (spelled (forest_at on new)) k ≡ Some token → IsCopyOf tokens (number_in (numbers (forest_leaves on new)) k) token
+copy_of spelt seen on forest new tokens numbers_are leaves k token e =
+    let old = forest_leaves on forest in
+    let text : Leaf → PlainToken = λ leaf. leaf.text in
+    let here : option_map text (slice_get (map (changed_leaf numbering) old) k) ≡ Some token
+    = sym (slice_get-map text (map (changed_leaf numbering) old) k)
+    ∙ (ap (λ (ls : List Leaf). slice_get (map text ls) k) (sym (seen numbering forest new numbers_are on)) ∙ (ap (λ ts. slice_get ts k) (spelt on new) ∙ e)) in
+    let changed = some_of text (slice_get (map (changed_leaf numbering) old) k) token here in
+    let own = some_of (changed_leaf numbering) (slice_get old k) changed.0 (sym (slice_get-map (changed_leaf numbering) old k) ∙ changed.1) in
+    let before : slice_get (spelled (forest_at on forest)) k ≡ Some own.0.text
+    = ap (λ ts. slice_get ts k) (sym (spelt on forest)) ∙ (slice_get-map text old k ∙ ap (option_map text) own.1) in
+    let is : copied_by own.0.text ≡ copied_by token = sym (numbered_copy own.0.number own.0.text) ∙ ap copied_by (ap text own.2 ∙ changed.2) in
+    subst (λ (ns : List ℕ). IsCopyOf tokens (number_in ns k) token) (sym (same_numbers seen on forest new numbers_are))
+    (copy_of_token tokens (number_in (numbers old) k) own.0.text (token_of spelt on forest tokens leaves k own.0.text before) ∙ ap Some is)
 
 -- ---- both
 
@@ -219,11 +216,3 @@ occurrence_tokens declared spelt on forest tokens leaves judged o among =
       declared_by = token_of spelt on forest tokens leaves o.declared_by.number o.declared_by.token
           (identifier_at (forest_at on forest) judged o.declared_by (declaring_among declared unit o among));
     }
-
--- numbers stay where trees' tokens are changed
-pub same_numbers : ChangesAreSeen → (on : ℕ → Bool) (forest new : Forest) → IsNumbered forest new → numbers (forest_leaves on new) ≡ numbers (forest_leaves on forest)
-same_numbers seen on forest new are = ap numbers (seen numbering forest new are on) ∙ kept (forest_leaves on forest)
-  where
-    kept : (leaves : List Leaf) → numbers (map (changed_leaf numbering) leaves) ≡ numbers leaves
-    kept [] = refl
-    kept (leaf ∷ rest) = ap (λ ns. number_or_none leaf.number ∷ ns) (kept rest)
