@@ -25,16 +25,16 @@ pub said_of_none : (P : UnitNames → Occurrence → Type 0) → IsSaidIn P [] �
 said_of_none P h = let none = h.found.is_unit in absurd cc
 
 module _ (P : UnitNames → Occurrence → Type 0) (unit : UnitNames) (units : List UnitNames) where
-  said_first : IsSaidOf P unit → IsSaidIn P (unit ∷ units)
+  pub said_first : IsSaidOf P unit → IsSaidIn P (unit ∷ units)
   said_first h = record { found = record { place = zero; unit = unit; is_unit = refl; occurrence = h.occurrence; among = h.among }; holds = h.holds }
 
-  said_later : IsSaidIn P units → IsSaidIn P (unit ∷ units)
+  pub said_later : IsSaidIn P units → IsSaidIn P (unit ∷ units)
   said_later h = record {
     found = record { place = suc h.found.place; unit = h.found.unit; is_unit = h.found.is_unit; occurrence = h.found.occurrence; among = h.found.among };
     holds = h.holds;
   }
 
-  said_cases : IsSaidIn P (unit ∷ units) → IsSaidOf P unit ⊎ IsSaidIn P units
+  pub said_cases : IsSaidIn P (unit ∷ units) → IsSaidOf P unit ⊎ IsSaidIn P units
   said_cases h = by h.found.place h.found.unit h.found.is_unit h.found.occurrence h.found.among h.holds
     where
       by : (place : ℕ) (u : UnitNames) → slice_get (unit ∷ units) place ≡ Some u → (o : Occurrence) → Contains (occurrences_of u) o → P u o → IsSaidOf P unit ⊎ IsSaidIn P units

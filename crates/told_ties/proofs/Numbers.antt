@@ -1,5 +1,5 @@
 -- The identifiers of a unit are tokens of its tree, and these are copies of tokens of its stream, by their numbers.
-use Rattle.std.proofs.Common.{◌≡◌, ℕ, zero, suc, ◌+◌, Bool, true, false, List, [], ◌∷◌, map, Option, Some, Contains, refl, sym, ap, subst, ◌∙◌, arith}
+use Rattle.std.proofs.Common.{◌≡◌, ℕ, zero, suc, ◌+◌, Bool, true, false, List, [], ◌∷◌, map, Option, Some, None, Contains, refl, sym, ap, subst, ◌∙◌, arith}
 use Rattle.std.specs.Prelude.{if◌then◌else◌, slice_get, option_map}
 use Rattle.std.proofs.lemmas.Option.{slice_get-map, get_or_from_slice_get}
 use Rattle.cond_formula.specs.Conditions.{condition_of, value}
@@ -110,41 +110,74 @@ leaf_of on first (t ∷ rest) k leaf e = by (value on (condition_of t.when)) k (
     by true (suc k) behind e = leaf_later first t rest leaf (behind k e)
     by false k behind e = leaf_later first t rest leaf (behind k e)
 
+-- a token is the stream's token with this number
+abbrev pub IsTokenOf : List CondToken → ℕ → PlainToken → Type 0
+IsTokenOf tokens number token = option_map (λ (entry : CondToken). plain_token entry.token) (slice_get tokens number) ≡ Some token
+
+token_of_leaf : (tokens : List CondToken) (leaf : Leaf) → IsLeafOf 0 tokens leaf → IsTokenOf tokens (number_or_none leaf.number) leaf.text
+token_of_leaf tokens leaf h =
+    let own : number_or_none leaf.number ≡ h.place = ap number_or_none h.number ∙ omega arith in
+    ap (λ n. option_map (λ (entry : CondToken). plain_token entry.token) (slice_get tokens n)) own
+    ∙ (ap (option_map (λ (entry : CondToken). plain_token entry.token)) h.at ∙ ap Some (sym h.text))
+
 -- a token is a copy of the same token of a file as the stream's token with this number
 abbrev pub IsCopyOf : List CondToken → ℕ → PlainToken → Type 0
 IsCopyOf tokens number token = token_at tokens number ≡ Some (copied_by token)
 
-copy_of_leaf : (tokens : List CondToken) (leaf : Leaf) → IsLeafOf 0 tokens leaf → IsCopyOf tokens (number_or_none leaf.number) (changed_text numbering leaf.number leaf.text)
-copy_of_leaf tokens leaf h =
-    let own : number_or_none leaf.number ≡ h.place = ap number_or_none h.number ∙ omega arith in
-    let same : changed_text numbering leaf.number leaf.text ≡ numbering (0 + h.place) (plain_token h.entry.token)
-    = ap (λ (n : Option ℕ). changed_text numbering n leaf.text) h.number ∙ ap (numbering (0 + h.place)) h.text in
-    ap (token_at tokens) own ∙ (ap (option_map copied) h.at ∙ ap (λ (t : PlainToken). Some (copied_by t)) (sym same))
+copy_of_token : (tokens : List CondToken) (number : ℕ) (token : PlainToken) → IsTokenOf tokens number token → IsCopyOf tokens number token
+copy_of_token tokens number token e = by (slice_get tokens number) e
+  where
+    by : (entry : Option CondToken) → option_map (λ (t : CondToken). plain_token t.token) entry ≡ Some token → option_map copied entry ≡ Some (copied_by token)
+    by None e = absurd cc
+    by (Some entry) e = ap (option_map copied_by) e
 
-module _ (spelt : LeavesAreSpelled) (seen : ChangesAreSeen) (on : ℕ → Bool) (forest new : Forest) (tokens : List CondToken) (numbers_are : IsNumbered forest new) (leaves : forest_leaves on forest ≡ numbered_at on 0 tokens) where
-  new_leaves : forest_leaves on new ≡ map (changed_leaf numbering) (numbered_at on 0 tokens)
-  new_leaves = seen numbering forest new numbers_are on ∙ ap (map (changed_leaf numbering)) leaves
+-- a number for its site leaves it a copy of the same token
+numbered_copy : (number : Option ℕ) (t : PlainToken) → copied_by (changed_text numbering number t) ≡ copied_by t
+numbered_copy None t = refl
+numbered_copy (Some number) t = refl
 
-  leaf_with : {A : Type 0} (f : Leaf → A) (k : ℕ) → slice_get (map f (forest_leaves on new)) k ≡ option_map f (option_map (changed_leaf numbering) (slice_get (numbered_at on 0 tokens) k))
-  leaf_with f k =
-      ap (λ leaves. slice_get (map f leaves) k) new_leaves
-      ∙ (slice_get-map f (map (changed_leaf numbering) (numbered_at on 0 tokens)) k ∙ ap (option_map f) (slice_get-map (changed_leaf numbering) (numbered_at on 0 tokens) k))
+-- a token of a unit's tree is that of its stream
+pub token_of :
+    LeavesAreSpelled → (on : ℕ → Bool) (forest : Forest) (tokens : List CondToken) → forest_leaves on forest ≡ numbered_at on 0 tokens
+    → (k : ℕ) (token : PlainToken) → slice_get (spelled (forest_at on forest)) k ≡ Some token → IsTokenOf tokens (number_in (numbers (forest_leaves on forest)) k) token
+token_of spelt on forest tokens leaves k token e =
+    let stream = numbered_at on 0 tokens in
+    let text : Leaf → PlainToken = λ leaf. leaf.text in
+    let number : Leaf → ℕ = λ leaf. number_or_none leaf.number in
+    let here : option_map text (slice_get stream k) ≡ Some token
+    = sym (slice_get-map text stream k) ∙ (ap (λ (ls : List Leaf). slice_get (map text ls) k) (sym leaves) ∙ (ap (λ ts. slice_get ts k) (spelt on forest) ∙ e)) in
+    let own = some_of text (slice_get stream k) token here in
+    let at : slice_get (numbers (forest_leaves on forest)) k ≡ Some (number own.0)
+    = ap (λ (ls : List Leaf). slice_get (map number ls) k) leaves ∙ (slice_get-map number stream k ∙ ap (option_map number) own.1) in
+    let same : number_in (numbers (forest_leaves on forest)) k ≡ number own.0 = get_or_from_slice_get (numbers (forest_leaves on forest)) k (number own.0) 0 at in
+    subst (λ (n : ℕ). IsTokenOf tokens n token) (sym same)
+    (subst (IsTokenOf tokens (number own.0)) own.2 (token_of_leaf tokens own.0 (leaf_of on 0 tokens k own.0 own.1)))
 
-  pub copy_of :
-      (k : ℕ) (token : PlainToken) → slice_get (spelled (forest_at on new)) k ≡ Some token
-      → IsCopyOf tokens (number_in (numbers (forest_leaves on new)) k) token
-  copy_of k token e =
-      let here : option_map (λ (leaf : Leaf). leaf.text) (option_map (changed_leaf numbering) (slice_get (numbered_at on 0 tokens) k)) ≡ Some token
-      = sym (leaf_with (λ (leaf : Leaf). leaf.text) k) ∙ (ap (λ ts. slice_get ts k) (spelt on new) ∙ e) in
-      let changed = some_of (λ (leaf : Leaf). leaf.text) (option_map (changed_leaf numbering) (slice_get (numbered_at on 0 tokens) k)) token here in
-      let own = some_of (changed_leaf numbering) (slice_get (numbered_at on 0 tokens) k) changed.0 changed.1 in
-      let leaf = own.0 in
-      let number : number_in (numbers (forest_leaves on new)) k ≡ number_or_none leaf.number
-      = get_or_from_slice_get (numbers (forest_leaves on new)) k (number_or_none leaf.number) 0
-      (leaf_with (λ (l : Leaf). number_or_none l.number) k ∙ ap (λ (l : Option Leaf). option_map (λ (l : Leaf). number_or_none l.number) (option_map (changed_leaf numbering) l)) own.1) in
-      let text : changed_text numbering leaf.number leaf.text ≡ token = ap (λ (l : Leaf). l.text) own.2 ∙ changed.2 in
-      subst (λ (n : ℕ). IsCopyOf tokens n token) (sym number)
-      (subst (IsCopyOf tokens (number_or_none leaf.number)) text (copy_of_leaf tokens leaf (leaf_of on 0 tokens k leaf own.1)))
+-- numbers stay where trees' tokens are changed
+pub same_numbers : ChangesAreSeen → (on : ℕ → Bool) (forest new : Forest) → IsNumbered forest new → numbers (forest_leaves on new) ≡ numbers (forest_leaves on forest)
+same_numbers seen on forest new are = ap numbers (seen numbering forest new are on) ∙ kept (forest_leaves on forest)
+  where
+    kept : (leaves : List Leaf) → numbers (map (changed_leaf numbering) leaves) ≡ numbers leaves
+    kept [] = refl
+    kept (leaf ∷ rest) = ap (λ ns. number_or_none leaf.number ∷ ns) (kept rest)
+
+-- and a token of the tree whose tokens tell their numbers is a copy of it
+pub copy_of :
+    LeavesAreSpelled → ChangesAreSeen → (on : ℕ → Bool) (forest new : Forest) (tokens : List CondToken) → IsNumbered forest new → forest_leaves on forest ≡ numbered_at on 0 tokens
+    → (k : ℕ) (token : PlainToken) → slice_get (spelled (forest_at on new)) k ≡ Some token → IsCopyOf tokens (number_in (numbers (forest_leaves on new)) k) token
+copy_of spelt seen on forest new tokens numbers_are leaves k token e =
+    let old = forest_leaves on forest in
+    let text : Leaf → PlainToken = λ leaf. leaf.text in
+    let here : option_map text (slice_get (map (changed_leaf numbering) old) k) ≡ Some token
+    = sym (slice_get-map text (map (changed_leaf numbering) old) k)
+    ∙ (ap (λ (ls : List Leaf). slice_get (map text ls) k) (sym (seen numbering forest new numbers_are on)) ∙ (ap (λ ts. slice_get ts k) (spelt on new) ∙ e)) in
+    let changed = some_of text (slice_get (map (changed_leaf numbering) old) k) token here in
+    let own = some_of (changed_leaf numbering) (slice_get old k) changed.0 (sym (slice_get-map (changed_leaf numbering) old k) ∙ changed.1) in
+    let before : slice_get (spelled (forest_at on forest)) k ≡ Some own.0.text
+    = ap (λ ts. slice_get ts k) (sym (spelt on forest)) ∙ (slice_get-map text old k ∙ ap (option_map text) own.1) in
+    let is : copied_by own.0.text ≡ copied_by token = sym (numbered_copy own.0.number own.0.text) ∙ ap copied_by (ap text own.2 ∙ changed.2) in
+    subst (λ (ns : List ℕ). IsCopyOf tokens (number_in ns k) token) (sym (same_numbers seen on forest new numbers_are))
+    (copy_of_token tokens (number_in (numbers old) k) own.0.text (token_of spelt on forest tokens leaves k own.0.text before) ∙ ap Some is)
 
 -- ---- both
 
@@ -164,4 +197,22 @@ occurrence_copied declared spelt seen on forest new tokens numbers_are leaves ju
           (identifier_at (forest_at on new) judged o.identifier (identifier_among unit o among));
       declared_by = copy_of spelt seen on forest new tokens numbers_are leaves o.declared_by.number o.declared_by.token
           (identifier_at (forest_at on new) judged o.declared_by (declaring_among declared unit o among));
+    }
+
+-- they are the stream's tokens with their numbers, where nothing has been changed
+pub record AreTokens (tokens : List CondToken) (numbers : List ℕ) (o : Occurrence) : Type 0 where
+  pub identifier : IsTokenOf tokens (number_in numbers o.identifier.number) o.identifier.token
+  pub declared_by : IsTokenOf tokens (number_in numbers o.declared_by.number) o.declared_by.token
+
+pub occurrence_tokens :
+    DeclarationsAreOccurrences → LeavesAreSpelled → (on : ℕ → Bool) (forest : Forest) (tokens : List CondToken) → forest_leaves on forest ≡ numbered_at on 0 tokens
+    → (judged : Checked UnitState) (o : Occurrence) → Contains (occurrences_of (names_of_unit (forest_at on forest) judged)) o
+    → AreTokens tokens (numbers (forest_leaves on forest)) o
+occurrence_tokens declared spelt on forest tokens leaves judged o among =
+    let unit = names_of_unit (forest_at on forest) judged in
+    record {
+      identifier = token_of spelt on forest tokens leaves o.identifier.number o.identifier.token
+          (identifier_at (forest_at on forest) judged o.identifier (identifier_among unit o among));
+      declared_by = token_of spelt on forest tokens leaves o.declared_by.number o.declared_by.token
+          (identifier_at (forest_at on forest) judged o.declared_by (declaring_among declared unit o among));
     }

@@ -132,15 +132,15 @@ none_tied = record {
   names_are = λ token name. (λ h. absurd (none_among (named token name) h), λ h. absurd (said_of_none (Names token name) h));
 }
 
-if_present : {A : Type 0} (b : Bool) (x : A) (xs : List A) → IsTrue b → (if b then x ∷ xs else xs) ≡ x ∷ xs
+pub if_present : {A : Type 0} (b : Bool) (x : A) (xs : List A) → IsTrue b → (if b then x ∷ xs else xs) ≡ x ∷ xs
 if_present true x xs h = refl
 if_present false x xs h = absurd cc
 
-if_absent : {A : Type 0} (b : Bool) (x : A) (xs : List A) → b ≡ false → (if b then x ∷ xs else xs) ≡ xs
+pub if_absent : {A : Type 0} (b : Bool) (x : A) (xs : List A) → b ≡ false → (if b then x ∷ xs else xs) ≡ xs
 if_absent true x xs h = absurd cc
 if_absent false x xs h = refl
 
-parts_of : {A : Type 0} (x y : A) (xs ys : List A) → x ∷ xs ≡ y ∷ ys → (x ≡ y) × (xs ≡ ys)
+pub parts_of : {A : Type 0} (x y : A) (xs ys : List A) → x ∷ xs ≡ y ∷ ys → (x ≡ y) × (xs ≡ ys)
 parts_of x y xs ys e = (cc, cc)
 
 module _ (declared : DeclarationsAreOccurrences) (spelt : LeavesAreSpelled) (seen : ChangesAreSeen) (on : ℕ → Bool) where

@@ -1,0 +1,4 @@
+pub mod Sites
+pub mod Passing
+pub mod Products
+pub mod Left
