@@ -69,8 +69,8 @@ fn all_numbered(alloc: Global, forests: &[Forest]) -> Result<Vec<Forest>, NoMemo
     Ok(all)
 }
 
-/// The occurrences of units by their trees, whose tokens tell their numbers.
-fn told_of<O: Oracle>(
+/// The occurrences of units by their trees, whose tokens tell their numbers, and the names that they declare for one another.
+pub fn told_of<O: Oracle>(
     alloc: Global,
     oracle: &mut O,
     units: &[Unit],
