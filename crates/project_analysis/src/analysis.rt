@@ -70,7 +70,7 @@ fn all_numbered(alloc: Global, forests: &[Forest]) -> Result<Vec<Forest>, NoMemo
 }
 
 /// The occurrences of units by their trees, whose tokens tell their numbers.
-fn told_of<O: Oracle>(
+pub fn told_of<O: Oracle>(
     alloc: Global,
     oracle: &mut O,
     units: &[Unit],

@@ -4,4 +4,4 @@
 
 mod analysis;
 
-pub use analysis::{Analysis, ToldProject, analysed};
+pub use analysis::{Analysis, ToldProject, analysed, told_of};
