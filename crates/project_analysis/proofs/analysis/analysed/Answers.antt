@@ -1,5 +1,7 @@
-use Rattle.std.proofs.Common.{List, sym, subst}
+use Rattle.std.proofs.Common.{◌≡◌, List, IsTrue, sym, ap, subst, ◌∙◌}
 use Rattle.cond_formula.specs.Features.{has}
+use Rattle.cond_formula.specs.Conditions.{value}
+use Rattle.feature_model.specs.ModelView.{admitted}
 use Rattle.choice_trees.specs.declared.trees.Forest.{Forest}
 use Rattle.cond_scopes.specs.Units.{present_trees}
 use Rattle.program_occurrences.specs.Occurrences.{names_of_units}
@@ -17,6 +19,12 @@ ties_of_told-requires-clause-told c = λ n product.
 pub returns : goal.returns
 returns c = record {
   numbered = c.in_ok-told.ensures.numbered;
-  told = λ n product. record { units = c.in_ok-told.ensures.told n product };
+  told = λ n product.
+      let admitted : IsTrue (value (has n) (admitted c.new-oracle.result.model.now)) = ap (value (has n)) c.new-oracle.ensures ∙ product.admitted.admitted in
+      record {
+        are_parsed = c.in_ok-parsed.ensures.parsed n admitted;
+        have_leaves = c.in_ok-parsed.ensures.leaves n admitted;
+        units = c.in_ok-told.ensures.told n product;
+      };
   ties = c.in_ok-ties.ensures;
 }
