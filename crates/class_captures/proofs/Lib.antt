@@ -1,1 +1,4 @@
 mod Told
+mod Numbers
+mod Pairs
+mod Captured

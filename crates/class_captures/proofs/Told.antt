@@ -21,7 +21,7 @@ use Rattle.linked_otherwise.specs.Otherwise.{ExternalDeclaration, token_of, IsTa
 use Rattle.class_captures.specs.Links.{is_external, is_external_name, is_listed, is_renamed, is_taken, LinksOtherwise}
 use Rattle.class_captures.specs.Laws.{HaveNames, LinksAreToldByNames}
 
-contradiction : {A : Type 0} → false ≡ true → A
+pub contradiction : {A : Type 0} → false ≡ true → A
 contradiction e = absurd cc
 
 -- ---- one of a list that passes a test
@@ -131,7 +131,7 @@ module _ (class : List FileToken) (new : List ℕ) (units : List UnitNames) (are
       passed (is_taken class new) seen (named token (external_name t.other.name)) (seen-so t.other)
       (and_from (bytes_eq t.other.name new) (not (is_listed class token)) ((bytes_eq-Decides t.other.name new).1 t.is_new) (ap not (sym (of-class t.other) ∙ t.outside)))
 
-  links-told : (old : List ℕ) → LinksOtherwise class old new seen ↔ IsLinkedOtherwise (is_of_class class new) old new units
+  pub links-told : (old : List ℕ) → LinksOtherwise class old new seen ↔ IsLinkedOtherwise (is_of_class class new) old new units
   links-told old = (
     λ h. let d = renamed-is (passing (is_renamed class) seen h.renamed) in record { renamed = d.0; inside = d.1; otherwise = there h.otherwise },
     λ h. record { renamed = is-renamed h.renamed h.inside; otherwise = back h.otherwise },

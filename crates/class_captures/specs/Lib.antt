@@ -1,2 +1,3 @@
 pub mod Links
 pub mod Laws
+pub mod Captures
