@@ -6,9 +6,11 @@ ghost use Rattle.feature_model.specs.ModelView.{admitted};
 ghost use Rattle.project_file.specs.View.{project_view};
 ghost use Rattle.project_store.specs.Reads.{names_of};
 
+use crate::preconditions::{Renaming, first_broken};
 use anyhow::{Context, Result, bail};
 use c_text::FileToken;
-use class_edits::{count_renamed, edits_of, token_at};
+use class_edits::{count_renamed, edits_of, name_at, token_at};
+use command_projects::{listed, names_on};
 use file_edits::apply;
 use project_analysis::analysed;
 use project_classes::{ClassAnswer, class_of};
@@ -25,6 +27,8 @@ pub(crate) enum Found {
     Unread,
     /// No product has an occurrence there.
     Nothing,
+    /// A precondition is broken: what is reported.
+    Refused(String),
     /// The files with the new name, and what is reported.
     Renamed(Files, String),
 }
@@ -60,6 +64,23 @@ fn with_new_name(alloc: Global, files: &Files, class: &[FileToken], new: &[u8]) 
     }
 }
 
+/// The files with the new name, or what stands in the way.
+fn asked(alloc: Global, renaming: &Renaming<'_>) -> Result<Found>
+    requires few { length renaming.now.project.now.features.items ≤ 128 }
+    requires below { VarsBelow (length renaming.now.project.now.features.items) (admitted renaming.now.project.now.model) }
+    requires named { map (λ f. f.name) (plain_files renaming.now.files.now) ≡ names_of (project_view renaming.now.project.now) }
+    requires short { All (λ f. length f.bytes ≤ 4294967295) (plain_files renaming.now.files.now) }
+    requires numbered { length renaming.now.files.now.list.items < 4294967295 }
+{
+    let Some((name, c)) = first_broken(alloc, renaming)? else {
+        return with_new_name(alloc, renaming.files, renaming.class, renaming.new);
+    };
+    let on = names_on(alloc, &renaming.project.features, c)?;
+    let on = listed(alloc, &on)?;
+    let report = format!(in alloc; "refused {name} at {on}\n")?;
+    Ok(Found::Refused(report))
+}
+
 /// What is found at a byte of the files of a project.
 fn found_in(
     alloc: Global,
@@ -78,10 +99,23 @@ fn found_in(
     let Some(at) = token_at(alloc, files, file, offset)? else {
         return Ok(Found::Nothing);
     };
+    let Some(old) = name_at(alloc, files, &at)? else {
+        return Ok(Found::Nothing);
+    };
     let analysis = analysed(alloc, project, files)?;
     match class_of(alloc, project, &analysis.ties, &at)? {
         ClassAnswer::Nothing => Ok(Found::Nothing),
-        ClassAnswer::Class(class) => with_new_name(alloc, files, &class, new),
+        ClassAnswer::Class(class) => {
+            let renaming = Renaming {
+                project,
+                files,
+                analysis: &analysis,
+                class: &class,
+                old: &old,
+                new,
+            };
+            asked(alloc, &renaming)
+        }
     }
 }
 

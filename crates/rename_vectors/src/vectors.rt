@@ -16,8 +16,8 @@ enum Answer {
     /// It is renamed: what is written and what is printed.
     Files,
     Nothing,
-    /// Something stands in the way: but there is something to rename.
-    Something,
+    /// Something stands in the way: what is printed.
+    Refused,
     /// Another answer, of the words or the project.
     Other,
 }
@@ -25,7 +25,7 @@ enum Answer {
 fn wanted_of(status: u8) -> Answer {
     match status {
         0 => Answer::Files,
-        1 => Answer::Something,
+        1 => Answer::Refused,
         8 => Answer::Nothing,
         _ => Answer::Other,
     }
@@ -54,7 +54,9 @@ fn agrees(alloc: Global, case: &Case, found: &Found) -> Result<bool> {
             Ok(same && report.as_bytes() == case.printed.as_slice())
         }
         (Answer::Nothing, Found::Nothing) => Ok(true),
-        (Answer::Something, Found::Renamed(..)) => Ok(true),
+        (Answer::Refused, Found::Refused(report)) => {
+            Ok(report.as_bytes() == case.printed.as_slice())
+        }
         (Answer::Other, _) => Ok(true),
         _ => Ok(false),
     }
