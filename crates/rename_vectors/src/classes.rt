@@ -72,9 +72,10 @@ fn asked(alloc: Global, renaming: &Renaming<'_>) -> Result<Found>
     requires short { All (λ f. length f.bytes ≤ 4294967295) (plain_files renaming.now.files.now) }
     requires numbered { length renaming.now.files.now.list.items < 4294967295 }
 {
-    let Some((name, c)) = first_broken(alloc, renaming)? else {
+    let Some((precondition, c)) = first_broken(alloc, renaming)? else {
         return with_new_name(alloc, renaming.files, renaming.class, renaming.new);
     };
+    let name = precondition.name();
     let on = names_on(alloc, &renaming.project.features, c)?;
     let on = listed(alloc, &on)?;
     let report = format!(in alloc; "refused {name} at {on}\n")?;

@@ -33,7 +33,7 @@ pub(crate) struct Renaming<'a> {
 
 /// The preconditions, in the order in which they are asked.
 #[derive(Clone, Copy, Debug)]
-enum Precondition {
+pub(crate) enum Precondition {
     Broken,
     InMacroBody,
     MacroName,
@@ -50,7 +50,7 @@ const PRECONDITIONS: [Precondition; 5] = [
 ];
 
 impl Precondition {
-    fn name(self) -> &'static str {
+    pub(crate) fn name(self) -> &'static str {
         match self {
             Precondition::Broken => "Broken",
             Precondition::InMacroBody => "InMacroBody",
@@ -134,7 +134,7 @@ fn where_breaking(
 pub(crate) fn first_broken(
     alloc: Global,
     r: &Renaming<'_>,
-) -> Result<Option<(&'static str, Config)>>
+) -> Result<Option<(Precondition, Config)>>
     requires numbered { VarsBelow 128 (admitted r.now.project.now.model) }
     requires named { map (λ f. f.name) (plain_files r.now.files.now) ≡ names_of (project_view r.now.project.now) }
     requires short { All (λ f. length f.bytes ≤ 4294967295) (plain_files r.now.files.now) }
@@ -146,7 +146,7 @@ pub(crate) fn first_broken(
         let breaking = where_breaking(alloc, r, precondition, &mut oracle)?;
         let here = both(alloc, read.try_clone(alloc)?, breaking)?;
         if let Some(c) = least(alloc, r.project, &here)? {
-            return Ok(Some((precondition.name(), c)));
+            return Ok(Some((precondition, c)));
         }
     }
     Ok(None)

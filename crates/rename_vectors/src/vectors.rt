@@ -86,6 +86,6 @@ pub(crate) fn run<R: FileAccess + Print + AllocGlobal>(rt: &R) -> Result<()> {
             agreeing = agreeing.saturating_add(1);
         }
     }
-    println!(rt; "classes of rename.tsv: {agreeing} of {cases} agree")?;
+    println!(rt; "renamings of rename.tsv: {agreeing} of {cases} agree")?;
     Ok(())
 }
