@@ -11,18 +11,19 @@ use Rattle.project_program.specs.Laws.{ProgramsAreOne}
 use Rattle.command_projects.specs.Least.{IsAdmitted}
 use Rattle.renamings.specs.Renamings.{Renaming, renamed_files}
 use Rattle.program_occurrences.specs.Classes.{PlainFileToken}
-use Rattle.reference_classes.specs.Preconditions.{not_accepted, IsTouched, broken, capture}
+use Rattle.reference_classes.specs.Preconditions.{not_accepted, IsTouched, broken, macro_name, capture}
 use Rattle.untouched_projects.specs.Untouched.{ReadNoRenamed, IsUntouched}
 use Rattle.untouched_projects.specs.Laws.{UntouchedProjectsKeepPrograms, UntouchedProjectsKeepRefusals}
 use Rattle.untouched_classes.specs.Laws.{ClassesAreTouchedOrNot}
 use Rattle.renamed_classes.specs.Renaming.{MayBeMade}
-use Rattle.renamed_classes.specs.Laws.{ClassesFitFiles, TouchedClassesKeepPrograms}
+use Rattle.renamed_classes.specs.Laws.{ClassesMayBeRenamed, TouchedClassesKeepPrograms}
+use Rattle.renamed_classes.proofs.Told.{on-text-lines}
 use Rattle.kept_products.specs.Laws.{RenamingsKeepProducts}
 
 -- the laws that it follows from
 pub record ProductLaws : Type 0 where
   pub one : ProgramsAreOne
-  pub fit : ClassesFitFiles
+  pub may_be : ClassesMayBeRenamed
   pub touched : TouchedClassesKeepPrograms
   pub touched_or_not : ClassesAreTouchedOrNot
   pub programs : UntouchedProjectsKeepPrograms
@@ -33,7 +34,7 @@ module _ (laws : ProductLaws) (project : PlainProject) (files : List PlainFile) 
   which = laws.touched_or_not project files place new r c may.has_files may.renames
 
   untouched : ReadNoRenamed r project files (has c) → IsUntouched r project files (has c)
-  untouched unread = record { has_files = may.has_files; fits = laws.fit project files place new r may; unread = unread }
+  untouched unread = record { has_files = may.has_files; fits = (laws.may_be project files place new r c (on-text-lines project files place new r may) (may.unhindered macro_name) admitted).fits; unread = unread }
 
   -- a configuration that is touched is accepted, before and after
   refused-before : (stage : Stage) → IsTouched project files place c → IsRefusedAt project files (has c) stage → ⊥

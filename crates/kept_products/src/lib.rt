@@ -5,7 +5,7 @@
 ghost use Rattle.kept_products.specs.Laws.{RenamingsKeepProducts};
 
 use project_program::programs_are_one;
-use renamed_classes::{classes_fit_files, touched_classes_keep_programs};
+use renamed_classes::{classes_may_be_renamed, touched_classes_keep_programs};
 use untouched_classes::classes_are_touched_or_not;
 use untouched_projects::{untouched_projects_keep_programs, untouched_projects_keep_refusals};
 
@@ -14,7 +14,7 @@ pub fn renamings_keep_products()
     ensures { RenamingsKeepProducts }
 {
     programs_are_one();
-    classes_fit_files();
+    classes_may_be_renamed();
     touched_classes_keep_programs();
     classes_are_touched_or_not();
     untouched_projects_keep_programs();

@@ -1,4 +1,4 @@
--- A renaming of a class that may be made fits the project's files.
+-- A renaming of a class whose tokens are names on text lines fits the project's files.
 use Rattle.std.proofs.Common.{◌≡◌, ℕ, suc, ◌+◌, ◌<◌, Bool, true, false, List, [], ◌∷◌, ◌++◌, length, Some, refl, ap, sym, ◌∙◌, subst, inl, inr, arith}
 use Rattle.std.specs.Prelude.{◌||◌, ◌==◌, slice_index_or, IsTrue, Contains}
 use Rattle.std.specs.List.{list_any, slice_get}
@@ -16,9 +16,8 @@ use Rattle.renamings.specs.Renamings.{Renaming, same_span, IsNameAt, FitsFiles}
 use Rattle.renamed_units.proofs.Tokens.{In, each-of}
 use Rattle.program_occurrences.specs.Classes.{PlainFileToken}
 use Rattle.reference_classes.specs.Products.{InClass}
-use Rattle.reference_classes.specs.Preconditions.{in_macro_body}
 use Rattle.copied_tokens.specs.Laws.{PlacesTellTokens}
-use Rattle.renamed_classes.specs.Renaming.{MayBeMade}
+use Rattle.renamed_classes.specs.Renaming.{RenamesOnTextLines}
 use Rattle.renamed_classes.specs.Laws.{IsTextNameSomewhere, ClassesStandOnTextLines, ClassesHaveOneName, ClassesFitFiles}
 
 -- ---- a span among those that are renamed
@@ -52,7 +51,7 @@ file-at (first ∷ before) f behind other = file-at before f behind other
 some-file : (f g : PlainFile) → Some f ≡ Some g → f ≡ g
 some-file f g e = cc
 
-module _ (one : LinesAreOne) (tell : PlacesTellTokens) (stand : ClassesStandOnTextLines) (named : ClassesHaveOneName) (project : PlainProject) (files : List PlainFile) (place : PlainFileToken) (new : List ℕ) (r : Renaming) (may : MayBeMade project files place new r) where
+module _ (one : LinesAreOne) (tell : PlacesTellTokens) (stand : ClassesStandOnTextLines) (named : ClassesHaveOneName) (project : PlainProject) (files : List PlainFile) (place : PlainFileToken) (new : List ℕ) (r : Renaming) (may : RenamesOnTextLines project files place new r) where
   module _ (number : ℕ) (before : List PlainFile) (f : PlainFile) (behind : List PlainFile) (lines : List PlainLine) (count : length before ≡ number) (split : files ≡ before ++ f ∷ behind) (are : AreItsLines number f.bytes lines) where
     there : slice_get files number ≡ Some f
     there = subst (λ (fs : List PlainFile). slice_get fs number ≡ Some f) (sym split) (subst (λ (n : ℕ). slice_get (before ++ f ∷ behind) n ≡ Some f) count (file-there before f behind))
@@ -66,7 +65,7 @@ module _ (one : LinesAreOne) (tell : PlacesTellTokens) (stand : ClassesStandOnTe
         omega (arith, all, count)
 
     name-at : (span : PlainSpan) → In span (r.spans number) → IsNameAt r.old lines span
-    name-at span i = by-text (stand project files place r may.has_files may.found (may.unhindered in_macro_body) token below member)
+    name-at span i = by-text (stand project files place r may.has_files may.found may.on_text_lines token below member)
       where
         token : PlainFileToken
         token = record { file = number; span = span }
@@ -78,7 +77,7 @@ module _ (one : LinesAreOne) (tell : PlacesTellTokens) (stand : ClassesStandOnTe
         by-text t =
             let text = t.there in
             let line_is = text.on_line in
-            let w = named project files place new r may.has_files may.renames may.found (may.unhindered in_macro_body) token below member in
+            let w = named project files place new r may.has_files may.renames may.found may.on_text_lines token below member in
             let same_file : w.file ≡ f = some-file w.file f (sym w.is_file ∙ there) in
             let lines_of_copy : line_is.lines ≡ lines =
             one number f.bytes line_is.lines lines

@@ -6,5 +6,5 @@ mod OneName
 mod Fits
 mod NoMacros
 mod MainAlike
-mod Told
+pub mod Told
 mod Touched

@@ -23,19 +23,29 @@ use Rattle.reference_classes.specs.Preconditions.{is_main, IsTouched, in_macro_b
 use Rattle.renamed_sources.specs.Laws.{SourcesAreRenamed}
 use Rattle.renamed_projects.specs.Projects.{MayBeRenamedIn, BindNamesAlike}
 use Rattle.renamed_projects.specs.Laws.{TouchedProjectsRunAlike}
-use Rattle.renamed_classes.specs.Renaming.{MayBeMade}
-use Rattle.renamed_classes.specs.Laws.{ClassNamesAreFree, ClassesFitFiles, NamesAreNoMacros, BindingsAreTold}
+use Rattle.renamed_classes.specs.Renaming.{RenamesOnTextLines, MayBeMade}
+use Rattle.renamed_classes.specs.Laws.{ClassNamesAreFree, ClassesFitFiles, NamesAreNoMacros, ClassesMayBeRenamed, BindingsAreTold}
 use Rattle.renamed_classes.proofs.OneName.{product-written}
 use Rattle.renamed_classes.proofs.NoMacros.{in-class}
 use Rattle.renamed_classes.proofs.MainAlike.{IsNoRenamedMain, units-main-kept}
 
-pub may-be-renamed :
-    ClassesFitFiles → ClassNamesAreFree → NamesAreNoMacros → (project : PlainProject) (files : List PlainFile) (place : PlainFileToken) (new : List ℕ) (r : Renaming) (c : List Bool)
-    → MayBeMade project files place new r → IsAdmitted project c → MayBeRenamedIn project files (has c) r
-may-be-renamed fit free no_macros project files place new r c may admitted = record {
-  fits = fit project files place new r may;
-  free = free project files place new r may.has_files may.renames may.found (may.unhindered in_macro_body);
-  no_macros = no_macros project files place new r c may.renames (may.unhindered macro_name) admitted;
+pub may-be-renamed : ClassesFitFiles → ClassNamesAreFree → NamesAreNoMacros → ClassesMayBeRenamed
+may-be-renamed fit free no_macros project files place new r c on free_of_macros admitted = record {
+  fits = fit project files place new r on;
+  free = free project files place new r on.has_files on.renames on.found on.on_text_lines;
+  no_macros = no_macros project files place new r c on.renames free_of_macros admitted;
+}
+
+-- what may be made is asked of names on text lines
+pub on-text-lines :
+    (project : PlainProject) (files : List PlainFile) (place : PlainFileToken) (new : List ℕ) (r : Renaming) → MayBeMade project files place new r
+    → RenamesOnTextLines project files place new r
+on-text-lines project files place new r may = record {
+  has_files = may.has_files;
+  renames = may.renames;
+  found = may.found;
+  good = may.good;
+  on_text_lines = may.unhindered in_macro_body;
 }
 
 occurs-among : (all some : List Identified) (i : Identified) → In i some → Contains (map (occurrence_among all) some) (occurrence_among all i)
@@ -46,9 +56,7 @@ occurs-among all (first ∷ some) i (inr among) = let later = occurs-among all s
 -- the laws that it follows from
 pub record NameLaws : Type 0 where
   pub sources : SourcesAreRenamed
-  pub free : ClassNamesAreFree
-  pub fit : ClassesFitFiles
-  pub no_macros : NamesAreNoMacros
+  pub may_be : ClassesMayBeRenamed
   pub spelt : TokensAreSpelt
   pub run_alike : TouchedProjectsRunAlike
   pub bind_alike : UnitsOfProgramsBindAlike
@@ -63,7 +71,7 @@ module _ (laws : NameLaws) (project : PlainProject) (files : List PlainFile) (pl
   others = after.is_program.trees
 
   may-be : MayBeRenamedIn project files (has c) r
-  may-be = may-be-renamed laws.fit laws.free laws.no_macros project files place new r c may admitted
+  may-be = laws.may_be project files place new r c (on-text-lines project files place new r may) (may.unhindered macro_name) admitted
 
   are-renamed : others ≡ renamed_all r trees
   are-renamed = laws.run_alike.renamed_trees project files (has c) r before.program after.program may.has_files may-be before.is_program after.is_program

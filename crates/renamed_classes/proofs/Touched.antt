@@ -9,22 +9,20 @@ use Rattle.command_projects.specs.Least.{IsAdmitted}
 use Rattle.renamings.specs.Renamings.{Renaming, renamed_files}
 use Rattle.program_occurrences.specs.Classes.{PlainFileToken}
 use Rattle.reference_classes.specs.Products.{Product, names_in}
-use Rattle.reference_classes.specs.Preconditions.{HasNoProgram, not_accepted, bound_otherwise, IsTouched, broken, capture}
+use Rattle.reference_classes.specs.Preconditions.{HasNoProgram, not_accepted, bound_otherwise, IsTouched, broken, macro_name, capture}
 use Rattle.product_programs.specs.Laws.{ProgramsAreFound}
 use Rattle.renamed_sources.specs.Projects.{HasItsFiles}
 use Rattle.renamed_sources.specs.Laws.{SourcesAreRenamed}
 use Rattle.renamed_projects.specs.Projects.{MayBeRenamedIn}
 use Rattle.renamed_projects.specs.Laws.{TouchedProjectsRunAlike}
 use Rattle.renamed_classes.specs.Renaming.{MayBeMade}
-use Rattle.renamed_classes.specs.Laws.{ClassNamesAreFree, ClassesFitFiles, NamesAreNoMacros, BoundAlikeOrNot, BindingsAreTold, TouchedClassesKeepPrograms}
-use Rattle.renamed_classes.proofs.Told.{may-be-renamed}
+use Rattle.renamed_classes.specs.Laws.{ClassesMayBeRenamed, BoundAlikeOrNot, BindingsAreTold, TouchedClassesKeepPrograms}
+use Rattle.renamed_classes.proofs.Told.{on-text-lines}
 
 -- the laws that it follows from
 pub record ClassLaws : Type 0 where
   pub sources : SourcesAreRenamed
-  pub free : ClassNamesAreFree
-  pub fit : ClassesFitFiles
-  pub no_macros : NamesAreNoMacros
+  pub may_be : ClassesMayBeRenamed
   pub alike_or_not : BoundAlikeOrNot
   pub tell : BindingsAreTold
   pub found : ProgramsAreFound
@@ -32,7 +30,7 @@ pub record ClassLaws : Type 0 where
 
 module _ (laws : ClassLaws) (project : PlainProject) (files : List PlainFile) (place : PlainFileToken) (new : List ℕ) (r : Renaming) (c : List Bool) (may : MayBeMade project files place new r) (admitted : IsAdmitted project c) (touched : IsTouched project files place c) where
   may-be : MayBeRenamedIn project files (has c) r
-  may-be = may-be-renamed laws.fit laws.free laws.no_macros project files place new r c may admitted
+  may-be = laws.may_be project files place new r c (on-text-lines project files place new r may) (may.unhindered macro_name) admitted
 
   after-files : HasItsFiles project (renamed_files r 0 files)
   after-files = laws.sources.has_files r project files may.has_files

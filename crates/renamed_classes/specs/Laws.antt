@@ -23,7 +23,8 @@ use Rattle.reference_classes.specs.Preconditions.{IsFound, IsTouched, in_macro_b
 use Rattle.reference_classes.specs.Renamed.{IsWrittenAt, RenamesClass}
 use Rattle.copied_tokens.specs.Copies.{IsOnTextLine}
 use Rattle.renamed_sources.specs.Projects.{HasItsFiles, present_files}
-use Rattle.renamed_classes.specs.Renaming.{MayBeMade, BindingsTellNames}
+use Rattle.renamed_projects.specs.Projects.{MayBeRenamedIn}
+use Rattle.renamed_classes.specs.Renaming.{RenamesOnTextLines, MayBeMade, BindingsTellNames}
 
 -- a name that is a copy of a token of a file, on a text line there
 pub record IsTextName (project : PlainProject) (files : List PlainFile) (on : ℕ → Bool) (token : PlainFileToken) : Type 0 where
@@ -64,11 +65,11 @@ ClassNamesAreFree =
     → RenamesClass project files place new r → Somewhere project (IsFound project files place) → Nowhere project (Breaks project files place r in_macro_body)
     → list_any (bytes_eq r.old) predefined_names ≡ false
 
--- A renaming of a class that may be made fits the project's files.
+-- A renaming of a class whose tokens are names on text lines fits the project's files.
 abbrev pub ClassesFitFiles : Type 0
 ClassesFitFiles =
-    (project : PlainProject) (files : List PlainFile) (place : PlainFileToken) (new : List ℕ) (r : Renaming) → MayBeMade project files place new r
-    → FitsFiles r files
+    (project : PlainProject) (files : List PlainFile) (place : PlainFileToken) (new : List ℕ) (r : Renaming)
+    → RenamesOnTextLines project files place new r → FitsFiles r files
 
 -- Where no admitted configuration breaks MacroName, neither name is a macro where a renamed token is read in one.
 abbrev pub NamesAreNoMacros : Type 0
@@ -76,6 +77,13 @@ NamesAreNoMacros =
     (project : PlainProject) (files : List PlainFile) (place : PlainFileToken) (new : List ℕ) (r : Renaming) (c : List Bool)
     → RenamesClass project files place new r → Nowhere project (Breaks project files place r macro_name) → IsAdmitted project c
     → All (AreNoMacros r (sources_of project files (has c))) (present_files project (has c))
+
+-- So in each admitted configuration the files with the new name are read as those before, each token with its new name and place.
+abbrev pub ClassesMayBeRenamed : Type 0
+ClassesMayBeRenamed =
+    (project : PlainProject) (files : List PlainFile) (place : PlainFileToken) (new : List ℕ) (r : Renaming) (c : List Bool)
+    → RenamesOnTextLines project files place new r → Nowhere project (Breaks project files place r macro_name) → IsAdmitted project c
+    → MayBeRenamedIn project files (has c) r
 
 -- What can't be bound and linked otherwise is bound and linked alike.
 abbrev pub BoundAlikeOrNot : Type 0

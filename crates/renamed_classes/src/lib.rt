@@ -2,7 +2,7 @@
 //! definitions (in `specs/`) and the laws, each the contract of a function without a body of its own.
 #![tactic(auto)]
 
-ghost use Rattle.renamed_classes.specs.Laws.{ClassesStandOnTextLines, ClassesHaveOneName, ClassNamesAreFree, ClassesFitFiles, NamesAreNoMacros, BoundAlikeOrNot, BindingsAreTold, TouchedClassesKeepPrograms};
+ghost use Rattle.renamed_classes.specs.Laws.{ClassesStandOnTextLines, ClassesHaveOneName, ClassNamesAreFree, ClassesFitFiles, NamesAreNoMacros, ClassesMayBeRenamed, BoundAlikeOrNot, BindingsAreTold, TouchedClassesKeepPrograms};
 
 use brought_names::brought_are_named_alike;
 use c_lexer::lines_are_one;
@@ -53,7 +53,7 @@ pub fn class_names_are_free()
     predefined_come_from_bodies();
 }
 
-/// A renaming of a class that may be made fits the project's files.
+/// A renaming of a class whose tokens are names on text lines fits the project's files.
 pub fn classes_fit_files()
     ensures { ClassesFitFiles }
 {
@@ -68,6 +68,15 @@ pub fn names_are_no_macros()
     ensures { NamesAreNoMacros }
 {}
 
+/// In each admitted configuration the files with the new name are read as those before.
+pub fn classes_may_be_renamed()
+    ensures { ClassesMayBeRenamed }
+{
+    class_names_are_free();
+    classes_fit_files();
+    names_are_no_macros();
+}
+
 /// What can't be bound and linked otherwise is bound and linked alike.
 pub fn bound_alike_or_not()
     ensures { BoundAlikeOrNot }
@@ -78,9 +87,7 @@ pub fn bindings_tell_names()
     ensures { BindingsAreTold }
 {
     sources_are_renamed();
-    class_names_are_free();
-    classes_fit_files();
-    names_are_no_macros();
+    classes_may_be_renamed();
     tokens_are_spelt();
     touched_projects_run_alike();
     units_of_programs_bind_alike();
@@ -93,9 +100,7 @@ pub fn touched_classes_keep_programs()
     ensures { TouchedClassesKeepPrograms }
 {
     sources_are_renamed();
-    class_names_are_free();
-    classes_fit_files();
-    names_are_no_macros();
+    classes_may_be_renamed();
     bound_alike_or_not();
     bindings_tell_names();
     programs_are_found();

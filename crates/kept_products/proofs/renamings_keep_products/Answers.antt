@@ -4,7 +4,7 @@ use Rattle.kept_products.proofs.renamings_keep_products.Goals as goal
 pub returns : goal.returns
 returns c = products-kept (record {
   one = c.programs_are_one.ensures;
-  fit = c.classes_fit_files.ensures;
+  may_be = c.classes_may_be_renamed.ensures;
   touched = c.touched_classes_keep_programs.ensures;
   touched_or_not = c.classes_are_touched_or_not.ensures;
   programs = c.untouched_projects_keep_programs.ensures;

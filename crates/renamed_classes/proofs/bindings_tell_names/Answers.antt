@@ -4,9 +4,7 @@ use Rattle.renamed_classes.proofs.bindings_tell_names.Goals as goal
 pub returns : goal.returns
 returns c = bindings-told (record {
   sources = c.sources_are_renamed.ensures;
-  free = c.class_names_are_free.ensures;
-  fit = c.classes_fit_files.ensures;
-  no_macros = c.names_are_no_macros.ensures;
+  may_be = c.classes_may_be_renamed.ensures;
   spelt = c.tokens_are_spelt.ensures;
   run_alike = c.touched_projects_run_alike.ensures;
   bind_alike = c.units_of_programs_bind_alike.ensures;

@@ -4,9 +4,7 @@ use Rattle.renamed_classes.proofs.touched_classes_keep_programs.Goals as goal
 pub returns : goal.returns
 returns c = touched-keep (record {
   sources = c.sources_are_renamed.ensures;
-  free = c.class_names_are_free.ensures;
-  fit = c.classes_fit_files.ensures;
-  no_macros = c.names_are_no_macros.ensures;
+  may_be = c.classes_may_be_renamed.ensures;
   alike_or_not = c.bound_alike_or_not.ensures;
   tell = c.bindings_tell_names.ensures;
   found = c.programs_are_found.ensures;
