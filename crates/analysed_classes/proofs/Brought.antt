@@ -1,5 +1,5 @@
 -- What is brought along in units that are those of a product but for sites is of the class too.
-use Rattle.std.proofs.Common.{◌≡◌, Bool, List, Some, refl, sym, ap, subst}
+use Rattle.std.proofs.Common.{◌≡◌, Bool, List, Some, refl, ap, subst}
 use Rattle.std.specs.Prelude.{IsTrue}
 use Rattle.text_edits.specs.Files.{PlainFile}
 use Rattle.c_tree.specs.Trees.{PlainTree}

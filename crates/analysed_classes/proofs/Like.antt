@@ -1,5 +1,5 @@
 -- Identifiers of units have their like in units that are the same but for the sites of their tokens.
-use Rattle.std.proofs.Common.{◌≡◌, List, map, Option, Some, option_map, Contains, sym, ap, subst, ◌∙◌}
+use Rattle.std.proofs.Common.{◌≡◌, List, map, Some, option_map, Contains, sym, ap, subst, ◌∙◌}
 use Rattle.std.specs.Prelude.{slice_get}
 use Rattle.std.proofs.lemmas.Option.{slice_get-map}
 use Rattle.c_text.specs.Token.{PlainToken}

@@ -1,9 +1,6 @@
 -- A class that is renamed may get its new name in the trees of an analysis.
 use Rattle.std.proofs.Common.{◌≡◌, ℕ, Bool, true, List, sym, ap, subst, ◌∙◌}
-use Rattle.std.specs.Prelude.{IsTrue}
 use Rattle.text_edits.specs.Files.{PlainFile}
-use Rattle.cond_formula.specs.Features.{has}
-use Rattle.c_names.specs.Names.{is_new_name}
 use Rattle.c_text.specs.declared.origin.FileToken.{FileToken}
 use Rattle.c_text.specs.Token.{PlainToken}
 use Rattle.c_tree.specs.Trees.{PlainTree}
@@ -15,7 +12,7 @@ use Rattle.renamed_sources.specs.Projects.{HasItsFiles}
 use Rattle.program_occurrences.specs.Occurrences.{names_of_units, OccursIn}
 use Rattle.program_occurrences.specs.Classes.{PlainFileToken, copied_by, file_token}
 use Rattle.program_occurrences.specs.Laws.{DeclarationsAreOccurrences, TokensBringBack}
-use Rattle.reference_classes.specs.Products.{Product, names_in, InClass}
+use Rattle.reference_classes.specs.Products.{Product, InClass}
 use Rattle.reference_classes.specs.Preconditions.{IsFound, in_macro_body, Breaks}
 use Rattle.reference_classes.specs.Renamed.{RenamesClass}
 use Rattle.renamed_classes.specs.Laws.{OccurrencesHaveOneName}

@@ -12,7 +12,6 @@ use Rattle.c_text.specs.Pieces.{piece_of, token}
 use Rattle.c_text.specs.Token.{PlainToken}
 use Rattle.c_tree.specs.Terminals.{terminal, terminal_of}
 use Rattle.c_tree.specs.Trees.{PlainTree, PlainTrees, leaf, node, none, more, spelled}
-use Rattle.c_tree.specs.Grammar.{is_unit}
 use Rattle.bindings.specs.Laws.{ArePieces, IsWritten, AreWritten}
 use Rattle.renamings.proofs.SeamLemmas.{name-piece}
 use Rattle.moved_programs.specs.Trees.{moved_tree, moved_trees}

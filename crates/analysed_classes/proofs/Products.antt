@@ -1,10 +1,8 @@
 -- What an analysis says of the trees of a product.
 use Rattle.std.proofs.Common.{◌≡◌, Bool, List, map, sym, ap, ◌∙◌}
-use Rattle.std.specs.Prelude.{IsTrue}
 use Rattle.text_edits.specs.Files.{PlainFile}
 use Rattle.cond_formula.specs.Features.{has}
 use Rattle.cond_formula.specs.Conditions.{condition_of, value}
-use Rattle.c_text.specs.declared.token.TokenKind.TheVariants.{Name}
 use Rattle.c_text.specs.Token.{PlainToken}
 use Rattle.c_tree.specs.Trees.{PlainTree}
 use Rattle.c_tree.specs.ReadingLaws.{TreesAreOne}
@@ -17,7 +15,6 @@ use Rattle.cond_scopes.specs.Units.{present_trees}
 use Rattle.project_check.proofs.Present.{trees_are_written, trees_are_one}
 use Rattle.program_occurrences.specs.Occurrences.{names_of_units}
 use Rattle.reference_classes.specs.Products.{Product}
-use Rattle.renamed_sources.specs.Projects.{HasItsFiles}
 use Rattle.renamed_classes.proofs.Given.{is-given}
 use Rattle.moved_programs.specs.Trees.{moved_tree}
 use Rattle.moved_trees.specs.Laws.{UnitsStayUnits}
@@ -29,8 +26,6 @@ use Rattle.told_ties.specs.Laws.{TiesAreSeen}
 use Rattle.told_ties.proofs.Told.{same_trees}
 use Rattle.project_ties.specs.Projects.{tied_tokens_of}
 use Rattle.project_ties.proofs.Products.{have_trees}
-use Rattle.project_analysis.specs.declared.analysis.Analysis.{Analysis}
-use Rattle.project_analysis.specs.Analysed.{IsAnalysed}
 use Rattle.project_analysis.proofs.Numbers.{units_tell}
 use Rattle.project_analysis.proofs.Written.{all_written}
 use Rattle.class_captures.specs.Laws.{HaveNames}

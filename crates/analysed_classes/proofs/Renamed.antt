@@ -1,14 +1,13 @@
 -- The identifiers that copy a token of a listed class are those that its renaming renames.
-use Rattle.std.proofs.Common.{◌≡◌, ℕ, ◌<◌, ◌≤◌, Bool, true, false, List, [], length, inl, inr, sym, ap, ◌∙◌}
-use Rattle.std.specs.Prelude.{◌⊎◌, IsTrue}
+use Rattle.std.proofs.Common.{◌≡◌, ℕ, ◌<◌, ◌≤◌, true, false, List, [], length, inl, inr, sym, ap, ◌∙◌}
+use Rattle.std.specs.Prelude.{◌⊎◌}
 use Rattle.std.specs.List.{list_any}
 use Rattle.std.specs.Cmp.{both_ways}
 use Rattle.std.proofs.lemmas.Bool.{cases_lt, false≢true}
 use Rattle.text_edits.specs.Span.{PlainSpan}
 use Rattle.text_edits.specs.Files.{PlainFile}
-use Rattle.c_text.specs.Token.{PlainToken}
 use Rattle.renamings.specs.Renamings.{Renaming, same_span, is_renamed}
-use Rattle.program_occurrences.specs.Classes.{PlainFileToken, copied_by}
+use Rattle.program_occurrences.specs.Classes.{copied_by}
 use Rattle.changed_forests.specs.Renamed.{is_name, is_of_class}
 use Rattle.class_occurrences.specs.Laws.{TestsAreOfPreconditions}
 use Rattle.renamed_classes.specs.Laws.{ClassesStandInFiles}
