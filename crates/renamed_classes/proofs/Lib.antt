@@ -1,6 +1,6 @@
 mod Stable
 mod Occurring
-mod Given
+pub mod Given
 mod TextLines
 mod OneName
 mod Fits

@@ -22,7 +22,7 @@ use Rattle.command_projects.specs.Least.{Nowhere, Somewhere}
 use Rattle.renamings.specs.Renamings.{Renaming}
 use Rattle.unit_outcomes.specs.Laws.{IsSpelt, TokensAreSpelt}
 use Rattle.program_occurrences.specs.Occurrences.{UnitNames}
-use Rattle.program_occurrences.specs.Classes.{PlainFileToken, Brings, itself, brought}
+use Rattle.program_occurrences.specs.Classes.{PlainFileToken, file_token, Brings, itself, brought}
 use Rattle.brought_names.specs.Laws.{AreNamedAlike, BroughtAreNamedAlike}
 use Rattle.reference_classes.specs.Products.{Product, names_in, AreOfProduct, InClass}
 use Rattle.reference_classes.specs.Preconditions.{IsFound, in_macro_body, Breaks}
@@ -31,7 +31,7 @@ use Rattle.copied_tokens.specs.Copies.{IsOnTextLine, IsCopied, from_file, from_h
 use Rattle.copied_tokens.specs.Laws.{PlacesTellTokens, PredefinedComeFromBodies}
 use Rattle.renamed_sources.specs.Projects.{HasItsFiles}
 use Rattle.renamed_sources.specs.Laws.{SourcesAreRenamed}
-use Rattle.renamed_classes.specs.Laws.{ClassesHaveOneName, ClassNamesAreFree}
+use Rattle.renamed_classes.specs.Laws.{ClassesHaveOneName, OccurrencesHaveOneName, ClassNamesAreFree}
 use Rattle.renamed_classes.proofs.Given.{IsGivenIn}
 use Rattle.renamed_classes.proofs.Occurring.{OccursSomewhere}
 use Rattle.renamed_classes.proofs.TextLines.{at, TokenLaws, given, is-copied, no-body, stands}
@@ -205,6 +205,13 @@ module _ (laws : TextLaws) (project : PlainProject) (files : List PlainFile) (pl
 pub one-name : TextLaws → TokensAreSpelt → BroughtAreNamedAlike → ClassesHaveOneName
 one-name laws spelt alike project files place new r there renames found unhindered token below member =
     written-so laws project files place new r there renames found unhindered spelt alike token below member
+
+pub occurrences-one-name : TextLaws → TokensAreSpelt → BroughtAreNamedAlike → OccurrencesHaveOneName
+occurrences-one-name laws spelt alike project files place new r there renames found unhindered c product o member =
+    let token = file_token o.occurrence in
+    let named = old-name laws project files place new r there renames found unhindered spelt alike token member in
+    let here : OccursSomewhere project files token = record { configuration = c; product = product; found = o; there = refl } in
+    one-text laws project files place new r there renames found unhindered token member here named.occurrence ∙ named.text
 
 pub names-free : TextLaws → PredefinedComeFromBodies → ClassNamesAreFree
 names-free laws predefined project files place new r there renames found unhindered =

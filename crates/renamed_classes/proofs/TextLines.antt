@@ -17,12 +17,12 @@ use Rattle.renamed_units.proofs.Tokens.{In}
 use Rattle.program_occurrences.specs.Classes.{PlainFileToken, file_token}
 use Rattle.program_occurrences.specs.Laws.{DeclarationsAreOccurrences}
 use Rattle.reference_classes.specs.Products.{InClass}
-use Rattle.reference_classes.specs.Preconditions.{IsFound, IsTouched, in_macro_body, Breaks}
+use Rattle.reference_classes.specs.Preconditions.{IsFound, IsTouched, is_built_in, in_macro_body, fixed, Breaks}
 use Rattle.copied_tokens.specs.Copies.{IsOnTextLine, IsCopied, from_file, from_header, from_body}
 use Rattle.copied_tokens.specs.Laws.{TokensAreCopied, NamesAreRead}
 use Rattle.renamed_sources.specs.Projects.{HasItsFiles}
 use Rattle.renamed_sources.specs.Laws.{SourcesAreRenamed}
-use Rattle.renamed_classes.specs.Laws.{IsTextNameSomewhere, ClassesStandOnTextLines}
+use Rattle.renamed_classes.specs.Laws.{IsTextNameSomewhere, ClassesStandOnTextLines, ClassesStandInFiles}
 use Rattle.renamed_classes.proofs.Occurring.{OccursSomewhere, occurs}
 use Rattle.renamed_classes.proofs.Given.{IsGivenIn, is-given}
 
@@ -97,6 +97,22 @@ module _ (laws : TokenLaws) (project : PlainProject) (files : List PlainFile) (p
     text-name : token.file < length files → IsTextNameSomewhere project files token
     text-name below = record { configuration = o.configuration; there = record { copy = copy; is_name = given.is_name; copies = o.there; on_line = stands below } }
 
+    -- it stands in a file of the project, where nothing of the class is fixed
+    in-files : Nowhere project (Breaks project files place r fixed) → token.file < length files
+    in-files unfixed = by-file is-copied
+      where
+        by-file : IsCopied sources copy → token.file < length files
+        by-file (from_file number small is) = let known : copy.origin.file ≡ number = is.file in let here : copy.origin.file ≡ token.file = file-is in omega (arith, small, known, here)
+        by-file (from_header is) =
+            absurd
+            (unfixed o.configuration o.product.admitted
+            (record { touched = touched; stands_in_the_way = record { product = o.product; found = o.found; member = copy-member; holds = is_built_in is.file } }))
+        by-file (from_body e) = absurd (no-body e)
+
 pub stand-on-lines : TokenLaws → ClassesStandOnTextLines
 stand-on-lines laws project files place r there found unhindered token below member =
     text-name laws project files place r there found unhindered token member (occurs laws.declared project files place found token member) below
+
+pub stand-in-files : TokenLaws → ClassesStandInFiles
+stand-in-files laws project files place r there found unhindered unfixed token member =
+    in-files laws project files place r there found unhindered token member (occurs laws.declared project files place found token member) unfixed

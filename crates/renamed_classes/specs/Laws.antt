@@ -15,11 +15,11 @@ use Rattle.project_program.specs.Programs.{IsProgram}
 use Rattle.command_projects.specs.Least.{IsAdmitted, Nowhere, Somewhere}
 use Rattle.renamings.specs.Renamings.{Renaming, renamed_files, FitsFiles}
 use Rattle.renamed_units.specs.Laws.{AreNoMacros}
-use Rattle.program_occurrences.specs.Occurrences.{UnitNames}
-use Rattle.program_occurrences.specs.Classes.{PlainFileToken, copied_by}
+use Rattle.program_occurrences.specs.Occurrences.{UnitNames, OccursIn}
+use Rattle.program_occurrences.specs.Classes.{PlainFileToken, copied_by, file_token}
 use Rattle.program_occurrences.specs.Links.{AreBoundAlike}
-use Rattle.reference_classes.specs.Products.{InClass}
-use Rattle.reference_classes.specs.Preconditions.{IsFound, IsTouched, in_macro_body, macro_name, Breaks}
+use Rattle.reference_classes.specs.Products.{Product, names_in, InClass}
+use Rattle.reference_classes.specs.Preconditions.{IsFound, IsTouched, in_macro_body, macro_name, fixed, Breaks}
 use Rattle.reference_classes.specs.Renamed.{IsWrittenAt, RenamesClass}
 use Rattle.copied_tokens.specs.Copies.{IsOnTextLine}
 use Rattle.renamed_sources.specs.Projects.{HasItsFiles, present_files}
@@ -46,6 +46,13 @@ ClassesStandOnTextLines =
     → Somewhere project (IsFound project files place) → Nowhere project (Breaks project files place r in_macro_body)
     → (token : PlainFileToken) → token.file < length files → InClass project files place token → IsTextNameSomewhere project files token
 
+-- Where none of it is fixed either, all its tokens stand in the project's files: none stands in a built-in header.
+abbrev pub ClassesStandInFiles : Type 0
+ClassesStandInFiles =
+    (project : PlainProject) (files : List PlainFile) (place : PlainFileToken) (r : Renaming) → HasItsFiles project files
+    → Somewhere project (IsFound project files place) → Nowhere project (Breaks project files place r in_macro_body)
+    → Nowhere project (Breaks project files place r fixed) → (token : PlainFileToken) → InClass project files place token → token.file < length files
+
 -- Each token of the class in the project's files is written as the name.
 abbrev pub AreWrittenAs : PlainProject → List PlainFile → PlainFileToken → List ℕ → Type 0
 AreWrittenAs project files place name =
@@ -57,6 +64,14 @@ ClassesHaveOneName =
     (project : PlainProject) (files : List PlainFile) (place : PlainFileToken) (new : List ℕ) (r : Renaming) → HasItsFiles project files
     → RenamesClass project files place new r → Somewhere project (IsFound project files place) → Nowhere project (Breaks project files place r in_macro_body)
     → AreWrittenAs project files place r.old
+
+-- So is each of their occurrences in a product, wherever the token stands.
+abbrev pub OccurrencesHaveOneName : Type 0
+OccurrencesHaveOneName =
+    (project : PlainProject) (files : List PlainFile) (place : PlainFileToken) (new : List ℕ) (r : Renaming) → HasItsFiles project files
+    → RenamesClass project files place new r → Somewhere project (IsFound project files place) → Nowhere project (Breaks project files place r in_macro_body)
+    → (c : List Bool) (product : Product project files c) (o : OccursIn (names_in product)) → InClass project files place (file_token o.occurrence)
+    → o.occurrence.identifier.token.text ≡ r.old
 
 -- And that name isn't predefined, since a unit that has such a name on a text line is refused.
 abbrev pub ClassNamesAreFree : Type 0

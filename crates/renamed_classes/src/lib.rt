@@ -2,7 +2,7 @@
 //! definitions (in `specs/`) and the laws, each the contract of a function without a body of its own.
 #![tactic(auto)]
 
-ghost use Rattle.renamed_classes.specs.Laws.{ClassesStandOnTextLines, ClassesHaveOneName, ClassNamesAreFree, ClassesFitFiles, NamesAreNoMacros, ClassesMayBeRenamed, BoundAlikeOrNot, BindingsAreTold, TouchedClassesKeepPrograms};
+ghost use Rattle.renamed_classes.specs.Laws.{ClassesStandOnTextLines, ClassesStandInFiles, ClassesHaveOneName, OccurrencesHaveOneName, ClassNamesAreFree, ClassesFitFiles, NamesAreNoMacros, ClassesMayBeRenamed, BoundAlikeOrNot, BindingsAreTold, TouchedClassesKeepPrograms};
 
 use brought_names::brought_are_named_alike;
 use c_lexer::lines_are_one;
@@ -26,9 +26,33 @@ pub fn classes_stand_on_text_lines()
     names_are_read();
 }
 
+/// Where nothing of it is fixed either, they all stand in the project's files.
+pub fn classes_stand_in_files()
+    ensures { ClassesStandInFiles }
+{
+    declarations_are_occurrences();
+    sources_are_renamed();
+    tokens_are_copied();
+    names_are_read();
+}
+
 /// There all of them are written as the name that stands at the place.
 pub fn classes_have_one_name()
     ensures { ClassesHaveOneName }
+{
+    declarations_are_occurrences();
+    sources_are_renamed();
+    tokens_are_spelt();
+    tokens_are_copied();
+    names_are_read();
+    lines_are_one();
+    places_tell_tokens();
+    brought_are_named_alike();
+}
+
+/// So are their occurrences in each product.
+pub fn occurrences_have_one_name()
+    ensures { OccurrencesHaveOneName }
 {
     declarations_are_occurrences();
     sources_are_renamed();

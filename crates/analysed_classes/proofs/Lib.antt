@@ -1,0 +1,7 @@
+mod Like
+mod Products
+mod Members
+mod Brought
+mod NewName
+mod Named
+mod Renamed
