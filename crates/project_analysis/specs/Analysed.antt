@@ -1,5 +1,5 @@
 -- What an analysis of a project says of its products, one configuration at a time.
-use Rattle.std.specs.Prelude.{List, Bool}
+use Rattle.std.specs.Prelude.{◌≡◌, List, Bool, length}
 use Rattle.std.specs.List.{AllZip}
 use Rattle.cond_formula.specs.Features.{has}
 use Rattle.text_edits.specs.Files.{PlainFile}
@@ -27,5 +27,6 @@ pub record IsToldOf (project : Project) (files : List PlainFile) (c : List Bool)
 pub record IsAnalysed (project : Project) (files : List PlainFile) (a : Analysis) : Type 0 where
   -- the trees once more, whose tokens tell their numbers
   pub numbered : AllZip IsNumbered a.parsed.forests.items a.told.numbered.items
+  pub as_many : length a.told.numbered.items ≡ length project.units.items
   pub told : (c : List Bool) → Product (project_view project) files c → IsToldOf project files c a.parsed a.told
   pub ties : TellsProducts (project_view project) files (tied_tokens_of project a.ties)

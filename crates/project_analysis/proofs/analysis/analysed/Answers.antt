@@ -19,6 +19,7 @@ ties_of_told-requires-clause-told c = λ n product.
 pub returns : goal.returns
 returns c = record {
   numbered = c.in_ok-told.ensures.numbered;
+  as_many = AllZip-long IsNumbered c.in_ok-parsed.parsed.forests.items c.in_ok-told.told.numbered.items c.in_ok-told.ensures.numbered ∙ c.in_ok-parsed.ensures.as_many;
   told = λ n product.
       let admitted : IsTrue (value (has n) (admitted c.new-oracle.result.model.now)) = ap (value (has n)) c.new-oracle.ensures ∙ product.admitted.admitted in
       record {
