@@ -8,7 +8,7 @@ use Rattle.core_meaning.specs.Program.{PlainProgram}
 use Rattle.core_meaning.specs.Checking.{Binding, fine}
 use Rattle.core_meaning.specs.Linking.{Units, judged_program, program_of, IsElaborated}
 use Rattle.moved_programs.specs.Trees.{moved_tree, moved_trees}
-use Rattle.moved_programs.proofs.Follows.{as_one, fine_elsewhere, fine_before}
+use Rattle.moved_programs.proofs.Follows.{told_as, as_one, fine_together}
 use Rattle.moved_programs.proofs.Constants.{kinds_as_one}
 use Rattle.moved_programs.proofs.Programs.{same_program, program_follows}
 use Rattle.program_occurrences.specs.Occurrences.{UnitNames, names_of_units}
@@ -43,9 +43,9 @@ module _ (f : PlainToken → PlainToken) (same : (token : PlainToken) → SameSp
 module _ (trees others : List PlainTree) (same : AreSameButPlaces trees others) where
   judged-too : (linked : Units) (bindings : List Binding) → judged_program trees ≡ fine linked bindings → judged_program others ≡ fine linked bindings
   judged-too linked bindings e =
-      fine_before unplaced (judged_program others) (judged_program (map (moved_tree unplaced) others)) (program_follows as_one unplaced (kinds_as_one unplaced) others) linked bindings
-      (ap judged_program (sym same)
-      ∙ fine_elsewhere unplaced (judged_program trees) (judged_program (map (moved_tree unplaced) trees)) (program_follows as_one unplaced (kinds_as_one unplaced) trees) linked bindings e)
+      fine_together unplaced (judged_program trees) (judged_program others) (judged_program (map (moved_tree unplaced) others))
+      (record { holds = ap (λ (ts : List PlainTree). told_as as_one (judged_program ts)) (sym same) ∙ (program_follows as_one unplaced (kinds_as_one unplaced) trees).holds })
+      (program_follows as_one unplaced (kinds_as_one unplaced) others) linked bindings e
 
   program-same : (linked : Units) → program_of trees linked ≡ program_of others linked
   program-same linked =

@@ -52,6 +52,10 @@ module _ {A : Type 0} (h : PlainToken → PlainToken) (c : Checked A) where
   pub fine_before : (d : Checked A) → Follows as_one h stays c d → (x : A) (bindings : List Binding) → d ≡ fine x bindings → c ≡ fine x bindings
   fine_before d e x bindings is = well_before c x bindings (sym e.holds ∙ ap (told_as as_one) is)
 
+-- so are two judgements that are the same elsewhere
+pub fine_together : {A : Type 0} (h : PlainToken → PlainToken) (a b c : Checked A) → Follows as_one h stays a c → Follows as_one h stays b c → (x : A) (bindings : List Binding) → a ≡ fine x bindings → b ≡ fine x bindings
+fine_together h a b c first second x bindings e = fine_before h b c second x bindings (fine_elsewhere h a c first x bindings e)
+
 -- ---- judgements, one after the other
 
 module _ (told : TypeKind → TypeKind) (h : PlainToken → PlainToken) where
