@@ -4,8 +4,14 @@
 #![tactic(auto)]
 
 ghost use Rattle.moved_names.specs.Laws.{MovesDontName};
+ghost use Rattle.moved_names.specs.Rows.{RefusalsTellPlaces};
 
 /// Units whose tokens stand elsewhere, in whatever places, have the same core program or none, and bind and link the same identifiers.
 pub fn moves_dont_name()
     ensures { MovesDontName }
+{}
+
+/// Of refused units that isn't so: which kind of refusal counts may depend on places.
+pub fn worked_row()
+    ensures { RefusalsTellPlaces }
 {}
