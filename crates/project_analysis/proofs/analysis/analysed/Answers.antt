@@ -1,10 +1,12 @@
 use Rattle.std.proofs.Common.{◌≡◌, List, IsTrue, sym, ap, subst, ◌∙◌}
+use Rattle.std.proofs.lemmas.Slice.Zip.{AllZip-long}
 use Rattle.cond_formula.specs.Features.{has}
 use Rattle.cond_formula.specs.Conditions.{value}
 use Rattle.feature_model.specs.ModelView.{admitted}
 use Rattle.choice_trees.specs.declared.trees.Forest.{Forest}
 use Rattle.cond_scopes.specs.Units.{present_trees}
 use Rattle.program_occurrences.specs.Occurrences.{names_of_units}
+use Rattle.changed_forests.specs.Numbered.{IsNumbered}
 use Rattle.told_occurrences.specs.declared.told.ToldUnit.{ToldUnit}
 use Rattle.told_occurrences.specs.Units.{AreTold}
 use Rattle.project_analysis.proofs.analysis.analysed.Goals as goal
