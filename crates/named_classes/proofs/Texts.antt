@@ -75,11 +75,12 @@ module _ (have : TextsHaveLines) where
 
   from-number : (number : ℕ) (files : List PlainFile) → number + length files ≤ built_in_file → (token : PlainFileToken) → Contains (all-tokens number files) token → number ≤ token.file
   from-number number [] few token i = let last = text-in-file built_in_file built_in_text token i in omega (arith, few, last)
-  from-number number (f ∷ files) few token i = by (Contains-append_cases (text-tokens number f.bytes) (all-tokens (suc number) files) token i)
+  from-number number (f ∷ files) few token i =
+      by (λ j. from-number (suc number) files (omega (arith, few)) token j) (Contains-append_cases (text-tokens number f.bytes) (all-tokens (suc number) files) token i)
     where
-      by : Contains (text-tokens number f.bytes) token ⊎ Contains (all-tokens (suc number) files) token → number ≤ token.file
-      by (inl i) = let here = text-in-file number f.bytes token i in omega (arith, here)
-      by (inr j) = let later = from-number (suc number) files (omega (arith, few)) token j in omega (arith, later)
+      by : (Contains (all-tokens (suc number) files) token → suc number ≤ token.file) → Contains (text-tokens number f.bytes) token ⊎ Contains (all-tokens (suc number) files) token → number ≤ token.file
+      by others (inl here) = let is = text-in-file number f.bytes token here in omega (arith, is)
+      by others (inr behind) = let more = others behind in omega (arith, more)
 
   pub all-ordered : (number : ℕ) (files : List PlainFile) → number + length files ≤ built_in_file → AreInOrder (all-tokens number files)
   all-ordered number [] few = text-ordered built_in_file built_in_text
