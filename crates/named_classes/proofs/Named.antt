@@ -29,9 +29,8 @@ use Rattle.renamed_sources.specs.Laws.{SourcesAreRenamed}
 use Rattle.copied_tokens.specs.Laws.{NamesAreRead}
 use Rattle.renamed_classes.proofs.Given.{IsGivenIn, is-given}
 use Rattle.renamed_classes.proofs.Occurring.{OccursSomewhere, occurs}
-use Rattle.named_classes.specs.Classes.{NamedClass, Finds, IsNamedClass}
 use Rattle.named_classes.specs.Laws.{FoundAreNamed}
-use Rattle.named_classes.proofs.Ordered.{AreThose, those-are-listed}
+use Rattle.named_classes.proofs.Ordered.{those-are-listed}
 use Rattle.named_classes.proofs.Texts.{lines-in-text, all-tokens, all-ordered, in-headers, in-file}
 
 -- the laws that it follows from

@@ -1,6 +1,6 @@
 -- A byte leads to one class at most.
 use Rattle.std.proofs.Common.{◌≡◌, ℕ, List, ap, sym, ◌∙◌, subst}
-use Rattle.std.specs.Prelude.{slice_get, Contains}
+use Rattle.std.specs.Prelude.{Contains}
 use Rattle.std.proofs.lemmas.Option.{same_Some}
 use Rattle.text_edits.specs.Files.{PlainFile}
 use Rattle.c_text.specs.Token.{PlainToken}

@@ -1,5 +1,5 @@
 -- Tokens that units give stand apart where they did, behind a renaming as before.
-use Rattle.std.proofs.Common.{◌≡◌, ℕ, ◌<◌, ◌≤◌, Bool, true, false, ◌&&◌, List, [], ◌∷◌, length, take, drop, All, refl, ap, ap₂, sym, ◌∙◌, subst, inl, inr, arith}
+use Rattle.std.proofs.Common.{◌≡◌, ℕ, ◌<◌, ◌≤◌, Bool, true, false, ◌&&◌, List, [], ◌∷◌, length, All, refl, ap, ap₂, sym, ◌∙◌, subst, inl, inr, arith}
 use Rattle.std.specs.Prelude.{◌==◌, ◌⊎◌, IsTrue}
 use Rattle.std.specs.List.{AllByRecursion}
 use Rattle.std.proofs.lemmas.Bool.{cases_lt}
@@ -9,8 +9,7 @@ use Rattle.c_names.specs.Names.{is_new_name}
 use Rattle.text_edits.specs.Span.{PlainSpan}
 use Rattle.c_text.specs.Token.{PlainToken}
 use Rattle.c_text.specs.Lines.{PlainLine, AreItsLines}
-use Rattle.c_text.specs.Trees.{lines_in}
-use Rattle.c_text.specs.Preprocessing.{Source, project_file, stdio, stdlib, Sources, Syntax, IsSyntaxOf, file_at, built_in_file, built_in_text, feature_token, most_nested, at_start, gives, outcome_of, preprocessed}
+use Rattle.c_text.specs.Preprocessing.{Source, Sources, Syntax, IsSyntaxOf, file_at, built_in_file, built_in_text, feature_token, gives, outcome_of, preprocessed}
 use Rattle.core_meaning.specs.Constancy.{same_span, same_place}
 use Rattle.active_tokens.specs.Reads.{Read}
 use Rattle.active_tokens.specs.Active.{AreMisplaced, reads_of_unit, IsReadAt, HasActiveOrigin, TokensComeFromActive}
@@ -20,9 +19,8 @@ use Rattle.renamed_units.specs.Laws.{IsUnitOf}
 use Rattle.renamed_units.proofs.Tokens.{In, in-of, each-of, entry, entries, entry-of, entries-rise, own-in}
 use Rattle.renamed_units.proofs.Names.{by-cases}
 use Rattle.renamed_units.proofs.Once.{contains-of}
-use Rattle.renamed_units.proofs.Files.{names-at, each-take, each-drop}
-use Rattle.renamed_units.proofs.Sources.{IsThere}
-use Rattle.renamed_products.proofs.ReadTokens.{GoodLine, GoodLines, GoodRead, GoodReads, unit-good}
+use Rattle.renamed_units.proofs.Files.{names-at}
+use Rattle.renamed_products.proofs.ReadTokens.{Good, GoodLine, GoodLines, GoodRead, GoodReads, unit-good}
 
 module _ (r : Renaming) where
   abbrev pub IsOutside : ℕ → ℕ → Type 0
