@@ -6,33 +6,20 @@ use Rattle.core_meaning.specs.Entities.{Struct, Numbers}
 use Rattle.core_meaning.specs.UnitNames.{UnitState, judged_unit}
 use Rattle.core_meaning.specs.Linking.{Units, closed, judged_units, judged_program}
 use Rattle.moved_programs.specs.Trees.{moved_tree}
-use Rattle.moved_programs.proofs.Moves.{moved_checked, Moves, stays}
-use Rattle.moved_programs.proofs.Constants.{KeepsPlaces}
-use Rattle.moved_programs.proofs.Items.{unit_moves}
-use Rattle.moved_programs.proofs.Programs.{program_moves}
+use Rattle.moved_programs.proofs.Follows.{told_as, as_one, fine_together}
+use Rattle.moved_programs.proofs.Constants.{kinds_as_one}
+use Rattle.moved_programs.proofs.Items.{unit_follows}
+use Rattle.moved_programs.proofs.Programs.{program_follows}
 use Rattle.changed_forests.specs.Numbered.{unsited, SameButSites, AreSameButSites}
 use Rattle.changed_forests.specs.Laws.{SitesDontMatter}
-
-keeps : KeepsPlaces unsited
-keeps a b = refl
-
--- what is judged well without sites is judged so with them
-well_before : {A : Type 0} (c : Checked A) (x : A) (bindings : List Binding) → moved_checked unsited stays c ≡ fine x bindings → c ≡ fine x bindings
-well_before (fine y before) x bindings e = e
-well_before (refused kind token) x bindings e = absurd cc
-well_before broken x bindings e = absurd cc
-
-well_again : {A : Type 0} (c d without : Checked A) (x : A) (bindings : List Binding) → Moves unsited stays c without → Moves unsited stays d without → c ≡ fine x bindings → d ≡ fine x bindings
-well_again c d without x bindings first second e =
-    well_before d x bindings (sym second.holds ∙ (first.holds ∙ ap (moved_checked unsited stays) e))
 
 units_lem :
     (tree other : PlainTree) → SameButSites tree other → (globals : ℕ) (structs : List Struct) (numbers : Numbers) (unit : UnitState) (bindings : List Binding)
     → judged_unit globals structs numbers tree ≡ fine unit bindings → judged_unit globals structs numbers other ≡ fine unit bindings
 units_lem tree other same globals structs numbers unit bindings e =
-    well_again (judged_unit globals structs numbers tree) (judged_unit globals structs numbers other) (judged_unit globals structs numbers (moved_tree unsited other)) unit bindings
-    (record { holds = ap (judged_unit globals structs numbers) (sym same) ∙ (unit_moves unsited keeps globals structs numbers tree).holds })
-    (unit_moves unsited keeps globals structs numbers other) e
+    fine_together unsited (judged_unit globals structs numbers tree) (judged_unit globals structs numbers other) (judged_unit globals structs numbers (moved_tree unsited other))
+    (record { holds = ap (λ t. told_as as_one (judged_unit globals structs numbers t)) (sym same) ∙ (unit_follows as_one unsited (kinds_as_one unsited) globals structs numbers tree).holds })
+    (unit_follows as_one unsited (kinds_as_one unsited) globals structs numbers other) unit bindings e
 
 -- ---- one unit after the other
 
@@ -78,9 +65,9 @@ programs_lem :
     (trees others : List PlainTree) → AreSameButSites trees others → (linked : Units) (bindings : List Binding)
     → judged_program trees ≡ fine linked bindings → judged_program others ≡ fine linked bindings
 programs_lem trees others same linked bindings e =
-    well_again (judged_program trees) (judged_program others) (judged_program (map (moved_tree unsited) others)) linked bindings
-    (record { holds = ap judged_program (sym same) ∙ (program_moves unsited keeps trees).holds })
-    (program_moves unsited keeps others) e
+    fine_together unsited (judged_program trees) (judged_program others) (judged_program (map (moved_tree unsited) others))
+    (record { holds = ap (λ ts. told_as as_one (judged_program ts)) (sym same) ∙ (program_follows as_one unsited (kinds_as_one unsited) trees).holds })
+    (program_follows as_one unsited (kinds_as_one unsited) others) linked bindings e
 
 pub sites_dont_matter_lem : SitesDontMatter
 sites_dont_matter_lem = record { units = units_lem; all_units = all_units_lem; programs = programs_lem }

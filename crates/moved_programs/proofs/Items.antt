@@ -4,17 +4,19 @@ use Rattle.std.specs.Prelude.{Option, Some, None, option_map, not, if◌then◌e
 use Rattle.c_text.specs.Token.{PlainToken}
 use Rattle.c_tree.specs.declared.kinds.Kind.TheVariants as k
 use Rattle.c_tree.specs.Trees.{PlainTree, PlainTrees, leaf, node, none, more}
+use Rattle.core_meaning.specs.declared.refusals.TypeKind.{TypeKind}
 use Rattle.core_meaning.specs.declared.refusals.TypeKind.TheVariants.{Redeclared, BadConstant}
 use Rattle.core_meaning.specs.Checking.{◌>>=◌, unless_so, or_broken, in_function}
 use Rattle.core_meaning.specs.Entities.{no_entry, Struct, Numbers, Scope, or_else}
 use Rattle.core_meaning.specs.Declarations.{name_in, based}
 use Rattle.core_meaning.specs.UnitNames.{UnitState, with_scope, Members, AllMembers, members_from, all_members, with_members_at, is_defined_tag, number_of_struct, defined_struct, storage_of, declared_from, count_functions, defined_function, judged_item, judged_file_items, unit_start, is_too_big, name_if_too_big, too_big_declarator, too_big_among, too_big_declared, too_big_in_item, too_big_in, unless_too_big, judged_unit}
 use Rattle.moved_programs.specs.Trees.{moved_tree, moved_trees}
-use Rattle.moved_programs.proofs.Moves.{elsewhere, Moves, stays, same_then, token_then, give_moves, given, refused_moves, broken_moves, unless_moves, function_moves}
+use Rattle.moved_programs.proofs.Moves.{elsewhere, Moves, stays, same_then, token_then, give_moves, given, refused_moves, broken_moves, unless_moves}
+use Rattle.moved_programs.proofs.Follows.{Follows, as_they_are, moves_of, kept, same_follows, token_follows, given_follows, broken_follows, function_follows}
 use Rattle.moved_programs.proofs.Words.{name_moves}
-use Rattle.moved_programs.proofs.Constants.{KeepsPlaces}
+use Rattle.moved_programs.proofs.Constants.{KeepsPlaces, KeepsKinds, kinds_by_places}
 use Rattle.moved_programs.proofs.Declarators.{based_moves}
-use Rattle.moved_programs.proofs.Units.{same_storage, members_move, declarators_move, function_moves_to}
+use Rattle.moved_programs.proofs.Units.{same_storage, members_move, declarators_follow, function_follows_to}
 
 module _ (h : PlainToken → PlainToken) where
   -- ---- structs
@@ -95,45 +97,53 @@ module _ (h : PlainToken → PlainToken) where
   end_moves : (s : Scope) (parts : PlainTrees) → Moves h stays (unless_too_big (too_big_in s parts)) (unless_too_big (too_big_in s (moved_trees (elsewhere h) parts)))
   end_moves s parts = subst (λ name. Moves h stays (unless_too_big (too_big_in s parts)) (unless_too_big name)) (sym (big_in s parts)) (unless_moves_to (too_big_in s parts))
 
-module _ (h : PlainToken → PlainToken) (apart : KeepsPlaces h) where
+module _ (told : TypeKind → TypeKind) (h : PlainToken → PlainToken) (alike : KeepsKinds told h) where
   -- ---- items
 
-  declaration_moves :
+  declaration_follows :
       (globals : ℕ) (unit : UnitState) (words declarators behind : PlainTrees)
-      → Moves h stays (based true unit.scope words >>= (λ base. declared_from globals (with_scope unit base.scope) (storage_of words) base.ty declarators behind))
+      → Follows told h stays (based true unit.scope words >>= (λ base. declared_from globals (with_scope unit base.scope) (storage_of words) base.ty declarators behind))
       (based true unit.scope (moved_trees (elsewhere h) words) >>= (λ base. declared_from globals (with_scope unit base.scope) (storage_of (moved_trees (elsewhere h) words)) base.ty (moved_trees (elsewhere h) declarators) (moved_trees (elsewhere h) behind)))
-  declaration_moves globals unit words declarators behind =
-      same_then h stays (based true unit.scope words) (based true unit.scope (moved_trees (elsewhere h) words)) _ _ (based_moves h true unit.scope words)
-      (λ base. subst (λ storage. Moves h stays (declared_from globals (with_scope unit base.scope) (storage_of words) base.ty declarators behind) (declared_from globals (with_scope unit base.scope) storage base.ty (moved_trees (elsewhere h) declarators) (moved_trees (elsewhere h) behind)))
-      (sym (same_storage h words)) (declarators_move h apart declarators globals (with_scope unit base.scope) (storage_of words) base.ty behind))
+  declaration_follows globals unit words declarators behind =
+      same_follows told h stays (based true unit.scope words) (based true unit.scope (moved_trees (elsewhere h) words)) _ _ (kept told h (based_moves h true unit.scope words))
+      (λ base. subst (λ storage. Follows told h stays (declared_from globals (with_scope unit base.scope) (storage_of words) base.ty declarators behind) (declared_from globals (with_scope unit base.scope) storage base.ty (moved_trees (elsewhere h) declarators) (moved_trees (elsewhere h) behind)))
+      (sym (same_storage h words)) (declarators_follow told h alike declarators globals (with_scope unit base.scope) (storage_of words) base.ty behind))
 
-  definition_moves :
+  definition_follows :
       (unit : UnitState) (words parts : PlainTrees) (body : PlainTree)
-      → Moves h stays (based false unit.scope words >>= (λ base. or_broken (name_in parts) >>= (λ name. in_function (count_functions unit.defined) (defined_function unit (storage_of words) base.ty parts name body))))
+      → Follows told h stays (based false unit.scope words >>= (λ base. or_broken (name_in parts) >>= (λ name. in_function (count_functions unit.defined) (defined_function unit (storage_of words) base.ty parts name body))))
       (based false unit.scope (moved_trees (elsewhere h) words) >>= (λ base. or_broken (name_in (moved_trees (elsewhere h) parts)) >>= (λ name. in_function (count_functions unit.defined) (defined_function unit (storage_of (moved_trees (elsewhere h) words)) base.ty (moved_trees (elsewhere h) parts) name (moved_tree (elsewhere h) body)))))
-  definition_moves unit words parts body =
-      same_then h stays (based false unit.scope words) (based false unit.scope (moved_trees (elsewhere h) words)) _ _ (based_moves h false unit.scope words)
-      (λ base. token_then h stays (name_in parts) (name_in (moved_trees (elsewhere h) parts)) _ _ (name_moves h parts)
-      (λ name. function_moves h stays (count_functions unit.defined) (defined_function unit (storage_of words) base.ty parts name body) (defined_function unit (storage_of (moved_trees (elsewhere h) words)) base.ty (moved_trees (elsewhere h) parts) (elsewhere h name) (moved_tree (elsewhere h) body))
-      (subst (λ storage. Moves h stays (defined_function unit (storage_of words) base.ty parts name body) (defined_function unit storage base.ty (moved_trees (elsewhere h) parts) (elsewhere h name) (moved_tree (elsewhere h) body))) (sym (same_storage h words))
-      (function_moves_to h apart unit (storage_of words) base.ty parts name body))))
+  definition_follows unit words parts body =
+      same_follows told h stays (based false unit.scope words) (based false unit.scope (moved_trees (elsewhere h) words)) _ _ (kept told h (based_moves h false unit.scope words))
+      (λ base. token_follows told h stays (name_in parts) (name_in (moved_trees (elsewhere h) parts)) _ _ (name_moves h parts)
+      (λ name. function_follows told h stays (count_functions unit.defined) (defined_function unit (storage_of words) base.ty parts name body) (defined_function unit (storage_of (moved_trees (elsewhere h) words)) base.ty (moved_trees (elsewhere h) parts) (elsewhere h name) (moved_tree (elsewhere h) body))
+      (subst (λ storage. Follows told h stays (defined_function unit (storage_of words) base.ty parts name body) (defined_function unit storage base.ty (moved_trees (elsewhere h) parts) (elsewhere h name) (moved_tree (elsewhere h) body))) (sym (same_storage h words))
+      (function_follows_to told h alike unit (storage_of words) base.ty parts name body))))
 
-  item_moves : (globals : ℕ) (unit : UnitState) (tree : PlainTree) (behind : PlainTrees) → Moves h stays (judged_item globals unit tree behind) (judged_item globals unit (moved_tree (elsewhere h) tree) (moved_trees (elsewhere h) behind))
-  item_moves globals unit (node k.StructDefinition (more (node tag_kind words) (more brace (more (node list_kind members) rest)))) behind = struct_moves h unit words members
-  item_moves globals unit (node k.StructDeclaration (more (node tag_kind words) (more end_ none))) behind =
-      same_then h stays (based true unit.scope words) (based true unit.scope (moved_trees (elsewhere h) words)) _ _ (based_moves h true unit.scope words) (λ base. given h stays (with_scope unit base.scope))
-  item_moves globals unit (node k.Declaration (more (node words_kind words) (more (node list_kind declarators) (more end_ none)))) behind = declaration_moves globals unit words declarators behind
-  item_moves globals unit (node k.Function (more (node words_kind words) (more (node list_kind (more (node kind parts) none)) (more body none)))) behind = definition_moves unit words parts body
-  item_moves globals unit (leaf _) behind = broken_moves h stays
-  item_moves globals unit (node _ _) behind = broken_moves h stays
+  item_follows : (globals : ℕ) (unit : UnitState) (tree : PlainTree) (behind : PlainTrees) → Follows told h stays (judged_item globals unit tree behind) (judged_item globals unit (moved_tree (elsewhere h) tree) (moved_trees (elsewhere h) behind))
+  item_follows globals unit (node k.StructDefinition (more (node tag_kind words) (more brace (more (node list_kind members) rest)))) behind = kept told h (struct_moves h unit words members)
+  item_follows globals unit (node k.StructDeclaration (more (node tag_kind words) (more end_ none))) behind =
+      same_follows told h stays (based true unit.scope words) (based true unit.scope (moved_trees (elsewhere h) words)) _ _ (kept told h (based_moves h true unit.scope words)) (λ base. given_follows told h stays (with_scope unit base.scope))
+  item_follows globals unit (node k.Declaration (more (node words_kind words) (more (node list_kind declarators) (more end_ none)))) behind = declaration_follows globals unit words declarators behind
+  item_follows globals unit (node k.Function (more (node words_kind words) (more (node list_kind (more (node kind parts) none)) (more body none)))) behind = definition_follows unit words parts body
+  item_follows globals unit (leaf _) behind = broken_follows told h stays
+  item_follows globals unit (node _ _) behind = broken_follows told h stays
 
-  file_moves : (globals : ℕ) (parts : PlainTrees) (unit : UnitState) → Moves h stays (judged_file_items globals unit parts) (judged_file_items globals unit (moved_trees (elsewhere h) parts))
-  file_moves globals none unit = given h stays unit
-  file_moves globals (more tree rest) unit =
-      same_then h stays (judged_item globals unit tree rest) (judged_item globals unit (moved_tree (elsewhere h) tree) (moved_trees (elsewhere h) rest)) _ _ (item_moves globals unit tree rest) (λ first. file_moves globals rest first)
+  file_follows : (globals : ℕ) (parts : PlainTrees) (unit : UnitState) → Follows told h stays (judged_file_items globals unit parts) (judged_file_items globals unit (moved_trees (elsewhere h) parts))
+  file_follows globals none unit = given_follows told h stays unit
+  file_follows globals (more tree rest) unit =
+      same_follows told h stays (judged_item globals unit tree rest) (judged_item globals unit (moved_tree (elsewhere h) tree) (moved_trees (elsewhere h) rest)) _ _ (item_follows globals unit tree rest) (λ first. file_follows globals rest first)
 
-  pub unit_moves : (globals : ℕ) (structs : List Struct) (numbers : Numbers) (tree : PlainTree) → Moves h stays (judged_unit globals structs numbers tree) (judged_unit globals structs numbers (moved_tree (elsewhere h) tree))
-  unit_moves globals structs numbers (node kind parts) =
-      same_then h stays (judged_file_items globals (unit_start structs numbers) parts) (judged_file_items globals (unit_start structs numbers) (moved_trees (elsewhere h) parts)) _ _ (file_moves globals parts (unit_start structs numbers))
-      (λ unit. same_then h stays (unless_too_big (too_big_in unit.scope parts)) (unless_too_big (too_big_in unit.scope (moved_trees (elsewhere h) parts))) _ _ (end_moves h unit.scope parts) (λ small. given h stays unit))
-  unit_moves globals structs numbers (leaf token) = broken_moves h stays
+  pub unit_follows : (globals : ℕ) (structs : List Struct) (numbers : Numbers) (tree : PlainTree) → Follows told h stays (judged_unit globals structs numbers tree) (judged_unit globals structs numbers (moved_tree (elsewhere h) tree))
+  unit_follows globals structs numbers (node kind parts) =
+      same_follows told h stays (judged_file_items globals (unit_start structs numbers) parts) (judged_file_items globals (unit_start structs numbers) (moved_trees (elsewhere h) parts)) _ _ (file_follows globals parts (unit_start structs numbers))
+      (λ unit. same_follows told h stays (unless_too_big (too_big_in unit.scope parts)) (unless_too_big (too_big_in unit.scope (moved_trees (elsewhere h) parts))) _ _ (kept told h (end_moves h unit.scope parts)) (λ small. given_follows told h stays unit))
+  unit_follows globals structs numbers (leaf token) = broken_follows told h stays
+
+-- where places that were apart are apart, refusals are of the same kinds too
+pub unit_moves :
+    (h : PlainToken → PlainToken) → KeepsPlaces h → (globals : ℕ) (structs : List Struct) (numbers : Numbers) (tree : PlainTree)
+    → Moves h stays (judged_unit globals structs numbers tree) (judged_unit globals structs numbers (moved_tree (elsewhere h) tree))
+unit_moves h apart globals structs numbers tree =
+    moves_of h stays (judged_unit globals structs numbers tree) (judged_unit globals structs numbers (moved_tree (elsewhere h) tree))
+    (unit_follows as_they_are h (kinds_by_places h apart) globals structs numbers tree)

@@ -1,4 +1,5 @@
 pub mod Moves
+pub mod Follows
 pub mod Words
 pub mod Operators
 pub mod Expressions

@@ -33,7 +33,7 @@ module _ (h : PlainToken → PlainToken) where
   bound_moves v before (refused kind token) = refl
   bound_moves v before broken = refl
 
-  after_moves : {A B : Type 0} (v : A → A) (w : B → B) (c : Checked A) (m n : A → Checked B) → ((x : A) → n (v x) ≡ moved_checked h w (m x)) → (moved_checked h v c >>= n) ≡ moved_checked h w (c >>= m)
+  pub after_moves : {A B : Type 0} (v : A → A) (w : B → B) (c : Checked A) (m n : A → Checked B) → ((x : A) → n (v x) ≡ moved_checked h w (m x)) → (moved_checked h v c >>= n) ≡ moved_checked h w (c >>= m)
   after_moves v w (fine x before) m n e = ap (with_bindings before) (e x) ∙ bound_moves w before (m x)
   after_moves v w (refused kind token) m n e = refl
   after_moves v w broken m n e = refl
@@ -85,11 +85,14 @@ module _ (h : PlainToken → PlainToken) where
   token_moves (Some x) = refl
   token_moves None = refl
 
+  pub one_token : (a b : Option PlainToken) → b ≡ option_map (elsewhere h) a → Moves h (elsewhere h) (or_broken a) (or_broken b)
+  one_token a b e = record { holds = ap or_broken e ∙ token_moves a }
+
   -- a token, if there is one, and what it leads to
   pub token_then :
       {B : Type 0} (w : B → B) (a b : Option PlainToken) (m n : PlainToken → Checked B) → b ≡ option_map (elsewhere h) a → ((x : PlainToken) → Moves h w (m x) (n (elsewhere h x)))
       → Moves h w (or_broken a >>= m) (or_broken b >>= n)
-  token_then w a b m n e next = then_moves (elsewhere h) w (or_broken a) (or_broken b) m n (record { holds = ap or_broken e ∙ token_moves a }) next
+  token_then w a b m n e next = then_moves (elsewhere h) w (or_broken a) (or_broken b) m n (one_token a b e) next
 
   pub if_moves : {A : Type 0} (v : A → A) (b : Bool) (c d m n : Checked A) → Moves h v c m → Moves h v d n → Moves h v (if b then c else d) (if b then m else n)
   if_moves v true c d m n first second = first
@@ -105,7 +108,7 @@ module _ (h : PlainToken → PlainToken) where
   pub declares_moves : (entity : Entity) → Moves h stays (declares entity) (declares entity)
   declares_moves entity = record { holds = refl }
 
-  numbered_moves : {A : Type 0} (v : A → A) (n : ℕ) (c : Checked A) → in_function n (moved_checked h v c) ≡ moved_checked h v (in_function n c)
+  pub numbered_moves : {A : Type 0} (v : A → A) (n : ℕ) (c : Checked A) → in_function n (moved_checked h v c) ≡ moved_checked h v (in_function n c)
   numbered_moves v n (fine x bindings) = refl
   numbered_moves v n (refused kind token) = refl
   numbered_moves v n broken = refl

@@ -22,10 +22,11 @@ use Rattle.core_meaning.specs.Statements.{items_as}
 use Rattle.core_meaning.specs.UnitNames.{object_body, tentative_body, function_body, UnitState, completes, is_completed_in, struct_is_completed, is_completed_later, Storage, by_static, by_extern, by_none, storage_of, declared_again, declared_as, with_name, linkage, is_function, may_be_incomplete, judged_global, constant_parts, with_defined, with_scope, defined_object, declared_object, parameter_types, signature_of, refused_initialiser, may_be_function, new_function, declared_function, declared_one, declared_from, with_parameters, is_result, kind_or_incomplete, kind_by_parameters, result_kind, judged_body, defined_function, Members, with_member, declared_member, one_member, members_from}
 use Rattle.moved_programs.specs.Trees.{moved_tree, moved_trees}
 use Rattle.moved_programs.proofs.Moves.{elsewhere, moved_checked, Moves, stays, move_rules, then_moves, same_then, token_then, give_moves, given, refused_moves, broken_moves, unless_moves, somes_move, tested_moves, declares_moves}
+use Rattle.moved_programs.proofs.Follows.{Follows, kept, then_follows, same_follows, token_follows, given_follows, broken_follows, tested_follows}
 use Rattle.moved_programs.proofs.Words.{first_moves, same_terminals, name_moves, behind_moves, same_word}
-use Rattle.moved_programs.proofs.Constants.{KeepsPlaces, moved_initials, initial_moves}
+use Rattle.moved_programs.proofs.Constants.{KeepsKinds, moved_initials, initial_follows}
 use Rattle.moved_programs.proofs.Declarators.{moved_parameters, same_starred, object_moves, judged_object_moves, parameters_move, same_with}
-use Rattle.moved_programs.proofs.Statements.{items_move}
+use Rattle.moved_programs.proofs.Statements.{items_follow}
 
 module _ (h : PlainToken → PlainToken) where
   -- ---- what is completed later
@@ -210,97 +211,97 @@ module _ (h : PlainToken → PlainToken) where
   members_move (more tree (more comma rest)) s number known ty =
       same_then h stays (one_member s number known ty tree) (one_member s number known ty (moved_tree (elsewhere h) tree)) _ _ (one_member_moves s number known ty tree) (λ first. members_move rest s number first ty)
 
-module _ (h : PlainToken → PlainToken) (apart : KeepsPlaces h) where
+module _ (told : TypeKind → TypeKind) (h : PlainToken → PlainToken) (alike : KeepsKinds told h) where
   -- ---- definitions of objects
 
-  initialised_moves :
+  initialised_follows :
       (globals : ℕ) (unit : UnitState) (ty : PlainType) (name : PlainToken) (initialiser : PlainTree)
-      → Moves h stays (initial unit.scope (Some globals) ty [] initialiser name >>= (λ parts. or_broken (constant_parts globals parts) >>= (λ values. give (with_defined unit name.text (object_body values)))))
+      → Follows told h stays (initial unit.scope (Some globals) ty [] initialiser name >>= (λ parts. or_broken (constant_parts globals parts) >>= (λ values. give (with_defined unit name.text (object_body values)))))
       (initial unit.scope (Some globals) ty [] (moved_tree (elsewhere h) initialiser) (elsewhere h name) >>= (λ parts. or_broken (constant_parts globals parts) >>= (λ values. give (with_defined unit name.text (object_body values)))))
-  initialised_moves globals unit ty name initialiser =
-      then_moves h (moved_initials h) stays (initial unit.scope (Some globals) ty [] initialiser name) (initial unit.scope (Some globals) ty [] (moved_tree (elsewhere h) initialiser) (elsewhere h name))
+  initialised_follows globals unit ty name initialiser =
+      then_follows told h (moved_initials h) stays (initial unit.scope (Some globals) ty [] initialiser name) (initial unit.scope (Some globals) ty [] (moved_tree (elsewhere h) initialiser) (elsewhere h name))
       (λ parts. or_broken (constant_parts globals parts) >>= (λ values. give (with_defined unit name.text (object_body values)))) (λ parts. or_broken (constant_parts globals parts) >>= (λ values. give (with_defined unit name.text (object_body values))))
-      (initial_moves h apart unit.scope (Some globals) initialiser ty [] name)
-      (λ parts. same_then h stays (or_broken (constant_parts globals parts)) (or_broken (constant_parts globals (moved_initials h parts))) _ _ (somes_move h (constant_parts globals parts) (constant_parts globals (moved_initials h parts)) (same_constants h globals parts))
-      (λ values. given h stays (with_defined unit name.text (object_body values))))
+      (initial_follows told h alike unit.scope (Some globals) initialiser ty [] name)
+      (λ parts. same_follows told h stays (or_broken (constant_parts globals parts)) (or_broken (constant_parts globals (moved_initials h parts))) _ _ (kept told h (somes_move h (constant_parts globals parts) (constant_parts globals (moved_initials h parts)) (same_constants h globals parts)))
+      (λ values. given_follows told h stays (with_defined unit name.text (object_body values))))
 
-  defined_moves :
+  defined_follows :
       (globals : ℕ) (unit : UnitState) (storage : Storage) (ty : PlainType) (name : PlainToken) (initialiser : Option PlainTree)
-      → Moves h stays (defined_object globals unit storage ty name initialiser) (defined_object globals unit storage ty (elsewhere h name) (option_map (moved_tree (elsewhere h)) initialiser))
-  defined_moves globals unit by_extern ty name None = given h stays unit
-  defined_moves globals unit _ ty name None = given h stays (with_defined unit name.text tentative_body)
-  defined_moves globals unit _ ty name (Some initialiser) = initialised_moves globals unit ty name initialiser
+      → Follows told h stays (defined_object globals unit storage ty name initialiser) (defined_object globals unit storage ty (elsewhere h name) (option_map (moved_tree (elsewhere h)) initialiser))
+  defined_follows globals unit by_extern ty name None = given_follows told h stays unit
+  defined_follows globals unit _ ty name None = given_follows told h stays (with_defined unit name.text tentative_body)
+  defined_follows globals unit _ ty name (Some initialiser) = initialised_follows globals unit ty name initialiser
 
   global_is :
       (storage : Storage) (initialiser : Option PlainTree) (s : Scope) (ty : PlainType) (name : PlainToken) (rest : PlainTrees)
-      → Moves h stays (judged_global storage (is_some initialiser) s ty name rest) (judged_global storage (is_some (option_map (moved_tree (elsewhere h)) initialiser)) s ty (elsewhere h name) (moved_trees (elsewhere h) rest))
+      → Follows told h stays (judged_global storage (is_some initialiser) s ty name rest) (judged_global storage (is_some (option_map (moved_tree (elsewhere h)) initialiser)) s ty (elsewhere h name) (moved_trees (elsewhere h) rest))
   global_is storage initialiser s ty name rest =
-      subst (λ b. Moves h stays (judged_global storage (is_some initialiser) s ty name rest) (judged_global storage b s ty (elsewhere h name) (moved_trees (elsewhere h) rest))) (sym (same_some h initialiser))
-      (global_moves h storage (is_some initialiser) s ty name rest)
+      subst (λ b. Follows told h stays (judged_global storage (is_some initialiser) s ty name rest) (judged_global storage b s ty (elsewhere h name) (moved_trees (elsewhere h) rest))) (sym (same_some h initialiser))
+      (kept told h (global_moves h storage (is_some initialiser) s ty name rest))
 
-  declared_object_moves :
+  declared_object_follows :
       (globals : ℕ) (unit : UnitState) (storage : Storage) (ty : PlainType) (kind : Kind) (parts : PlainTrees) (name : PlainToken) (initialiser : Option PlainTree) (rest : PlainTrees)
-      → Moves h stays (declared_object globals unit storage ty kind parts name initialiser rest)
+      → Follows told h stays (declared_object globals unit storage ty kind parts name initialiser rest)
       (declared_object globals unit storage ty kind (moved_trees (elsewhere h) parts) (elsewhere h name) (option_map (moved_tree (elsewhere h)) initialiser) (moved_trees (elsewhere h) rest))
-  declared_object_moves globals unit storage ty kind parts name initialiser rest =
+  declared_object_follows globals unit storage ty kind parts name initialiser rest =
       let moved = option_map (moved_tree (elsewhere h)) initialiser in
-      same_then h stays (declares (file_entity name.text)) (declares (file_entity name.text)) _ _ (declares_moves h (file_entity name.text))
-      (λ bound. same_then h stays (object_type unit.scope ty kind parts name initialiser) (object_type unit.scope ty kind (moved_trees (elsewhere h) parts) (elsewhere h name) moved) _ _ (object_moves h unit.scope ty kind parts name initialiser)
-      (λ whole. same_then h stays (with_name unit.scope name (variable whole) storage) (with_name unit.scope (elsewhere h name) (variable whole) storage) _ _ (with_name_moves h unit.scope name (variable whole) storage)
-      (λ scope. same_then h stays (judged_global storage (is_some initialiser) scope whole name rest) (judged_global storage (is_some moved) scope whole (elsewhere h name) (moved_trees (elsewhere h) rest)) _ _ (global_is storage initialiser scope whole name rest)
-      (λ judged. defined_moves globals (with_scope unit scope) storage whole name initialiser))))
+      same_follows told h stays (declares (file_entity name.text)) (declares (file_entity name.text)) _ _ (kept told h (declares_moves h (file_entity name.text)))
+      (λ bound. same_follows told h stays (object_type unit.scope ty kind parts name initialiser) (object_type unit.scope ty kind (moved_trees (elsewhere h) parts) (elsewhere h name) moved) _ _ (kept told h (object_moves h unit.scope ty kind parts name initialiser))
+      (λ whole. same_follows told h stays (with_name unit.scope name (variable whole) storage) (with_name unit.scope (elsewhere h name) (variable whole) storage) _ _ (kept told h (with_name_moves h unit.scope name (variable whole) storage))
+      (λ scope. same_follows told h stays (judged_global storage (is_some initialiser) scope whole name rest) (judged_global storage (is_some moved) scope whole (elsewhere h name) (moved_trees (elsewhere h) rest)) _ _ (global_is storage initialiser scope whole name rest)
+      (λ judged. defined_follows globals (with_scope unit scope) storage whole name initialiser))))
 
-  declared_one_moves :
+  declared_one_follows :
       (globals : ℕ) (unit : UnitState) (storage : Storage) (ty : PlainType) (tree : PlainTree) (initialiser : Option PlainTree) (rest : PlainTrees)
-      → Moves h stays (declared_one globals unit storage ty tree initialiser rest) (declared_one globals unit storage ty (moved_tree (elsewhere h) tree) (option_map (moved_tree (elsewhere h)) initialiser) (moved_trees (elsewhere h) rest))
-  declared_one_moves globals unit storage ty (node k.FunctionDeclarator parts) initialiser rest =
-      token_then h stays (name_in parts) (name_in (moved_trees (elsewhere h) parts)) _ _ (name_moves h parts) (λ name. declared_function_moves h unit storage ty parts name initialiser)
-  declared_one_moves globals unit storage ty (node kind parts) initialiser rest =
-      token_then h stays (name_in parts) (name_in (moved_trees (elsewhere h) parts)) _ _ (name_moves h parts) (λ name. declared_object_moves globals unit storage ty kind parts name initialiser rest)
-  declared_one_moves globals unit storage ty (leaf token) initialiser rest = broken_moves h stays
+      → Follows told h stays (declared_one globals unit storage ty tree initialiser rest) (declared_one globals unit storage ty (moved_tree (elsewhere h) tree) (option_map (moved_tree (elsewhere h)) initialiser) (moved_trees (elsewhere h) rest))
+  declared_one_follows globals unit storage ty (node k.FunctionDeclarator parts) initialiser rest =
+      token_follows told h stays (name_in parts) (name_in (moved_trees (elsewhere h) parts)) _ _ (name_moves h parts) (λ name. kept told h (declared_function_moves h unit storage ty parts name initialiser))
+  declared_one_follows globals unit storage ty (node kind parts) initialiser rest =
+      token_follows told h stays (name_in parts) (name_in (moved_trees (elsewhere h) parts)) _ _ (name_moves h parts) (λ name. declared_object_follows globals unit storage ty kind parts name initialiser rest)
+  declared_one_follows globals unit storage ty (leaf token) initialiser rest = broken_follows told h stays
 
-  abbrev DeclaratorsMove : PlainTrees → Type 0
-  DeclaratorsMove parts =
+  abbrev DeclaratorsFollow : PlainTrees → Type 0
+  DeclaratorsFollow parts =
       (globals : ℕ) (unit : UnitState) (storage : Storage) (ty : PlainType) (rest : PlainTrees)
-      → Moves h stays (declared_from globals unit storage ty parts rest) (declared_from globals unit storage ty (moved_trees (elsewhere h) parts) (moved_trees (elsewhere h) rest))
+      → Follows told h stays (declared_from globals unit storage ty parts rest) (declared_from globals unit storage ty (moved_trees (elsewhere h) parts) (moved_trees (elsewhere h) rest))
 
   one_then :
-      (globals : ℕ) (unit : UnitState) (storage : Storage) (ty : PlainType) (tree : PlainTree) (initialiser : Option PlainTree) (others rest : PlainTrees) → DeclaratorsMove others
-      → Moves h stays (declared_one globals unit storage ty tree initialiser rest >>= (λ first. declared_from globals first storage ty others rest))
+      (globals : ℕ) (unit : UnitState) (storage : Storage) (ty : PlainType) (tree : PlainTree) (initialiser : Option PlainTree) (others rest : PlainTrees) → DeclaratorsFollow others
+      → Follows told h stays (declared_one globals unit storage ty tree initialiser rest >>= (λ first. declared_from globals first storage ty others rest))
       (declared_one globals unit storage ty (moved_tree (elsewhere h) tree) (option_map (moved_tree (elsewhere h)) initialiser) (moved_trees (elsewhere h) rest)
       >>= (λ first. declared_from globals first storage ty (moved_trees (elsewhere h) others) (moved_trees (elsewhere h) rest)))
   one_then globals unit storage ty tree initialiser others rest i =
-      same_then h stays (declared_one globals unit storage ty tree initialiser rest) (declared_one globals unit storage ty (moved_tree (elsewhere h) tree) (option_map (moved_tree (elsewhere h)) initialiser) (moved_trees (elsewhere h) rest)) _ _
-      (declared_one_moves globals unit storage ty tree initialiser rest) (λ first. i globals first storage ty rest)
+      same_follows told h stays (declared_one globals unit storage ty tree initialiser rest) (declared_one globals unit storage ty (moved_tree (elsewhere h) tree) (option_map (moved_tree (elsewhere h)) initialiser) (moved_trees (elsewhere h) rest)) _ _
+      (declared_one_follows globals unit storage ty tree initialiser rest) (λ first. i globals first storage ty rest)
 
-  pub declarators_move : (parts : PlainTrees) → DeclaratorsMove parts
-  declarators_move none globals unit storage ty rest = broken_moves h stays
-  declarators_move (more tree none) globals unit storage ty rest = declared_one_moves globals unit storage ty tree None rest
-  declarators_move (more tree (more sign none)) globals unit storage ty rest = broken_moves h stays
-  declarators_move (more tree (more sign (more next none))) globals unit storage ty rest =
-      tested_moves h stays (is_word (t.Assign ∷ []) sign) (is_word (t.Assign ∷ []) (moved_tree (elsewhere h) sign)) _ _ _ _ (same_word h (t.Assign ∷ []) sign) (declared_one_moves globals unit storage ty tree (Some next) rest)
-      (one_then globals unit storage ty tree None (more next none) rest (declarators_move (more next none)))
-  declarators_move (more tree (more sign (more next (more comma others)))) globals unit storage ty rest =
-      tested_moves h stays (is_word (t.Assign ∷ []) sign) (is_word (t.Assign ∷ []) (moved_tree (elsewhere h) sign)) _ _ _ _ (same_word h (t.Assign ∷ []) sign)
-      (one_then globals unit storage ty tree (Some next) others rest (declarators_move others))
-      (one_then globals unit storage ty tree None (more next (more comma others)) rest (declarators_move (more next (more comma others))))
+  pub declarators_follow : (parts : PlainTrees) → DeclaratorsFollow parts
+  declarators_follow none globals unit storage ty rest = broken_follows told h stays
+  declarators_follow (more tree none) globals unit storage ty rest = declared_one_follows globals unit storage ty tree None rest
+  declarators_follow (more tree (more sign none)) globals unit storage ty rest = broken_follows told h stays
+  declarators_follow (more tree (more sign (more next none))) globals unit storage ty rest =
+      tested_follows told h stays (is_word (t.Assign ∷ []) sign) (is_word (t.Assign ∷ []) (moved_tree (elsewhere h) sign)) _ _ _ _ (same_word h (t.Assign ∷ []) sign) (declared_one_follows globals unit storage ty tree (Some next) rest)
+      (one_then globals unit storage ty tree None (more next none) rest (declarators_follow (more next none)))
+  declarators_follow (more tree (more sign (more next (more comma others)))) globals unit storage ty rest =
+      tested_follows told h stays (is_word (t.Assign ∷ []) sign) (is_word (t.Assign ∷ []) (moved_tree (elsewhere h) sign)) _ _ _ _ (same_word h (t.Assign ∷ []) sign)
+      (one_then globals unit storage ty tree (Some next) others rest (declarators_follow others))
+      (one_then globals unit storage ty tree None (more next (more comma others)) rest (declarators_follow (more next (more comma others))))
 
   -- ---- definitions of functions
 
-  body_moves : (s : Scope) (result : PlainType) (slots : List PlainType) (tree : PlainTree) → Moves h stays (judged_body s result slots tree) (judged_body s result slots (moved_tree (elsewhere h) tree))
-  body_moves s result slots (node kind (more brace (more (node k.Items items) (more last none)))) = items_move h apart items (record { scope = s; result = result; in_loop = false }) slots
-  body_moves s result slots (node kind (more brace (more (node k.Absent items) (more last none)))) = given h stays (items_as slots no_item)
-  body_moves s result slots _ = broken_moves h stays
+  body_follows : (s : Scope) (result : PlainType) (slots : List PlainType) (tree : PlainTree) → Follows told h stays (judged_body s result slots tree) (judged_body s result slots (moved_tree (elsewhere h) tree))
+  body_follows s result slots (node kind (more brace (more (node k.Items items) (more last none)))) = items_follow told h alike items (record { scope = s; result = result; in_loop = false }) slots
+  body_follows s result slots (node kind (more brace (more (node k.Absent items) (more last none)))) = given_follows told h stays (items_as slots no_item)
+  body_follows s result slots _ = broken_follows told h stays
 
   body_of :
       (s : Scope) (result : PlainType) (parameters : List Parameter) (body : PlainTree)
-      → Moves h stays (judged_body (with_parameters (with_block s) 0 parameters) result (parameter_types parameters) body)
+      → Follows told h stays (judged_body (with_parameters (with_block s) 0 parameters) result (parameter_types parameters) body)
       (judged_body (with_parameters (with_block s) 0 (moved_parameters h parameters)) result (parameter_types (moved_parameters h parameters)) (moved_tree (elsewhere h) body))
   body_of s result parameters body =
       let original = judged_body (with_parameters (with_block s) 0 parameters) result (parameter_types parameters) body in
-      subst (λ scope. Moves h stays original (judged_body scope result (parameter_types (moved_parameters h parameters)) (moved_tree (elsewhere h) body))) (sym (same_with_all h (with_block s) 0 parameters))
-      (subst (λ types. Moves h stays original (judged_body (with_parameters (with_block s) 0 parameters) result types (moved_tree (elsewhere h) body))) (sym (same_types h parameters))
-      (body_moves (with_parameters (with_block s) 0 parameters) result (parameter_types parameters) body))
+      subst (λ scope. Follows told h stays original (judged_body scope result (parameter_types (moved_parameters h parameters)) (moved_tree (elsewhere h) body))) (sym (same_with_all h (with_block s) 0 parameters))
+      (subst (λ types. Follows told h stays original (judged_body (with_parameters (with_block s) 0 parameters) result types (moved_tree (elsewhere h) body))) (sym (same_types h parameters))
+      (body_follows (with_parameters (with_block s) 0 parameters) result (parameter_types parameters) body))
 
   abbrev function_defined : UnitState → Storage → PlainType → TypeKind → PlainTrees → PlainToken → PlainTree → Checked UnitState
   function_defined unit storage result kind parts name body = do
@@ -318,27 +319,27 @@ module _ (h : PlainToken → PlainToken) (apart : KeepsPlaces h) where
     items ← judged_body (with_parameters (with_block scope) 0 parameters) result (parameter_types parameters) body
     give (with_defined (with_scope unit scope) name.text (function_body items.slots items.core))
 
-  function_defined_moves :
+  function_defined_follows :
       (unit : UnitState) (storage : Storage) (result : PlainType) (kind : TypeKind) (parts : PlainTrees) (name : PlainToken) (body : PlainTree)
-      → Moves h stays (function_defined unit storage result kind parts name body) (function_defined unit storage result kind (moved_trees (elsewhere h) parts) (elsewhere h name) (moved_tree (elsewhere h) body))
-  function_defined_moves unit storage result kind parts name body =
-      same_then h stays (declares (file_entity name.text)) (declares (file_entity name.text)) _ _ (declares_moves h (file_entity name.text))
-      (λ bound. same_then h stays (unless_so (is_result unit.scope result) kind name) (unless_so (is_result unit.scope result) kind (elsewhere h name)) _ _ (unless_moves h (is_result unit.scope result) kind name (elsewhere h name) refl)
-      (λ fits. then_moves h (moved_parameters h) stays (new_function true unit.scope storage result parts name) (new_function true unit.scope storage result (moved_trees (elsewhere h) parts) (elsewhere h name)) (rest_of unit storage result name body) (rest_of unit storage result (elsewhere h name) (moved_tree (elsewhere h) body))
-      (new_moves h true unit.scope storage result parts name)
-      (λ parameters. same_then h stays (with_name unit.scope name (function (signature_of result parameters)) storage) (with_name unit.scope (elsewhere h name) (function (signature_of result (moved_parameters h parameters))) storage) _ _
-      (named_function_moves h unit.scope name result parameters storage)
-      (λ scope. same_then h stays (judged_body (with_parameters (with_block scope) 0 parameters) result (parameter_types parameters) body)
+      → Follows told h stays (function_defined unit storage result kind parts name body) (function_defined unit storage result kind (moved_trees (elsewhere h) parts) (elsewhere h name) (moved_tree (elsewhere h) body))
+  function_defined_follows unit storage result kind parts name body =
+      same_follows told h stays (declares (file_entity name.text)) (declares (file_entity name.text)) _ _ (kept told h (declares_moves h (file_entity name.text)))
+      (λ bound. same_follows told h stays (unless_so (is_result unit.scope result) kind name) (unless_so (is_result unit.scope result) kind (elsewhere h name)) _ _ (kept told h (unless_moves h (is_result unit.scope result) kind name (elsewhere h name) refl))
+      (λ fits. then_follows told h (moved_parameters h) stays (new_function true unit.scope storage result parts name) (new_function true unit.scope storage result (moved_trees (elsewhere h) parts) (elsewhere h name)) (rest_of unit storage result name body) (rest_of unit storage result (elsewhere h name) (moved_tree (elsewhere h) body))
+      (kept told h (new_moves h true unit.scope storage result parts name))
+      (λ parameters. same_follows told h stays (with_name unit.scope name (function (signature_of result parameters)) storage) (with_name unit.scope (elsewhere h name) (function (signature_of result (moved_parameters h parameters))) storage) _ _
+      (kept told h (named_function_moves h unit.scope name result parameters storage))
+      (λ scope. same_follows told h stays (judged_body (with_parameters (with_block scope) 0 parameters) result (parameter_types parameters) body)
       (judged_body (with_parameters (with_block scope) 0 (moved_parameters h parameters)) result (parameter_types (moved_parameters h parameters)) (moved_tree (elsewhere h) body)) _ _
-      (body_of scope result parameters body) (λ items. given h stays (with_defined (with_scope unit scope) name.text (function_body items.slots items.core)))))))
+      (body_of scope result parameters body) (λ items. given_follows told h stays (with_defined (with_scope unit scope) name.text (function_body items.slots items.core)))))))
 
-  pub function_moves_to :
+  pub function_follows_to :
       (unit : UnitState) (storage : Storage) (ty : PlainType) (parts : PlainTrees) (name : PlainToken) (body : PlainTree)
-      → Moves h stays (defined_function unit storage ty parts name body) (defined_function unit storage ty (moved_trees (elsewhere h) parts) (elsewhere h name) (moved_tree (elsewhere h) body))
-  function_moves_to unit storage ty parts name body =
+      → Follows told h stays (defined_function unit storage ty parts name body) (defined_function unit storage ty (moved_trees (elsewhere h) parts) (elsewhere h name) (moved_tree (elsewhere h) body))
+  function_follows_to unit storage ty parts name body =
       let original = defined_function unit storage ty parts name body in
       let moved = moved_trees (elsewhere h) parts in
       let kind_for : PlainType → TypeKind = λ result. result_kind unit.scope storage result (elsewhere h name) (parameters_of true unit.scope (behind_word t.OpenParenthesis moved) (elsewhere h name)) in
-      subst (λ result. Moves h stays original (function_defined unit storage result (kind_for result) moved (elsewhere h name) (moved_tree (elsewhere h) body))) (sym (same_starred h parts ty))
-      (subst (λ kind. Moves h stays original (function_defined unit storage (starred parts ty) kind moved (elsewhere h name) (moved_tree (elsewhere h) body))) (sym (same_result_kind h unit.scope storage (starred parts ty) parts name))
-      (function_defined_moves unit storage (starred parts ty) (result_kind unit.scope storage (starred parts ty) name (parameters_of true unit.scope (behind_word t.OpenParenthesis parts) name)) parts name body))
+      subst (λ result. Follows told h stays original (function_defined unit storage result (kind_for result) moved (elsewhere h name) (moved_tree (elsewhere h) body))) (sym (same_starred h parts ty))
+      (subst (λ kind. Follows told h stays original (function_defined unit storage (starred parts ty) kind moved (elsewhere h name) (moved_tree (elsewhere h) body))) (sym (same_result_kind h unit.scope storage (starred parts ty) parts name))
+      (function_defined_follows unit storage (starred parts ty) (result_kind unit.scope storage (starred parts ty) name (parameters_of true unit.scope (behind_word t.OpenParenthesis parts) name)) parts name body))

@@ -30,7 +30,11 @@ fn configuration_of(verdict: Verdict) -> Result<Option<Config>, NoMemory>
 
 /// The least configuration that the project admits and in which the formula is true, if there is one. Features that the formula names and the
 /// project doesn't have are off.
-pub fn least_where(alloc: Global, project: &Project, f: &Formula) -> Result<Option<Config>, NoMemory>
+pub fn least_where(
+    alloc: Global,
+    project: &Project,
+    f: &Formula,
+) -> Result<Option<Config>, NoMemory>
     requires few { length project.now.features.items ≤ 128 }
     requires below { VarsBelow (length project.now.features.items) (admitted project.now.model) }
     ensures { IfOk result (λ found. MatchOption found

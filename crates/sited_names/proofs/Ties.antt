@@ -1,65 +1,18 @@
 -- What tokens of files have to do with each other in units without the sites of their tokens.
-use Rattle.std.proofs.Common.{◌≡◌, ℕ, Bool, true, false, List, [], ◌∷◌, map, Option, Some, None, Contains, refl, sym, ap, subst, ◌∙◌}
-use Rattle.std.specs.Prelude.{if◌then◌else◌, slice_get, option_map, IsTrue}
+use Rattle.std.proofs.Common.{◌≡◌, List, map, Option, Some, None, Contains, refl, sym, ap, subst, ◌∙◌}
+use Rattle.std.specs.Prelude.{slice_get, option_map, IsTrue}
 use Rattle.std.proofs.lemmas.Option.{slice_get-map}
-use Rattle.core_meaning.specs.Checking.{Entity, local_entity, local_of_function, file_entity, struct_entity, member_entity, own_entity}
-use Rattle.bindings.specs.Judged.{Identified, same_entity, first_with}
-use Rattle.program_occurrences.specs.Occurrences.{UnitNames, names_of_units, Occurrence, or_itself, occurrence_among, occurrences_of, declares_itself, OccursIn, CommonName, member_by, common_name, common_name_by}
+use Rattle.program_occurrences.specs.Occurrences.{UnitNames, names_of_units, Occurrence, occurrences_of, declares_itself, OccursIn, CommonName, common_name}
 use Rattle.program_occurrences.specs.Classes.{PlainFileToken, file_token, declaring_token}
 use Rattle.program_occurrences.proofs.Entities.{source_of, made_from}
 use Rattle.tied_classes.specs.Told.{IsDeclaredBy, DeclaresName}
+use Rattle.moved_names.proofs.Occurrences.{occurrences-moved, name-moved}
+use Rattle.changed_forests.specs.Numbered.{unsited}
 use Rattle.sited_names.specs.Unsited.{unsited_identifier, unsited_names}
 use Rattle.sited_names.specs.Laws.{SitesDontName, AreTiedAlike, SitesDontTie}
 
--- ---- occurrences
-
-first_moved : (entity : Entity) (all : List Identified) → first_with entity (map unsited_identifier all) ≡ option_map unsited_identifier (first_with entity all)
-first_moved entity [] = refl
-first_moved entity (i ∷ rest) = by (same_entity i.entity entity) (first_moved entity rest)
-  where
-    by : (b : Bool) → first_with entity (map unsited_identifier rest) ≡ option_map unsited_identifier (first_with entity rest)
-        → (if b then Some (unsited_identifier i) else first_with entity (map unsited_identifier rest)) ≡ option_map unsited_identifier (if b then Some i else first_with entity rest)
-    by true behind = refl
-    by false behind = behind
-
 abbrev unsited_occurrence : Occurrence → Occurrence
 unsited_occurrence o = record { identifier = unsited_identifier o.identifier; declared_by = unsited_identifier o.declared_by }
-
-own_moved : (i : Identified) (first : Option Identified) → or_itself (unsited_identifier i) (option_map unsited_identifier first) ≡ unsited_identifier (or_itself i first)
-own_moved i None = refl
-own_moved i (Some first) = refl
-
-occurrence_moved : (all : List Identified) (i : Identified) → occurrence_among (map unsited_identifier all) (unsited_identifier i) ≡ unsited_occurrence (occurrence_among all i)
-occurrence_moved all i =
-    ap (λ by. record { identifier = unsited_identifier i; declared_by = by })
-    (ap (or_itself (unsited_identifier i)) (first_moved i.entity all) ∙ own_moved i (first_with i.entity all))
-
-all_moved : (all some : List Identified) → map (occurrence_among (map unsited_identifier all)) (map unsited_identifier some) ≡ map unsited_occurrence (map (occurrence_among all) some)
-all_moved all [] = refl
-all_moved all (i ∷ rest) =
-    ap (λ o. o ∷ map (occurrence_among (map unsited_identifier all)) (map unsited_identifier rest)) (occurrence_moved all i)
-    ∙ ap (λ os. unsited_occurrence (occurrence_among all i) ∷ os) (all_moved all rest)
-
-occurrences_moved : (unit : UnitNames) → occurrences_of (unsited_names unit) ≡ map unsited_occurrence (occurrences_of unit)
-occurrences_moved unit = all_moved unit.identified unit.identified
-
--- ---- names in common
-
-member_moved : (first : Option Identified) (text : List ℕ) → member_by (option_map unsited_identifier first) text ≡ member_by first text
-member_moved None text = refl
-member_moved (Some first) text = refl
-
-name_by_moved : (unit : UnitNames) (text : List ℕ) (entity : Entity) → common_name_by (unsited_names unit) text entity ≡ common_name_by unit text entity
-name_by_moved unit text (file_entity name) = refl
-name_by_moved unit text (struct_entity number) = refl
-name_by_moved unit text (member_entity struct number) =
-    ap (λ first. member_by first text) (first_moved (struct_entity struct) unit.identified) ∙ member_moved (first_with (struct_entity struct) unit.identified) text
-name_by_moved unit text (local_entity number) = refl
-name_by_moved unit text (local_of_function function number) = refl
-name_by_moved unit text own_entity = refl
-
-name_moved : (unit : UnitNames) (i : Identified) → common_name (unsited_names unit) (unsited_identifier i) ≡ common_name unit i
-name_moved unit i = name_by_moved unit i.token.text i.entity
 
 -- ---- units with sites and without
 
@@ -76,7 +29,7 @@ with_sites : (units : List UnitNames) (without : OccursIn (map unsited_names uni
 with_sites units without =
     let u = some_unit (slice_get units without.place) without.unit (sym (slice_get-map unsited_names units without.place) ∙ without.is_unit) in
     let among : Contains (map unsited_occurrence (occurrences_of u.0)) without.occurrence =
-    subst (λ (os : List Occurrence). Contains os without.occurrence) (ap occurrences_of u.2 ∙ occurrences_moved u.0) without.among in
+    subst (λ (os : List Occurrence). Contains os without.occurrence) (ap occurrences_of u.2 ∙ occurrences-moved unsited u.0) without.among in
     let s = source_of unsited_occurrence (occurrences_of u.0) without.occurrence among in
     record {
       found = record { place = without.place; unit = u.0; is_unit = u.1; occurrence = s.source; among = s.among };
@@ -90,7 +43,7 @@ without_sites units found = record {
   unit = unsited_names found.unit;
   is_unit = slice_get-map unsited_names units found.place ∙ ap (option_map unsited_names) found.is_unit;
   occurrence = unsited_occurrence found.occurrence;
-  among = subst (λ (os : List Occurrence). Contains os (unsited_occurrence found.occurrence)) (sym (occurrences_moved found.unit))
+  among = subst (λ (os : List Occurrence). Contains os (unsited_occurrence found.occurrence)) (sym (occurrences-moved unsited found.unit))
       (made_from unsited_occurrence (occurrences_of found.unit) found.occurrence found.among);
 }
 
@@ -113,7 +66,7 @@ named_with units token name d =
       found = s.found;
       itself = subst (λ (o : Occurrence). IsTrue (declares_itself o)) s.occurrence_is d.itself;
       token_is = sym (ap file_token s.occurrence_is) ∙ d.token_is;
-      name_is = sym (name_moved s.found.unit s.found.occurrence.identifier)
+      name_is = sym (name-moved unsited s.found.unit s.found.occurrence.identifier)
           ∙ (ap (λ (unit : UnitNames). common_name unit (unsited_identifier s.found.occurrence.identifier)) (sym s.unit_is)
           ∙ (ap (λ (o : Occurrence). common_name d.found.unit o.identifier) (sym s.occurrence_is) ∙ d.name_is));
     }
@@ -123,7 +76,7 @@ named_without units token name d = record {
   found = without_sites units d.found;
   itself = d.itself;
   token_is = d.token_is;
-  name_is = name_moved d.found.unit d.found.occurrence.identifier ∙ d.name_is;
+  name_is = name-moved unsited d.found.unit d.found.occurrence.identifier ∙ d.name_is;
 }
 
 -- ---- two lists of units that are the same without sites
