@@ -92,10 +92,10 @@ module _ (lines_are_one : LinesAreOne) (files : List PlainFile) where
           let end : a.span.end ≡ b.span.end = ap (λ (x : PlainSpan). x.end) i in absurd (grind (arith, nat_tests))
       by (after l) s t = absurd (grind (arith, nat_tests))
 
-before-trans : (a b c : PlainFileToken) → IsTrue (stands_before a b) → IsTrue (stands_before b c) → IsTrue (stands_before a c)
+pub before-trans : (a b c : PlainFileToken) → IsTrue (stands_before a b) → IsTrue (stands_before b c) → IsTrue (stands_before a c)
 before-trans a b c first second = grind (arith, nat_tests)
 
-before-all : (token : PlainFileToken) (tokens : List PlainFileToken) → AreInOrder (token ∷ tokens) → AllByRecursion (λ other. IsTrue (stands_before token other)) tokens
+pub before-all : (token : PlainFileToken) (tokens : List PlainFileToken) → AreInOrder (token ∷ tokens) → AllByRecursion (λ other. IsTrue (stands_before token other)) tokens
 before-all token [] ordered = tt
 before-all token (second ∷ tokens) ordered = (ordered.0, later tokens (before-all second tokens ordered.1))
   where
@@ -103,7 +103,7 @@ before-all token (second ∷ tokens) ordered = (ordered.0, later tokens (before-
     later [] all = tt
     later (other ∷ others) all = (before-trans token second other ordered.0 all.0, later others all.1)
 
-order-tail : (token : PlainFileToken) (tokens : List PlainFileToken) → AreInOrder (token ∷ tokens) → AreInOrder tokens
+pub order-tail : (token : PlainFileToken) (tokens : List PlainFileToken) → AreInOrder (token ∷ tokens) → AreInOrder tokens
 order-tail token [] ordered = tt
 order-tail token (second ∷ tokens) ordered = ordered.1
 

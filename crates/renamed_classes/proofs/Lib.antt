@@ -1,5 +1,5 @@
 mod Stable
-mod Occurring
+pub mod Occurring
 pub mod Given
 mod TextLines
 mod OneName

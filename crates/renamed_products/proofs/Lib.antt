@@ -1,5 +1,5 @@
 mod Alike
 mod Over
-mod ReadTokens
+pub mod ReadTokens
 mod Places
 mod Products

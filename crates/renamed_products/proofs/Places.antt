@@ -1,5 +1,5 @@
 -- Tokens that units give stand apart where they did, behind a renaming as before.
-use Rattle.std.proofs.Common.{◌≡◌, ℕ, ◌<◌, ◌≤◌, Bool, true, false, ◌&&◌, List, [], ◌∷◌, length, take, drop, All, refl, ap, ap₂, sym, ◌∙◌, subst, inl, inr, arith}
+use Rattle.std.proofs.Common.{◌≡◌, ℕ, ◌<◌, ◌≤◌, Bool, true, false, ◌&&◌, List, [], ◌∷◌, length, All, refl, ap, ap₂, sym, ◌∙◌, subst, inl, inr, arith}
 use Rattle.std.specs.Prelude.{◌==◌, ◌⊎◌, IsTrue}
 use Rattle.std.specs.List.{AllByRecursion}
 use Rattle.std.proofs.lemmas.Bool.{cases_lt}
@@ -9,8 +9,7 @@ use Rattle.c_names.specs.Names.{is_new_name}
 use Rattle.text_edits.specs.Span.{PlainSpan}
 use Rattle.c_text.specs.Token.{PlainToken}
 use Rattle.c_text.specs.Lines.{PlainLine, AreItsLines}
-use Rattle.c_text.specs.Trees.{lines_in}
-use Rattle.c_text.specs.Preprocessing.{Source, project_file, stdio, stdlib, Sources, Syntax, IsSyntaxOf, file_at, built_in_file, built_in_text, feature_token, most_nested, at_start, gives, outcome_of, preprocessed}
+use Rattle.c_text.specs.Preprocessing.{Source, Sources, Syntax, IsSyntaxOf, file_at, built_in_file, built_in_text, feature_token, gives, outcome_of, preprocessed}
 use Rattle.core_meaning.specs.Constancy.{same_span, same_place}
 use Rattle.active_tokens.specs.Reads.{Read}
 use Rattle.active_tokens.specs.Active.{AreMisplaced, reads_of_unit, IsReadAt, HasActiveOrigin, TokensComeFromActive}
@@ -20,9 +19,8 @@ use Rattle.renamed_units.specs.Laws.{IsUnitOf}
 use Rattle.renamed_units.proofs.Tokens.{In, in-of, each-of, entry, entries, entry-of, entries-rise, own-in}
 use Rattle.renamed_units.proofs.Names.{by-cases}
 use Rattle.renamed_units.proofs.Once.{contains-of}
-use Rattle.renamed_units.proofs.Files.{names-at, each-take, each-drop}
-use Rattle.renamed_units.proofs.Sources.{IsThere}
-use Rattle.renamed_products.proofs.ReadTokens.{Good, GoodLine, GoodLines, GoodRead, GoodReads, part-lines, source-good}
+use Rattle.renamed_units.proofs.Files.{names-at}
+use Rattle.renamed_products.proofs.ReadTokens.{Good, GoodLine, GoodLines, GoodRead, GoodReads, unit-good}
 
 module _ (r : Renaming) where
   abbrev pub IsOutside : ℕ → ℕ → Type 0
@@ -112,20 +110,11 @@ module _ (r : Renaming) where
               let own = own-in built_in_file (length built_in_text) 0 (entries are.built_in_lines) (entry line.directive token) (entries-rise built_in_file built_in_text are.built_in_lines are.are_built_in) (entry-of line token are.built_in_lines i j) in
               quiet-file token.origin.file token.origin.span (ap r.spans own.own.file_is ∙ fits.elsewhere built_in_file few)
 
-      files-stand : (source : Source) → IsThere s source → GoodLines Stands (lines_in (x.part_of source)) × Good Stands (misplaced source)
-      files-stand (project_file number) there =
-          let both = part-lines Stands (are.lines number) (x.part_of (project_file number)) (are.are_files number there).is_read
-          (lines-stand number (file_at s number).bytes (are.lines number) fits.good (are.are_lines number there) (names-at r s fits x are number there)) in
-          (both.0, subst (Good Stands) (sym (told.in_files number there)) both.1)
-      files-stand stdio there =
-          let both = part-lines Stands (take 5 are.built_in_lines) (x.part_of stdio) are.stdio_is.is_read (each-take (GoodLine Stands) 5 are.built_in_lines built-in-stand) in
-          (both.0, subst (Good Stands) (sym told.in_stdio) both.1)
-      files-stand stdlib there =
-          let both = part-lines Stands (drop 5 are.built_in_lines) (x.part_of stdlib) are.stdlib_is.is_read (each-drop (GoodLine Stands) 5 are.built_in_lines built-in-stand) in
-          (both.0, subst (Good Stands) (sym told.in_stdlib) both.1)
-
       reads-stand : (number : ℕ) → IsUnitOf s number → GoodReads Stands (reads_of_unit s x misplaced number)
-      reads-stand number unit = source-good Stands s x misplaced unit.headers files-stand most_nested (project_file number) unit.unit (at_start s)
+      reads-stand number unit =
+          unit-good Stands s x are misplaced told unit.headers
+          (λ other there. lines-stand other (file_at s other).bytes (are.lines other) fits.good (are.are_lines other there) (names-at r s fits x are other there))
+          built-in-stand number unit.unit
 
       good-in : {X : Type 0} (P : X → Type 0) (y : X) (xs : List X) → AllByRecursion P xs → In y xs → P y
       good-in P y [] a i = absurd i

@@ -1,15 +1,16 @@
 -- What a unit reads are tokens of the lines of its files.
-use Rattle.std.proofs.Common.{◌≡◌, ℕ, zero, suc, ◌≤◌, Bool, true, false, List, [], ◌∷◌, ◌++◌, length, drop, Option, Some, None, refl, sym, subst}
+use Rattle.std.proofs.Common.{◌≡◌, ℕ, zero, suc, ◌<◌, ◌≤◌, Bool, true, false, List, [], ◌∷◌, ◌++◌, length, take, drop, Option, Some, None, refl, sym, subst}
 use Rattle.std.specs.Prelude.{⊤}
 use Rattle.std.specs.List.{AllByRecursion}
 use Rattle.c_text.specs.Token.{PlainToken}
 use Rattle.c_text.specs.Lines.{PlainLine}
 use Rattle.c_text.specs.Directives.{PlainDirective, if_line, ifdef_line, ifndef_line, elif_line, else_line, endif_line, define_line, bad_define, undef_line, include_line, error_line, null_line, malformed, directive_of}
 use Rattle.c_text.specs.Trees.{Part, finish, breaks, text_lines, directive_line, group, broken_group, Branches, no_branch, branch, lines_in, lines_of_branches, IsRead, whole_file, open_at_end, broken_at}
-use Rattle.c_text.specs.Preprocessing.{Refusal, refused_token, refused_ignored, Reading, Flow, on, refused, read_run, tokens_of_lines, Condition, holds, fails, condition_at, Source, source_of, Setting, read_directive, branched, read_part, read_branches, Sources, Syntax, setting, source_name, read_source}
+use Rattle.c_text.specs.Preprocessing.{Refusal, refused_token, refused_ignored, Reading, Flow, on, refused, read_run, tokens_of_lines, Condition, holds, fails, condition_at, Source, project_file, stdio, stdlib, source_of, Setting, read_directive, branched, read_part, read_branches, Sources, Syntax, IsSyntaxOf, setting, source_name, read_source, most_nested, at_start}
 use Rattle.active_tokens.specs.Reads.{Read, read_of, reads_behind, unless_refused, Following, included_reads, reads_of_inclusion, reads_of_directive, reads_of_passed, by_truth, reads_of_branch, reads_of_part, reads_of_branches}
-use Rattle.active_tokens.specs.Active.{following, reads_of_source, misplaced_in}
+use Rattle.active_tokens.specs.Active.{AreMisplaced, following, reads_of_source, reads_of_unit, misplaced_in}
 use Rattle.active_tokens.proofs.Everywhere.{each-append, each-left, each-right}
+use Rattle.renamed_units.proofs.Files.{each-take, each-drop}
 use Rattle.renamed_units.proofs.Sources.{IsThere, found-there}
 
 module _ (P : PlainToken → Type 0) where
@@ -140,3 +141,19 @@ module _ (P : PlainToken → Type 0) where
     source-good (suc n) source there r =
         part-good (IsThere s) (setting s x source (Some (read_source s x n))) (following (misplaced source) (Some (reads_of_source s x misplaced n))) (files source there).1 (source-good n)
         (λ names found e. found-there s enough (source_name s source) names found e) r (x.part_of source) (files source there).0
+
+  -- Where the lines of each file are good, so is what a unit reads.
+  module _ (s : Sources) (x : Syntax) (are : IsSyntaxOf s x) (misplaced : Source → List PlainToken) (told : AreMisplaced are misplaced) (enough : length s.headers ≤ length s.files) (in_files : (number : ℕ) → number < length s.files → GoodLines (are.lines number)) (built_in : GoodLines are.built_in_lines) where
+    files-good : (source : Source) → IsThere s source → GoodLines (lines_in (x.part_of source)) × Good (misplaced source)
+    files-good (project_file number) there =
+        let both = part-lines (are.lines number) (x.part_of (project_file number)) (are.are_files number there).is_read (in_files number there) in
+        (both.0, subst Good (sym (told.in_files number there)) both.1)
+    files-good stdio there =
+        let both = part-lines (take 5 are.built_in_lines) (x.part_of stdio) are.stdio_is.is_read (each-take GoodLine 5 are.built_in_lines built_in) in
+        (both.0, subst Good (sym told.in_stdio) both.1)
+    files-good stdlib there =
+        let both = part-lines (drop 5 are.built_in_lines) (x.part_of stdlib) are.stdlib_is.is_read (each-drop GoodLine 5 are.built_in_lines built_in) in
+        (both.0, subst Good (sym told.in_stdlib) both.1)
+
+    pub unit-good : (number : ℕ) → number < length s.files → GoodReads (reads_of_unit s x misplaced number)
+    unit-good number there = source-good s x misplaced enough files-good most_nested (project_file number) there (at_start s)

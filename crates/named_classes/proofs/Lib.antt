@@ -1,0 +1,4 @@
+mod Ordered
+mod One
+mod Texts
+mod Named
