@@ -1,0 +1,4 @@
+pub mod Projects
+pub mod Classes
+pub mod Preconditions
+pub mod Named
