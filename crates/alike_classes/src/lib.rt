@@ -1,6 +1,6 @@
-//! Reference classes of projects that are alike. Two readings of one project file may write conditions differently; they say projects that are
-//! alike, and here is what these have in common: their classes, what stands in the way of renaming one, and the class to which a byte
-//! leads. There are the definitions (in `specs/`) and the laws, each the contract of a function without a body.
+//! Reference classes of projects that are alike: two readings of one project file may differ in how conditions are written, and in no more. What
+//! such projects have in common are their classes, what stands in the way of renaming one, and the class to which a byte leads. Here are
+//! the laws (in `specs/`), each the contract of a function without a body.
 #![tactic(auto)]
 
 ghost use Rattle.alike_classes.specs.Laws.{ClassesAreAlike, PreconditionsAreAlike, NamedClassesAreAlike};
