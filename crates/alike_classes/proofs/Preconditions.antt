@@ -1,5 +1,5 @@
 -- What stands in the way of renaming a class of a project does so in each that is alike.
-use Rattle.std.proofs.Common.{ℕ, Bool, List, inl, inr}
+use Rattle.std.proofs.Common.{◌≡◌, ℕ, Bool, List, inl, inr}
 use Rattle.std.specs.Prelude.{Contains}
 use Rattle.text_edits.specs.Files.{PlainFile}
 use Rattle.cond_formula.specs.Features.{has}
@@ -72,6 +72,8 @@ preconditions-alike a b files alike =
     record {
       found = λ place c. (found-there a b alike files place c, found-there b a back files place c);
       touched = λ place c. (touched-there a b alike files place c, touched-there b a back files place c);
+      occurrences = λ place c occurrence.
+          (occurrence-there a b alike files place c (λ o. o ≡ occurrence), occurrence-there b a back files place c (λ o. o ≡ occurrence));
       read_as_macro = λ place c name. (macro-there a b alike files place c name, macro-there b a back files place c name);
       captured = λ r c. (captured-there a b alike files r c, captured-there b a back files r c);
       in_the_way = λ place r precondition c. (in-the-way a b alike files place c r precondition, in-the-way b a back files place c r precondition);

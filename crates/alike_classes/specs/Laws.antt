@@ -5,10 +5,10 @@ use Rattle.text_edits.specs.Files.{PlainFile}
 use Rattle.project_file.specs.Projects.{PlainProject}
 use Rattle.project_file.specs.Laws.{Alike}
 use Rattle.renamings.specs.Renamings.{Renaming}
-use Rattle.program_occurrences.specs.Occurrences.{UnitNames}
+use Rattle.program_occurrences.specs.Occurrences.{UnitNames, Occurrence}
 use Rattle.program_occurrences.specs.Classes.{PlainFileToken}
 use Rattle.reference_classes.specs.Products.{Product, names_in, AreOfProduct, InClass}
-use Rattle.reference_classes.specs.Preconditions.{IsFound, IsTouched, IsReadAsMacro, IsCaptured, Precondition, StandsInTheWay, Breaks, BreaksNamed}
+use Rattle.reference_classes.specs.Preconditions.{IsFound, IsTouched, SomeOccurrence, IsReadAsMacro, IsCaptured, Precondition, StandsInTheWay, Breaks, BreaksNamed}
 use Rattle.reference_classes.specs.Renamed.{RenamesClass}
 use Rattle.renamed_sources.specs.Projects.{HasItsFiles}
 use Rattle.class_touches.specs.Laws.{IsListOf}
@@ -30,10 +30,14 @@ module _ (a b : PlainProject) (files : List PlainFile) where
     pub renamings : (place : PlainFileToken) (new : List ℕ) (r : Renaming) → RenamesClass a files place new r ↔ RenamesClass b files place new r
     pub files_are : HasItsFiles a files ↔ HasItsFiles b files
 
-  -- Something is found at a place in the same configurations, which touch the same classes, and of which the same ones break each precondition.
+  -- In the same configurations something is found at a place, a class is touched, has an occurrence and is read as a macro, and each precondition
+  -- is broken.
   pub record HaveSamePreconditions : Type 0 where
     pub found : (place : PlainFileToken) (c : List Bool) → IsFound a files place c ↔ IsFound b files place c
     pub touched : (place : PlainFileToken) (c : List Bool) → IsTouched a files place c ↔ IsTouched b files place c
+    pub occurrences :
+        (place : PlainFileToken) (c : List Bool) (occurrence : Occurrence)
+        → SomeOccurrence a files place c (λ o. o ≡ occurrence) ↔ SomeOccurrence b files place c (λ o. o ≡ occurrence)
     pub read_as_macro :
         (place : PlainFileToken) (c : List Bool) (name : List ℕ)
         → IsReadAsMacro a files place c name ↔ IsReadAsMacro b files place c name
