@@ -1,5 +1,5 @@
 -- Words fit two readings of one project alike.
-use Rattle.std.proofs.Common.{◌≡◌, ℕ, false, List, All, Some, position, subst}
+use Rattle.std.proofs.Common.{◌≡◌, ℕ, false, All, Some, position, subst}
 use Rattle.std.specs.List.{list_any}
 use Rattle.std.specs.Str.{bytes_eq}
 use Rattle.folder_names.specs.Folders.{IsApart}

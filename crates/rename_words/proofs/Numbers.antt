@@ -1,10 +1,8 @@
 -- The first place at which a test passes, in a list that is put together of two.
-use Rattle.std.proofs.Common.{◌≡◌, ℕ, ◌+◌, Bool, true, false, List, [], ◌∷◌, ◌++◌, length, Option, Some, None, is_some, map, refl, sym, ◌∙◌, ap, arith}
+use Rattle.std.proofs.Common.{◌≡◌, ℕ, ◌+◌, Bool, true, false, List, [], ◌∷◌, ◌++◌, length, Option, Some, None, is_some, position, refl, sym, ◌∙◌, ap, arith}
+use Rattle.std.proofs.lemmas.Iterator.Adapters.{position_from-zero}
 use Rattle.std.specs.List.{list_any, position_from}
 use Rattle.std.specs.Option.{option_map}
-use Rattle.project_file.specs.declared.projects.Unit.{Unit as SourceUnit}
-use Rattle.project_file.specs.View.{unit_view}
-use Rattle.rename_words.specs.Steps.{file_of}
 
 module _ {X : Type 0} (test : X → Bool) where
   pub any_has_position : (n : ℕ) (xs : List X) → is_some (position_from test n xs) ≡ list_any test xs
@@ -44,6 +42,14 @@ module _ {X : Type 0} (test : X → Bool) where
           let e : k + n + 1 ≡ k + (n + 1) = omega arith in
           rw t (ap (λ m. position_from test m xs) e ∙ rest)
 
-pub files_of_units : (units : List SourceUnit) → map (λ u. u.file) (map unit_view units) ≡ map file_of units
-files_of_units [] = refl
-files_of_units (u ∷ units) = ap (λ files. file_of u ∷ files) (files_of_units units)
+-- the place in both, by the places in each
+module _ {X : Type 0} (test : X → Bool) (xs ys : List X) where
+  pub position_in_first : (i : ℕ) → Some i ≡ position_from test 0 xs → Some i ≡ position test (xs ++ ys)
+  position_in_first i h = sym (found_first test 0 xs ys i (sym h)) ∙ sym (position_from-zero test (xs ++ ys))
+
+  pub position_in_second : (found : Option ℕ) → None ≡ position_from test 0 xs → found ≡ position_from test 0 ys → option_map (λ i. length xs + i) found ≡ position test (xs ++ ys)
+  position_in_second found none h =
+      let k : length xs + 0 ≡ length xs = omega arith in
+      let z : length xs ≡ 0 + length xs = omega arith in
+      ap (option_map (λ i. length xs + i)) h ∙ (sym (counted_from test (length xs) 0 ys) ∙ (ap (λ m. position_from test m ys) k
+      ∙ (ap (λ m. position_from test m ys) z ∙ (sym (found_later test 0 xs ys (sym none)) ∙ sym (position_from-zero test (xs ++ ys))))))

@@ -1,14 +1,15 @@
 -- A word names one place at most.
-use Rattle.std.proofs.Common.{◌≡◌, ℕ, ◌<◌, ◌≤◌, ◌^◌, Bool, true, false, not, ◌&&◌, ◌==◌, All, List, [], ◌∷◌, ◌++◌, length, refl, sym, ap, subst, ◌∙◌, arith, codes, decimal, eqb-true}
+use Rattle.std.proofs.Common.{◌≡◌, ◌≢◌, ℕ, ◌<◌, Bool, true, false, not, ◌&&◌, ◌==◌, All, List, [], ◌∷◌, ◌++◌, length, refl, sym, ap, subst, ◌∙◌, arith, codes, decimal, get_or, eqb-true, ne_eqb}
 use Rattle.std.proofs.lemmas.Bool.{and_parts, and_from}
 use Rattle.std.proofs.lemmas.Fmt.{decimal_injective}
-use Rattle.std.proofs.lemmas.List.{append_cancel_left}
-use Rattle.std.proofs.lemmas.List.Elements.{All-nil, All-cons}
+use Rattle.std.proofs.lemmas.List.{append_cancel_left, length-append, get_or_at}
+use Rattle.std.proofs.lemmas.List.Elements.{All-nil, All-cons, All-from_get_or}
 use Rattle.std.proofs.lemmas.List.Splits.{slice_split_at, slice_split-cons_yes, slice_split-cons_no}
 use Rattle.std.specs.List.{list_all, slice_split, onto_first}
 use Rattle.std.specs.Str.{bytes_eq}
 use Rattle.c_names.specs.FileNames.{is_file_byte, is_empty, is_component, is_file_name}
-use Rattle.rename_words.specs.Words.{RenameQuery, IsPlace, Asks}
+use Rattle.decimal_numbers.specs.Numbers.{IsNumber}
+use Rattle.rename_words.specs.Words.{RenameQuery, largest_offset, IsPlace, Asks}
 
 -- not `@`
 abbrev IsOther : ℕ → Type 0
@@ -97,3 +98,24 @@ one_renaming further q p a b =
     let with_new : List ℕ → RenameQuery = λ x. record { project = p.project; file = p.file; offset = p.offset; new = x; out = q.out } in
     let with_out : List ℕ → RenameQuery = λ x. record { project = p.project; file = p.file; offset = p.offset; new = p.new; out = x } in
     ap with_project project ∙ (ap with_file k.0 ∙ (ap with_offset k.1 ∙ (ap with_new new ∙ ap with_out out)))
+
+all_others : (w : List ℕ) → ((i : ℕ) → i < length w → get_or w i 0 ≢ 64) → All IsOther w
+all_others w h = All-from_get_or IsOther w 0 (λ i less. ne_eqb (get_or w i 0) 64 (h i less))
+
+-- a word without `@`
+pub unparted_is_no_place : (word : List ℕ) → ((i : ℕ) → i < length word → get_or word i 0 ≢ 64) → (file : List ℕ) (offset : ℕ) → IsPlace word file offset → ⊥
+unparted_is_no_place word none file offset h =
+    let long : length file < length word = omega (arith, ap length h.word_is, length-append file (64 ∷ decimal offset)) in
+    none (length file) long (ap (λ w. get_or w (length file) 0) h.word_is ∙ get_or_at file 64 (decimal offset) 0 (length file) refl)
+
+-- a word whose first part is no name of a file
+pub unnamed_is_no_place : (word front back : List ℕ) → word ≡ front ++ 64 ∷ back → ((i : ℕ) → i < length front → get_or front i 0 ≢ 64) → is_file_name front ≡ false → (file : List ℕ) (offset : ℕ) → IsPlace word file offset → ⊥
+unnamed_is_no_place word front back is none bad file offset h =
+    let k = no_place word front back file offset is (all_others front none) h in
+    let good : is_file_name front ≡ true = ap is_file_name (sym k.0) ∙ h.is_name in
+    let f : true ≡ false = sym good ∙ bad in absurd cc
+
+-- a word whose second part is no number
+pub unnumbered_is_no_place : (word front back : List ℕ) → word ≡ front ++ 64 ∷ back → ((i : ℕ) → i < length front → get_or front i 0 ≢ 64) → ((n : ℕ) → IsNumber largest_offset back n → ⊥) → (file : List ℕ) (offset : ℕ) → IsPlace word file offset → ⊥
+unnumbered_is_no_place word front back is none bad file offset h =
+    bad offset ((no_place word front back file offset is (all_others front none) h).1, h.bounded)

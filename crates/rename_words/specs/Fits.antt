@@ -1,5 +1,5 @@
 -- The words of `rename` held against the project that they name.
-use Rattle.std.specs.Prelude.{◌≡◌, ℕ, false, List, All, Some, position}
+use Rattle.std.specs.Prelude.{◌≡◌, ℕ, false, All, Some, position}
 use Rattle.std.specs.List.{list_any}
 use Rattle.std.specs.Str.{bytes_eq}
 use Rattle.folder_names.specs.Folders.{IsApart}

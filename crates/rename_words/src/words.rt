@@ -85,10 +85,7 @@ fn if_good(query: RenameWords<'_>) -> Option<RenameWords<'_>>
 }
 
 /// The renaming that the further words ask for, if they ask for one.
-pub fn asked_rename(
-    alloc: Global,
-    words: &[String],
-) -> Result<Option<RenameWords<'_>>, AllocError>
+pub fn asked_rename(alloc: Global, words: &[String]) -> Result<Option<RenameWords<'_>>, AllocError>
     ensures { IfOk result (λ query. MatchOption query
         ((q : spec.RenameQuery) → spec.Asks (map string_bytes words.now) q → ⊥)
         (λ query. spec.Asks (map string_bytes words.now) (query_of query))) }

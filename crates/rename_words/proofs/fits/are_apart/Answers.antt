@@ -1,4 +1,4 @@
-use Rattle.std.proofs.Common.{◌≡◌, ℕ, List, IsTrue, refl, string_bytes}
+use Rattle.std.proofs.Common.{ℕ, List, refl, string_bytes}
 use Rattle.folder_names.specs.Folders.{IsApart}
 use Rattle.rename_words.proofs.Apart.{all_so_far, all_at, all_taken, apart_by, none_apart_by}
 use Rattle.rename_words.proofs.fits.are_apart.Goals as goal

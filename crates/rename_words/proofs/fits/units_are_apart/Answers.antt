@@ -1,4 +1,4 @@
-use Rattle.std.proofs.Common.{◌≡◌, ℕ, List, IsTrue, refl}
+use Rattle.std.proofs.Common.{ℕ, List, refl}
 use Rattle.folder_names.specs.Folders.{IsApart}
 use Rattle.rename_words.specs.Steps.{file_of}
 use Rattle.rename_words.proofs.Apart.{all_so_far, all_at, all_taken, apart_by, none_apart_by}
