@@ -3,6 +3,8 @@
 
 mod fits;
 mod laws;
+#[cfg(test)]
+mod tests;
 mod words;
 
 pub use laws::{asks_are_one, fits_are_alike, fits_are_one};
