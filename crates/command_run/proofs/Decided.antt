@@ -1,5 +1,5 @@
 -- One run, and one thing that is said of it.
-use Rattle.std.proofs.Common.{◌≡◌, inl, inr, ℕ, Bool, List, [], ◌∷◌, refl, sym, ◌∙◌, ap, subst, arith}
+use Rattle.std.proofs.Common.{◌≡◌, inl, inr, ℕ, Bool, List, refl, sym, ◌∙◌, ap, subst, arith}
 use Rattle.text_edits.specs.Files.{PlainFile}
 use Rattle.cond_formula.specs.Conditions.{value}
 use Rattle.core_meaning.specs.Program.{PlainProgram}
@@ -12,7 +12,7 @@ use Rattle.project_program.specs.declared.programs.Stage.{Stage}
 use Rattle.project_program.specs.Programs.{IsProgram, IsRefusedAt}
 use Rattle.project_program.specs.Laws.{ProgramsAreOne}
 use Rattle.project_program.proofs.AlikeProjects.{program_alike, refused_alike}
-use Rattle.command_promises.specs.Courses.{Saying, Deed, says, Course, Agree, IsDecided}
+use Rattle.command_promises.specs.Courses.{Saying, says, Agree}
 use Rattle.command_promises.specs.Sayings.{tells, usage}
 use Rattle.command_promises.specs.Commands.{IsFit, IsDecidedCommand}
 use Rattle.command_promises.proofs.Leading.{one_saying}

@@ -1,35 +1,8 @@
 -- The further words of `run` name one run at most.
-use Rattle.std.proofs.Common.{◌≡◌, ℕ, ◌≤◌, ◌<◌, ◌^◌, List, [], ◌∷◌, Option, Some, None, Result, Ok, Err, MatchOption, refl, sym, ◌∙◌, ap, subst, arith}
-use Rattle.std.proofs.lemmas.Fmt.{parse-decimal, decimal_injective}
-use Rattle.std.specs.Str.Parse.{ParsesUnsigned}
+use Rattle.std.proofs.Common.{◌≡◌, ℕ, List, [], ◌∷◌, Option, refl, sym, ◌∙◌, ap, subst, arith}
+use Rattle.decimal_numbers.proofs.OneNumber.{one_number}
 use Rattle.command_projects.specs.Names.{names_in}
-use Rattle.command_run.specs.Words.{RunQuery, IsBound, IsGood, input_in, Asks}
-
--- ---- the bound
-
-small : (n : ℕ) → n ≤ 1000000 → n < 2 ^ 32
-small n h = omega (arith, h)
-
-small_enough : (n : ℕ) → n ≤ 1000000 → n < 2 ^ 64
-small_enough n h = omega (arith, h)
-
-one_bound : (text : List ℕ) (m n : ℕ) → IsBound text m → IsBound text n → m ≡ n
-one_bound text m n h k = decimal_injective m n (small_enough m h.1) (small_enough n k.1) (sym h.0 ∙ k.0)
-
-parsed : {E : Type 0} (text : List ℕ) (r : Result ℕ E) (n : ℕ) → ParsesUnsigned 32 10 text r → IsBound text n → r ≡ Ok n
-parsed text r n h b = parse-decimal 32 n text r (small n b.1) (small_enough n b.1) b.0 h
-
-pub no_bound : {E : Type 0} (text : List ℕ) (e : E) → ParsesUnsigned 32 10 text (Err e) → (n : ℕ) → IsBound text n → ⊥
-no_bound {E} text e h n b = let k : ◌≡◌ {A = Result ℕ E} (Err e) (Ok n) = parsed text (Err e) n h b in absurd cc
-
-pub bound_or_none : {E : Type 0} (text : List ℕ) (r : Result ℕ E) (number : ℕ) (bound : Option ℕ) → r ≡ Ok number → ParsesUnsigned 32 10 text r → MatchOption bound (IsBound text number → ⊥) (IsBound text) → MatchOption bound ((n : ℕ) → IsBound text n → ⊥) (IsBound text)
-bound_or_none {E} text r number None is h k = λ n b.
-    let e : ◌≡◌ {A = Result ℕ E} (Ok number) (Ok n) = sym is ∙ parsed text r n h b in
-    let same : n ≡ number = cc in
-    k (subst (IsBound text) same b)
-bound_or_none text r number (Some n) is h k = k
-
--- ---- the run
+use Rattle.command_run.specs.Words.{RunQuery, largest_bound, IsBound, IsGood, input_in, Asks}
 
 -- a run of what the words say
 record IsRunOf (project names bound input : List ℕ) (q : RunQuery) : Type 0 where
@@ -42,7 +15,7 @@ same_run : (project names bound input : List ℕ) (p q : RunQuery) → IsRunOf p
 same_run project names bound input p q h k =
     let project : p.project ≡ q.project = h.project_is ∙ sym k.project_is in
     let names : p.names ≡ q.names = h.names_are ∙ sym k.names_are in
-    let bound : p.bound ≡ q.bound = one_bound bound p.bound q.bound h.bound_is k.bound_is in
+    let bound : p.bound ≡ q.bound = one_number largest_bound bound p.bound q.bound (omega arith) h.bound_is k.bound_is in
     let input : p.input ≡ q.input = h.input_is ∙ sym k.input_is in
     let e : List ℕ → RunQuery = λ x. record { project = x; names = p.names; bound = p.bound; input = p.input } in
     let f : List (List ℕ) → RunQuery = λ x. record { project = q.project; names = x; bound = p.bound; input = p.input } in

@@ -1,10 +1,11 @@
 -- The words of `run PROJECT NAMES BOUND INPUT`.
-use Rattle.std.specs.Prelude.{◌≡◌, ℕ, ◌≤◌, Bool, true, false, List, [], ◌∷◌, codes, decimal, Option, Some, None, if◌then◌else◌}
+use Rattle.std.specs.Prelude.{◌≡◌, ℕ, Bool, true, false, List, [], ◌∷◌, codes, Option, Some, None, if◌then◌else◌}
 use Rattle.std.specs.List.{list_all}
 use Rattle.std.specs.Str.{bytes_eq}
 use Rattle.c_names.specs.Names.{is_new_name}
 use Rattle.c_names.specs.FileNames.{is_file_name}
 use Rattle.c_text.specs.Directives.{has_repetition}
+use Rattle.decimal_numbers.specs.Numbers.{IsNumber}
 use Rattle.command_projects.specs.Names.{is_project_name, names_in}
 
 -- the name of the file that is the input, or `-` for none
@@ -22,7 +23,7 @@ largest_bound = 1000000
 
 -- the text is this number in decimal, and the number isn't too large
 abbrev pub IsBound : List ℕ → ℕ → Type 0
-IsBound text bound = (text ≡ decimal bound) × (bound ≤ largest_bound)
+IsBound text bound = IsNumber largest_bound text bound
 
 -- a run of one product: the name of the project file, the names of the features that are on, the bound, and the name of the file
 -- that is the input, if there is one

@@ -5,6 +5,7 @@ ghost use Rattle.command_run.specs.Steps.{run_of, texts_of};
 
 use c_names::is_file_name;
 use command_projects::{are_lawful, has_repetition, is_project_name, names_in};
+use decimal_numbers::number_in;
 use std::alloc::{AllocError, Global};
 
 /// The further words.
@@ -29,35 +30,6 @@ pub(crate) struct RunWords<'a> {
 
 /// The largest bound of a run.
 const LARGEST_BOUND: u32 = 1_000_000;
-
-/// The number, if the text is it in decimal, and it isn't too large.
-fn if_bound(alloc: Global, text: &str, number: u32) -> Result<Option<u32>, AllocError>
-    ensures { IfOk result (λ bound. MatchOption bound
-        (spec.IsBound text.now number → ⊥)
-        (spec.IsBound text.now)) }
-{
-    let written = format!(in alloc; "{number}")?;
-    if number <= LARGEST_BOUND && written.as_str() == text {
-        Ok(Some(number))
-    } else {
-        Ok(None)
-    }
-}
-
-/// The bound that the text is in decimal, if it is one.
-fn bound_in(alloc: Global, text: &str) -> Result<Option<u32>, AllocError>
-    ensures { IfOk result (λ bound. MatchOption bound
-        ((number : ℕ) → spec.IsBound text.now number → ⊥)
-        (spec.IsBound text.now)) }
-{
-    match text.parse::<u32>() {
-        Ok(number) => {
-            let bound = if_bound(alloc, text, number)?;
-            Ok(bound)
-        }
-        Err(_) => Ok(None),
-    }
-}
 
 /// The name of the file that is the input, or `-` for none.
 fn input_in(text: &str) -> Option<&str>
@@ -142,7 +114,7 @@ pub(crate) fn asked_run(alloc: Global, words: &[String]) -> Result<Option<RunWor
     let Some(texts) = run_words(words) else {
         return Ok(None);
     };
-    match bound_in(alloc, texts.bound)? {
+    match number_in(alloc, texts.bound, LARGEST_BOUND)? {
         Some(bound) => {
             let query = bounded_run(alloc, texts, bound)?;
             Ok(query)

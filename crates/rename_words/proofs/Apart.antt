@@ -1,0 +1,40 @@
+-- What holds of the names of elements, one after another.
+use Rattle.std.proofs.Common.{◌≡◌, ℕ, ◌+◌, ◌<◌, ◌≤◌, ◌↔◌, Bool, true, false, IsTrue, refl, All, List, ◌∷◌, [], ◌++◌, length, map, take, get_or, sym, ◌∙◌, ap, subst, arith}
+use Rattle.folder_names.specs.Folders.{IsApart}
+use Rattle.std.proofs.lemmas.List.{get_or-map, length-map, map_more, take_all}
+use Rattle.std.proofs.lemmas.List.Elements.{All-push, All-same, All-nil, All-cons, All-head, All-tail, All-append}
+
+module _ {X Y : Type 0} (P : Y → Type 0) (f : X → Y) (xs : List X) where
+  pub all_so_far : (i : ℕ) (x : X) → i < length xs → x ≡ get_or xs i x → All P (map f (take i xs)) → P (f x) → All P (map f (take (i + 1) xs))
+  all_so_far i x less is so_far holds =
+      All-same P _ _ (map_more f xs i x less ∙ ap (λ z. map f (take i xs) ++ f z ∷ []) (sym is)) (All-push P (map f (take i xs)) (f x) so_far holds)
+
+  pub all_at : (i : ℕ) (x : X) → i < length xs → x ≡ get_or xs i x → All P (map f xs) → P (f x)
+  all_at i x less is all = subst P (get_or-map f xs i x (f x) less ∙ ap f (sym is)) (all i (f x) (omega (arith, length-map xs f, less)))
+
+  pub all_taken : (i : ℕ) → length xs ≤ i → All P (map f (take i xs)) → All P (map f xs)
+  all_taken i enough = subst (λ ys. All P (map f ys)) (take_all i xs enough)
+
+-- of a list that is put together of two
+module _ {Y : Type 0} (P : Y → Type 0) where
+  all_of_both : (xs ys : List Y) → All P (xs ++ ys) → All P xs × All P ys
+  all_of_both [] ys h = (All-nil P, h)
+  all_of_both (x ∷ xs) ys h =
+      let rest = all_of_both xs ys (All-tail P x (xs ++ ys) h) in
+      (All-cons P x xs (All-head P x (xs ++ ys) h) rest.0, rest.1)
+
+  pub both_by_second : (b c : Bool) (xs ys : List Y) → IsTrue b ↔ All P xs → b ≡ true → IsTrue c ↔ All P ys → IsTrue c ↔ All P (xs ++ ys)
+  both_by_second b c xs ys first h second = (λ t. All-append P xs ys (first.0 h) (second.0 t), λ all. second.1 (all_of_both xs ys all).1)
+
+  pub both_by_first : (b : Bool) (xs ys : List Y) → IsTrue b ↔ All P xs → b ≡ false → IsTrue b ↔ All P (xs ++ ys)
+  both_by_first b xs ys first h = (λ t. let f : true ≡ false = sym t ∙ h in absurd cc, λ all. first.1 (all_of_both xs ys all).0)
+
+-- by what a test of these bytes says
+pub apart_by : (b : Bool) (name same folder alike : List ℕ) → name ≡ same → folder ≡ alike → IsTrue b ↔ IsApart name folder → b ≡ true → IsApart same alike
+apart_by true name same folder alike p q e h = subst (λ n. IsApart n alike) p (subst (λ f. IsApart name f) q (e.0 refl))
+apart_by false name same folder alike p q e h = absurd cc
+
+pub none_apart_by : (b : Bool) (name same folder alike : List ℕ) → name ≡ same → folder ≡ alike → IsTrue b ↔ IsApart name folder → b ≡ false → IsApart same alike → ⊥
+none_apart_by true name same folder alike p q e h apart = cc
+none_apart_by false name same folder alike p q e h apart =
+    let f : IsTrue false = e.1 (subst (λ f. IsApart name f) (sym q) (subst (λ n. IsApart n alike) (sym p) apart)) in cc

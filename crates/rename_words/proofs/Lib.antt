@@ -1,0 +1,5 @@
+pub mod Places
+mod Apart
+mod Numbers
+mod ProjectNames
+pub mod Alike
