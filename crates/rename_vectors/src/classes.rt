@@ -1,4 +1,4 @@
-//! The class at a place of a project, and the files that its renaming gives.
+//! What is found at a place of a project, and the files that its renaming gives.
 ghost use Rattle.std.specs.Prelude.{◌≡◌, ◌<◌, ◌≤◌, length, map, All};
 ghost use Rattle.text_edits.specs.Files.{plain_files};
 ghost use Rattle.cond_formula.specs.Conditions.{VarsBelow};
@@ -6,16 +6,16 @@ ghost use Rattle.feature_model.specs.ModelView.{admitted};
 ghost use Rattle.project_file.specs.View.{project_view};
 ghost use Rattle.project_store.specs.Reads.{names_of};
 
-use crate::preconditions::{Renaming, first_broken};
 use anyhow::{Context, Result, bail};
+use c_names::is_new_name;
 use c_text::FileToken;
-use class_edits::{count_renamed, edits_of, name_at, token_at};
+use class_edits::{count_renamed, edits_of};
 use command_projects::{listed, names_on};
+use cond_formula::Config;
 use file_edits::apply;
-use project_analysis::analysed;
-use project_classes::{ClassAnswer, class_of};
 use project_file::Project;
 use project_store::{MemoryStore, read_files, read_project};
+use rename_op::{Outcome, Precondition, rename};
 use std::alloc::Global;
 use text_edits::Files;
 use vector_cases::{Case, copy_of};
@@ -64,19 +64,17 @@ fn with_new_name(alloc: Global, files: &Files, class: &[FileToken], new: &[u8]) 
     }
 }
 
-/// The files with the new name, or what stands in the way.
-fn asked(alloc: Global, renaming: &Renaming<'_>) -> Result<Found>
-    requires few { length renaming.now.project.now.features.items ≤ 128 }
-    requires below { VarsBelow (length renaming.now.project.now.features.items) (admitted renaming.now.project.now.model) }
-    requires named { map (λ f. f.name) (plain_files renaming.now.files.now) ≡ names_of (project_view renaming.now.project.now) }
-    requires short { All (λ f. length f.bytes ≤ 4294967295) (plain_files renaming.now.files.now) }
-    requires numbered { length renaming.now.files.now.list.items < 4294967295 }
+/// What is reported of a precondition that is broken.
+fn refused(
+    alloc: Global,
+    project: &Project,
+    precondition: Precondition,
+    c: Config,
+) -> Result<Found>
+    requires few { length project.now.features.items ≤ 128 }
 {
-    let Some((precondition, c)) = first_broken(alloc, renaming)? else {
-        return with_new_name(alloc, renaming.files, renaming.class, renaming.new);
-    };
     let name = precondition.name();
-    let on = names_on(alloc, &renaming.project.features, c)?;
+    let on = names_on(alloc, &project.features, c)?;
     let on = listed(alloc, &on)?;
     let report = format!(in alloc; "refused {name} at {on}\n")?;
     Ok(Found::Refused(report))
@@ -97,26 +95,14 @@ fn found_in(
     requires short { All (λ f. length f.bytes ≤ 4294967295) (plain_files files.now) }
     requires numbered { length files.now.list.items < 4294967295 }
 {
-    let Some(at) = token_at(alloc, files, file, offset)? else {
-        return Ok(Found::Nothing);
-    };
-    let Some(old) = name_at(alloc, files, &at)? else {
-        return Ok(Found::Nothing);
-    };
-    let analysis = analysed(alloc, project, files)?;
-    match class_of(alloc, project, &analysis.ties, &at)? {
-        ClassAnswer::Nothing => Ok(Found::Nothing),
-        ClassAnswer::Class(class) => {
-            let renaming = Renaming {
-                project,
-                files,
-                analysis: &analysis,
-                class: &class,
-                old: &old,
-                new,
-            };
-            asked(alloc, &renaming)
-        }
+    if !is_new_name(new) {
+        return Ok(Found::Unread);
+    }
+    match rename(alloc, project, files, file, offset, new)? {
+        Outcome::Nothing => Ok(Found::Nothing),
+        Outcome::SameName => Ok(Found::Unread),
+        Outcome::Refused(precondition, c) => refused(alloc, project, precondition, c),
+        Outcome::Renamed(class) => with_new_name(alloc, files, &class, new),
     }
 }
 

@@ -5,7 +5,6 @@
 #![tactic(auto)]
 
 mod classes;
-mod preconditions;
 mod vectors;
 
 use crate::vectors::run;

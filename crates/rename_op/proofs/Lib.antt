@@ -1,0 +1,5 @@
+mod Named
+mod Told
+mod Captured
+mod First
+mod Answered

@@ -1,0 +1,64 @@
+-- The list of a class whose tokens are names on text lines is renamed as the class.
+use Rattle.std.proofs.Common.{◌≡◌, ℕ, zero, suc, ◌<◌, List, [], ◌∷◌, length, Some, refl, ap, ◌∙◌, arith}
+use Rattle.std.specs.Prelude.{slice_get, slice_index_or, Contains}
+use Rattle.text_edits.specs.Files.{PlainFile}
+use Rattle.command_projects.specs.Least.{Nowhere}
+use Rattle.program_occurrences.specs.Classes.{PlainFileToken}
+use Rattle.reference_classes.specs.Preconditions.{in_macro_body}
+use Rattle.reference_classes.specs.Renamed.{RenamesClass}
+use Rattle.tied_tokens.specs.Tokens.{plain_file_tokens}
+use Rattle.class_edits.specs.Listed.{StandApart}
+use Rattle.class_edits.specs.Places.{IsTokenOf}
+use Rattle.class_edits.specs.Laws.{ListedStandApart, ListedClassesAreRenamed}
+use Rattle.project_file.specs.Projects.{PlainProject}
+use Rattle.renamed_classes.specs.Laws.{IsTextNameSomewhere, ClassesStandOnTextLines}
+use Rattle.renamed_classes.specs.Renaming.{RenamesOnTextLines}
+use Rattle.rename_op.specs.Asked.{IsAsked, BreaksIn, project_of, files_of, renaming}
+use Rattle.rename_op.specs.declared.asked.Asked.{Asked}
+
+file-below : (files : List PlainFile) (n : ℕ) (other : PlainFile) → n < length files → slice_get files n ≡ Some (slice_index_or files n other)
+file-below [] n other below = absurd (omega (arith, below))
+file-below (first ∷ files) zero other below = refl
+file-below (first ∷ files) (suc n) other below = file-below files n other (omega (arith, below))
+
+-- a name on a text line is a token of the file's text
+token-of-text : (project : PlainProject) (files : List PlainFile) (token : PlainFileToken) → token.file < length files → IsTextNameSomewhere project files token → IsTokenOf files token
+token-of-text project files token below t =
+    let name = t.there in
+    let on = name.on_line in
+    record {
+      name = on.copied.text;
+      written = record {
+        file = slice_index_or files token.file (record { name = []; bytes = [] });
+        is_file = file-below files token.file (record { name = []; bytes = [] }) below;
+        lines = on.lines;
+        are_lines = on.are_lines;
+        line = on.line;
+        among = on.among;
+        there = on.copied;
+        within = on.within;
+        span_is = on.span ∙ ap (λ (x : PlainFileToken). x.span) name.copies;
+        text = refl;
+      };
+    }
+
+-- the laws that it follows from
+pub record NamedLaws : Type 0 where
+  pub stand : ClassesStandOnTextLines
+  pub apart : ListedStandApart
+  pub renamed : ListedClassesAreRenamed
+
+module _ (laws : NamedLaws) (asked : Asked) (place : PlainFileToken) (is : IsAsked asked place) (in_text : Nowhere (project_of asked) (BreaksIn asked place in_macro_body)) where
+  abbrev tokens : List PlainFileToken
+  tokens = plain_file_tokens asked.class.now
+
+  pub stand-apart : StandApart (files_of asked) tokens
+  stand-apart = laws.apart (files_of asked) tokens is.in_order (λ token below among.
+      token-of-text (project_of asked) (files_of asked) token below
+      (laws.stand (project_of asked) (files_of asked) place (renaming asked) is.has_files is.found in_text token below ((is.members token).0 among)))
+
+  pub renames-class : RenamesClass (project_of asked) (files_of asked) place asked.new.now (renaming asked)
+  renames-class = laws.renamed (project_of asked) (files_of asked) place tokens asked.old.now asked.new.now stand-apart (λ token below. is.members token) is.written
+
+  pub on-text-lines : RenamesOnTextLines (project_of asked) (files_of asked) place asked.new.now (renaming asked)
+  on-text-lines = record { has_files = is.has_files; renames = renames-class; found = is.found; good = is.good; on_text_lines = in_text }
