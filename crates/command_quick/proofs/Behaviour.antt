@@ -1,16 +1,16 @@
 -- The renamed file that was written behaves as the file that was read.
-use Rattle.std.proofs.Common.{◌≡◌, inl, inr, ℕ, List, [], ◌∷◌, Some, Option, All, refl, sym, ◌∙◌, ap, subst, arith}
+use Rattle.std.proofs.Common.{◌≡◌, inl, inr, ℕ, List, [], ◌∷◌, Some, Option, All, sym, ◌∙◌, ap, subst, arith}
 use Rattle.text_edits.specs.Files.{PlainFile, Lookup}
 use Rattle.project_store.specs.States.{StoreState}
 use Rattle.quick_form.specs.Renaming.{renamed_bytes}
 use Rattle.quick_form.specs.Quick.{Takes, KeepsBehaviour, RenamingKeepsBehaviour}
-use Rattle.command_promises.specs.Courses.{Saying, Deed, reads, says, Leads, IsThere, Comes}
+use Rattle.command_promises.specs.Courses.{Saying, reads, says, Leads, IsThere, Comes}
 use Rattle.command_promises.specs.Writing.{PutsAll}
 use Rattle.command_promises.proofs.Leading.{one_saying, all_head}
 use Rattle.command_quick.specs.Words.{Renaming, target, Asks}
-use Rattle.command_quick.specs.Quick.{renames, refuses_at, OfBytes, Does}
+use Rattle.command_quick.specs.Quick.{renames, refuses_at, Does}
 use Rattle.command_quick.specs.Behaviour.{BehaviourIsKept}
-use Rattle.command_quick.proofs.Folders.{new_name_is_name}
+use Rattle.command_quick.proofs.NewNames.{new_name_is_name}
 
 some_is : (x y : List ℕ) → ◌≡◌ {A = Option (List ℕ)} (Some x) (Some y) → x ≡ y
 some_is x y e = cc

@@ -1,5 +1,5 @@
 -- One renaming, and one thing that is done.
-use Rattle.std.proofs.Common.{◌≡◌, inl, inr, ℕ, List, [], ◌∷◌, refl, sym, ◌∙◌, ap, subst, arith, codes}
+use Rattle.std.proofs.Common.{◌≡◌, inl, inr, ℕ, List, [], ◌∷◌, refl, sym, ◌∙◌, ap, subst, arith}
 use Rattle.text_edits.specs.Files.{PlainFile}
 use Rattle.quick_form.specs.Places.{PlacesAreOne, TakenHasNoPlace}
 use Rattle.command_promises.specs.Courses.{Saying, Deed, reads, says, IsDecided}

@@ -1,4 +1,4 @@
-pub mod Folders
+pub mod NewNames
 pub mod Decided
 pub mod Behaviour
 pub mod Reading

@@ -1,15 +1,14 @@
 -- What is read and said for a renaming.
-use Rattle.std.proofs.Common.{◌≡◌, inl, inr, ℕ, zero, suc, List, [], ◌∷◌, All, refl, sym, ◌∙◌, ap, subst, arith, Vec}
-use Rattle.text_edits.specs.Files.{PlainFile}
+use Rattle.std.proofs.Common.{◌≡◌, inl, inr, ℕ, zero, suc, List, [], ◌∷◌, All, refl, ◌∙◌, ap, subst, arith, Vec}
 use Rattle.project_store.specs.States.{StoreState, Stands, IsAbsent}
-use Rattle.quick_form.specs.Renaming.{renamed_bytes, token_count}
+use Rattle.quick_form.specs.Renaming.{renamed_bytes}
 use Rattle.quick_rename.specs.declared.Answer.{Answer as File}
 use Rattle.quick_rename.specs.declared.Answer.TheVariants as file
 use Rattle.quick_rename.specs.Answer.{IsRenamed, AnswersRenaming, HasPlace}
-use Rattle.command_promises.specs.Courses.{Saying, Deed, reads, says, IsThere, Comes}
+use Rattle.command_promises.specs.Courses.{Saying, says, IsThere, Comes}
 use Rattle.command_promises.specs.Sayings.{ComesToUnread}
 use Rattle.command_quick.specs.Words.{Renaming}
-use Rattle.command_quick.specs.Quick.{says_renamed, renames, refuses_at, OfBytes, Does}
+use Rattle.command_quick.specs.Quick.{says_renamed, refuses_at, OfBytes, Does}
 
 -- the file was read, and this is said of its bytes
 pub comes_of_file : (r : Renaming) (store : StoreState) (bytes : List ℕ) (what : Saying) → Stands store r.file bytes → OfBytes r bytes (says what) → Comes (Does r) store (says what)

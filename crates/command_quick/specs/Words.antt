@@ -1,17 +1,9 @@
 -- The words of `quick FILE OLD NEW OUT`.
-use Rattle.std.specs.Prelude.{◌≡◌, ℕ, Bool, true, false, not, ◌&&◌, ◌||◌, ◌==◌, List, [], ◌∷◌, ◌++◌}
-use Rattle.std.specs.List.{list_all}
+use Rattle.std.specs.Prelude.{◌≡◌, ℕ, true, false, List, [], ◌∷◌}
 use Rattle.std.specs.Str.{bytes_eq}
-use Rattle.c_names.specs.Names.{is_word_byte, is_new_name}
-use Rattle.c_names.specs.FileNames.{is_empty, is_file_name}
-
--- a letter, a digit, `_` or `-`
-abbrev pub is_folder_byte : ℕ → Bool
-is_folder_byte b = is_word_byte b || b == 45
-
--- one or more of these
-abbrev pub is_folder_name : List ℕ → Bool
-is_folder_name w = not (is_empty w) && list_all is_folder_byte w
+use Rattle.c_names.specs.Names.{is_new_name}
+use Rattle.c_names.specs.FileNames.{is_file_name}
+use Rattle.folder_names.specs.Folders.{in_folder, is_folder_name, IsApart}
 
 -- a renaming of one name in one file of the quick form
 pub record Renaming : Type 0 where
@@ -22,11 +14,7 @@ pub record Renaming : Type 0 where
 
 -- the name under which the renamed file is written
 abbrev pub target : Renaming → List ℕ
-target r = r.out ++ 47 ∷ r.file
-
--- the name begins with the folder's name and `/`
-abbrev pub IsInFolder : List ℕ → List ℕ → Type 0
-IsInFolder name folder = (rest : List ℕ) × (name ≡ folder ++ 47 ∷ rest)
+target r = in_folder r.out r.file
 
 -- The names are of their forms, the new name is another than the old, and the output folder is neither the file nor a folder
 -- that the file stands in.
@@ -35,8 +23,7 @@ pub record IsGood (r : Renaming) : Type 0 where
   pub new : is_new_name r.new ≡ true
   pub out : is_folder_name r.out ≡ true
   pub changes : bytes_eq r.old r.new ≡ false
-  pub apart : bytes_eq r.out r.file ≡ false
-  pub outside : IsInFolder r.file r.out → ⊥
+  pub apart : IsApart r.file r.out
 
 -- the further words, `FILE OLD NEW OUT`
 abbrev pub words_of : Renaming → List (List ℕ)

@@ -6,26 +6,16 @@ ghost use Rattle.project_store.specs.States.{IsReadAlone};
 ghost use Rattle.command_promises.specs.Courses.{says};
 ghost use Rattle.command_promises.specs.Sayings.{saying, CameTo};
 ghost use Rattle.command_promises.specs.Commands.{CourseFor};
-ghost use Rattle.command_quick.specs.Words.{target};
 ghost use Rattle.command_quick.specs.Quick as spec;
 ghost use Rattle.command_quick.specs.Steps.{asked};
 
 use crate::words::{Renaming, asked_renaming};
 use command_promises::{Said, Stop, usage};
+use folder_names::in_folder;
 use project_store::{Store, StoreFault};
 use quick_rename::{Answer, rename};
 use std::alloc::{AllocError, Global};
 use text_edits::{Files, SourceFile};
-
-/// The name under which the renamed file is written.
-fn target_name(alloc: Global, renaming: &Renaming) -> Result<String, AllocError>
-    ensures { IfOk result (λ name. string_bytes name ≡ target (asked renaming.now)) }
-{
-    let mut name = String::from_str(alloc, renaming.out)?;
-    name.push_str("/")?;
-    name.push_str(renaming.file)?;
-    Ok(name)
-}
 
 /// The file isn't taken, for what stands at the offset.
 fn refused(alloc: Global, offset: usize) -> Result<Said, AllocError>
@@ -45,7 +35,7 @@ fn renamed(
 ) -> Result<Said, AllocError>
     ensures { IfOk result (λ said. saying said ≡ spec.says_renamed (asked renaming.now) bytes.items tokens) }
 {
-    let name = target_name(alloc, renaming)?;
+    let name = in_folder(alloc, renaming.out, renaming.file)?;
     let report = format!(in alloc; "renamed {tokens} tokens in 1 files\n")?;
     let mut list = Vec::new(alloc);
     list.push(SourceFile { name, bytes })?;

@@ -1,10 +1,10 @@
-ghost use Rattle.std.specs.Prelude.{◌≡◌, ◌≢◌, ◌↔◌, IsTrue, MatchOption, map, ℕ, List, ◌∷◌};
-ghost use Rattle.std.specs.List.{list_all};
+ghost use Rattle.std.specs.Prelude.{◌≡◌, ◌≢◌, ◌↔◌, IsTrue, MatchOption, map};
 ghost use Rattle.std.specs.String.{string_bytes};
 ghost use Rattle.command_quick.specs.Words as spec;
 ghost use Rattle.command_quick.specs.Steps.{asked};
 
-use c_names::{is_file_name, is_new_name, is_word_byte};
+use c_names::{is_file_name, is_new_name};
+use folder_names::{is_apart, is_folder_name};
 
 /// A renaming of one name in one file of the quick form, as the words ask for it.
 #[derive(Clone, Copy, Debug)]
@@ -13,40 +13,6 @@ pub(crate) struct Renaming<'a> {
     pub(crate) old: &'a str,
     pub(crate) new: &'a str,
     pub(crate) out: &'a str,
-}
-
-fn is_folder_byte(byte: u8) -> bool
-    ensures { result ≡ spec.is_folder_byte byte }
-{
-    is_word_byte(byte) || byte == b'-'
-}
-
-fn are_folder_bytes(bytes: &[u8]) -> bool
-    ensures { result ≡ list_all spec.is_folder_byte bytes.now }
-{
-    bytes.iter().all(|byte| is_folder_byte(*byte))
-}
-
-fn is_folder_name(name: &[u8]) -> bool
-    ensures { result ≡ spec.is_folder_name name.now }
-{
-    !name.is_empty() && are_folder_bytes(name)
-}
-
-/// Whether the name is that of a file in the folder.
-fn is_in_folder(name: &[u8], folder: &[u8]) -> bool
-    ensures { IsTrue result ↔ spec.IsInFolder name.now folder.now }
-{
-    match name.strip_prefix(folder) {
-        Some(rest) => begins_with_slash(rest),
-        None => false,
-    }
-}
-
-fn begins_with_slash(rest: &[u8]) -> bool
-    ensures { IsTrue result ↔ ((more : List ℕ) × (rest.now ≡ 47 ∷ more)) }
-{
-    matches!(rest, [b'/', ..])
 }
 
 impl Renaming<'_> {
@@ -58,8 +24,7 @@ impl Renaming<'_> {
             && is_new_name(self.new.as_bytes())
             && is_folder_name(self.out.as_bytes())
             && self.old != self.new
-            && self.out != self.file
-            && !is_in_folder(self.file.as_bytes(), self.out.as_bytes())
+            && is_apart(self.file.as_bytes(), self.out.as_bytes())
     }
 }
 

@@ -6,7 +6,7 @@ use Rattle.command_promises.proofs.Answering.{came_by}
 use Rattle.command_promises.proofs.Causes.{said_at_once}
 use Rattle.command_quick.specs.Quick as spec
 use Rattle.command_quick.specs.Steps.{asked}
-use Rattle.command_quick.proofs.Folders.{new_name_is_name}
+use Rattle.command_quick.proofs.NewNames.{new_name_is_name}
 use Rattle.command_quick.proofs.renaming.quick.Goals as goal
 
 pub of_file-requires : goal.of_file-requires

@@ -1,0 +1,4 @@
+pub mod Places
+mod Apart
+mod Numbers
+pub mod Alike

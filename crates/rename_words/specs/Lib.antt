@@ -1,0 +1,4 @@
+pub mod Words
+pub mod Fits
+pub mod Steps
+pub mod Laws
