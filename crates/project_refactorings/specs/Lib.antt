@@ -1,0 +1,2 @@
+pub mod Refactorings
+pub mod Lawful
