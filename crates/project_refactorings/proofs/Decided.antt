@@ -1,4 +1,4 @@
--- A command that refactors does one thing at most, where it owes nothing.
+-- A lawful command that refactors does one thing at most.
 use Rattle.std.proofs.Common.{◌≡◌, inl, inr, ℕ, not, List, [], ◌∷◌, refl, sym, ◌∙◌, ap, subst, arith}
 use Rattle.text_edits.specs.Files.{PlainFile}
 use Rattle.cond_formula.specs.Features.{has}

@@ -1,14 +1,10 @@
--- Of the configurations that a project admits none has a property, or one is the least that has it.
+-- Of the configurations that a project admits none has a property, or one is the least that has it: it isn't so that neither is the case.
 use Rattle.std.proofs.Common.{◌≡◌, ◌⊎◌, inl, inr, ℕ, zero, suc, ◌+◌, ◌<◌, ◌≤◌, Bool, true, false, List, length, refl, sym, ◌∙◌, subst, arith}
 use Rattle.std.proofs.lemmas.Bool.{cases_lt}
 use Rattle.cond_formula.specs.Features.{has}
 use Rattle.sat_core.specs.Models.{IsLess, AreSame}
 use Rattle.project_file.specs.Projects.{PlainProject}
 use Rattle.command_projects.specs.Least.{IsAdmitted, Nowhere, Somewhere, IsLeast}
-
-none_both : (b : Bool) → b ≡ true → b ≡ false → ⊥
-none_both true e f = let no : ◌≡◌ {A = Bool} true false = f in cc
-none_both false e f = let no : ◌≡◌ {A = Bool} false true = e in cc
 
 -- two sets that agree below a number, and on it
 one_more : (k : ℕ) (on other : ℕ → Bool) → AreSame k on other → on k ≡ other k → AreSame (k + 1) on other
@@ -20,9 +16,6 @@ one_more k on other h e = record { same = λ i inside. by i inside (cases_lt i k
 
 one_less : (k : ℕ) (on other : ℕ → Bool) → AreSame (k + 1) on other → AreSame k on other
 one_less k on other h = record { same = λ i inside. h.same i (omega (arith, inside)) }
-
-swapped : (k : ℕ) (on other : ℕ → Bool) → AreSame k on other → AreSame k other on
-swapped k on other h = record { same = λ i inside. sym (h.same i inside) }
 
 joined : (k : ℕ) (on middle other : ℕ → Bool) → AreSame k on middle → AreSame k middle other → AreSame k on other
 joined k on middle other h g = record { same = λ i inside. h.same i inside ∙ g.same i inside }
@@ -82,8 +75,7 @@ module _ (project : PlainProject) (Holds : List Bool → Type 0) where
       from_c other same = joined k (has c) (has d) (has other) (one_less k (has c) (has d) found.same) same
 
       by : (other : List Bool) → IsAdmitted project other → Holds other → AreSame k (has d) (has other) → (x y : Bool) → has d k ≡ x → has other k ≡ y → AreSame (length project.features) (has d) (has other) ⊎ IsLess (length project.features) (has d) (has other)
-      by other a h same x false d_is e =
-          absurd (none (record { config = other; admitted = a; holds = h; same = from_c other same; off = e }))
+      by other a h same x false d_is e = absurd (none (record { config = other; admitted = a; holds = h; same = from_c other same; off = e }))
       by other a h same false true d_is e =
           absurd (none (record { config = d; admitted = found.is_least.admitted; holds = found.is_least.holds; same = one_less k (has c) (has d) found.same; off = d_is }))
       by other a h same true true d_is e = found.is_least.least other a h (one_more k (has d) (has other) same (d_is ∙ sym e))

@@ -1,3 +1,4 @@
 pub mod Least
 pub mod Decided
 pub mod Concluding
+pub mod Reading

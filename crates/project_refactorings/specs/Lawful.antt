@@ -1,4 +1,4 @@
--- What a command that refactors owes, so that it does one thing at most, and comes to something.
+-- What is asked of a command that refactors, so that it does one thing at most, and comes to something.
 use Rattle.std.specs.Prelude.{◌≡◌, ℕ, Bool, List, length}
 use Rattle.text_edits.specs.Files.{PlainFile}
 use Rattle.project_file.specs.Projects.{PlainProject, IsProject}
@@ -13,8 +13,8 @@ pub record AreReadings (command : RefactoringCommand) (q : command.Query) (a b :
   pub one : command.Fits q a x
   pub other : command.Fits q b y
 
--- Words ask for one thing at most. Whether they fit, what is found, the task, and what breaks a precondition are the same for each reading
--- of a project file.
+-- Words ask for one thing at most. Whether they fit, where something is found, the task, and what breaks a precondition are the same for
+-- all readings of a project file.
 pub record IsLawful (command : RefactoringCommand) : Type 0 where
   pub one_query : (further : List (List ℕ)) (q p : command.Query) → command.Asks further q → command.Asks further p → q ≡ p
   pub fits_alike : (q : command.Query) (a b : PlainProject) (x : command.Fit) → Alike a b → command.Fits q a x → (y : command.Fit) × command.Fits q b y
@@ -29,7 +29,7 @@ pub record IsLawful (command : RefactoringCommand) : Type 0 where
       → (sources : List PlainFile) (task : command.Task) → command.IsTask q a x sources task → command.IsTask q b y sources task
       → (name : List ℕ) (c : List Bool) → command.Breaks q a sources task name c → command.Breaks q b sources task name c
 
--- where something is found in a project with its files, there is a task
+-- Where something is found in a project with its files, there is a task: it isn't so that there is none.
 abbrev pub HasTasks : RefactoringCommand → Type 0
 HasTasks command =
     (q : command.Query) (bytes : List ℕ) (project : PlainProject) (fit : command.Fit) (sources : List PlainFile)

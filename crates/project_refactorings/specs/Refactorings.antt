@@ -52,14 +52,14 @@ refused_at precondition names = tells 1 (line (codes "refused " ++ precondition 
 abbrev pub files_in : List ℕ → List PlainFile → List PlainFile
 files_in folder files = map (λ (f : PlainFile). record f { name = in_folder folder f.name }) files
 
+-- they are written there, and this is reported
+abbrev pub put_in : List ℕ → List PlainFile → List ℕ → Saying
+put_in folder files report = record { status = 0; report = line report; written = files_in folder files }
+
 module _ (command : RefactoringCommand) (q : command.Query) (source : PlainFile) (project : PlainProject) where
   -- the result is written in the output folder, and the project file at last
   abbrev pub refactored : List PlainFile → command.Task → Saying
-  refactored sources task = record {
-    status = 0;
-    report = line (command.report q sources task);
-    written = files_in (command.out_of q) (command.result q sources task ++ source ∷ []);
-  }
+  refactored sources task = put_in (command.out_of q) (command.result q sources task ++ source ∷ []) (command.report q sources task)
 
   -- The first precondition of these that an admitted configuration breaks is said, with the least that does; or the result is.
   abbrev pub Asking : List PlainFile → command.Task → List (List ℕ) → Course
