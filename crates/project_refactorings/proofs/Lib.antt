@@ -1,0 +1,4 @@
+pub mod Least
+pub mod Decided
+pub mod Concluding
+pub mod Reading

@@ -1,0 +1,3 @@
+pub mod Refactorings
+pub mod Lawful
+pub mod Laws
