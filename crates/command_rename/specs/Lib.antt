@@ -1,0 +1,3 @@
+pub mod Rename
+pub mod Products
+pub mod Laws
