@@ -42,6 +42,15 @@ token-of-text project files token below t =
       };
     }
 
+module _ (asked : Asked) (place : PlainFileToken) (is : IsAsked asked place) (in_text : Nowhere (project_of asked) (BreaksIn asked place in_macro_body)) where
+  abbrev tokens : List PlainFileToken
+  tokens = plain_file_tokens asked.class.now
+
+  pub stand-apart : ClassesStandOnTextLines → ListedStandApart → StandApart (files_of asked) tokens
+  stand-apart stand apart = apart (files_of asked) tokens is.in_order (λ token below among.
+      token-of-text (project_of asked) (files_of asked) token below
+      (stand (project_of asked) (files_of asked) place (renaming asked) is.has_files is.found in_text token below ((is.members token).0 among)))
+
 -- the laws that it follows from
 pub record NamedLaws : Type 0 where
   pub stand : ClassesStandOnTextLines
@@ -49,16 +58,9 @@ pub record NamedLaws : Type 0 where
   pub renamed : ListedClassesAreRenamed
 
 module _ (laws : NamedLaws) (asked : Asked) (place : PlainFileToken) (is : IsAsked asked place) (in_text : Nowhere (project_of asked) (BreaksIn asked place in_macro_body)) where
-  abbrev tokens : List PlainFileToken
-  tokens = plain_file_tokens asked.class.now
-
-  pub stand-apart : StandApart (files_of asked) tokens
-  stand-apart = laws.apart (files_of asked) tokens is.in_order (λ token below among.
-      token-of-text (project_of asked) (files_of asked) token below
-      (laws.stand (project_of asked) (files_of asked) place (renaming asked) is.has_files is.found in_text token below ((is.members token).0 among)))
-
   pub renames-class : RenamesClass (project_of asked) (files_of asked) place asked.new.now (renaming asked)
-  renames-class = laws.renamed (project_of asked) (files_of asked) place tokens asked.old.now asked.new.now stand-apart (λ token below. is.members token) is.written
+  renames-class = laws.renamed (project_of asked) (files_of asked) place (plain_file_tokens asked.class.now) asked.old.now asked.new.now
+      (stand-apart asked place is in_text laws.stand laws.apart) (λ token below. is.members token) is.written
 
   pub on-text-lines : RenamesOnTextLines (project_of asked) (files_of asked) place asked.new.now (renaming asked)
   on-text-lines = record { has_files = is.has_files; renames = renames-class; found = is.found; good = is.good; on_text_lines = in_text }

@@ -9,7 +9,7 @@ use Rattle.program_occurrences.specs.Classes.{PlainFileToken}
 use Rattle.reference_classes.specs.Preconditions as spec
 use Rattle.reference_classes.specs.Preconditions.{Breaks}
 use Rattle.tied_tokens.specs.Tokens.{plain_file_tokens}
-use Rattle.class_edits.specs.Listed.{renaming_of}
+use Rattle.class_edits.specs.Listed.{renaming_of, StandApart}
 use Rattle.named_classes.specs.Classes.{NamedClass, Finds, IsNamedClass}
 use Rattle.renamed_classes.specs.Renaming.{NothingStandsInTheWay}
 use Rattle.rename_op.specs.declared.outcomes.Precondition.{Precondition}
@@ -56,6 +56,7 @@ module _ (project : PlainProject) (files : List PlainFile) (file offset : ℕ) (
     pub class : NamedClass
     pub is_class : IsNamedClass project files file offset class
     pub tokens_are : class.tokens ≡ tokens
+    pub stand_apart : StandApart files tokens
     pub other_name : class.old ≡ new → ⊥
     pub unhindered : NothingStandsInTheWay project files class.place (renaming_to class)
 

@@ -22,12 +22,13 @@ use crate::asked::Asked;
 use crate::breaking::least_breaking;
 use crate::outcomes::{Outcome, Precondition};
 use c_text::FileToken;
-use class_edits::{bytes_tell_tokens, name_at, token_at};
+use class_edits::{bytes_tell_tokens, listed_stand_apart, name_at, token_at};
 use class_touches::touched;
 use cond_formula::{Config, Formula, NoMemory};
 use project_analysis::{Analysis, analysed};
 use project_classes::{ClassAnswer, class_of};
 use project_file::Project;
+use renamed_classes::classes_stand_on_text_lines;
 use std::alloc::Global;
 use text_edits::Files;
 use verdict_query::ModelOracle;
@@ -123,6 +124,8 @@ fn outcome_at(
         → IsOutcome (project_view project.now) (plain_files files.now) file offset new.now outcome) }
 {
     bytes_tell_tokens();
+    classes_stand_on_text_lines();
+    listed_stand_apart();
     let ClassAnswer::Class(class) = class_of(alloc, project, &analysis.ties, place)? else {
         return Ok(Outcome::Nothing);
     };

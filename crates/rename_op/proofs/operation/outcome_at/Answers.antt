@@ -8,6 +8,11 @@ use Rattle.tied_tokens.proofs.Members.{never}
 use Rattle.project_classes.specs.Answers.{IsClassOf, IsAnswer}
 use Rattle.rename_op.specs.declared.asked.Asked.{Asked}
 use Rattle.rename_op.specs.Outcomes.{IsOutcome}
+use Rattle.rename_op.specs.Asked.{IsAsked}
+use Rattle.rename_op.proofs.Named.{stand-apart}
+use Rattle.c_text.specs.declared.origin.FileToken.{FileToken}
+use Rattle.reference_classes.specs.Preconditions.{in_macro_body}
+use Rattle.class_edits.specs.Listed.{StandApart}
 use Rattle.rename_op.proofs.First.{first-of, none-of}
 use Rattle.rename_op.proofs.Answered.{has-files, nothing-found, named-class, class-of}
 use Rattle.rename_op.proofs.operation.outcome_at.Goals as goal
@@ -66,7 +71,8 @@ returns-in-None c = λ file offset holds.
     let answer : IsClassOf view files place c.in-Class.class.items = subst (IsAnswer view files place) c.in-Class.is (c.in_ok-class.ensures files c.requires.analysed.ties) in
     let seen = c.deref.result.now in
     let of_seen : IsClassOf view files place seen = subst (IsClassOf view files place) (sym c.deref.ensures.value) answer in
-    let told = c.in_ok-broken.ensures place (record {
+    let asked : Asked = record { project = c.args.project; files = c.args.files; analysis = c.args.analysis; class = c.deref.result; old = c.args.old; new = c.args.new } in
+    let is : IsAsked asked place = record {
       has_files = has-files view c.args.files.now c.requires.named c.requires.few;
       analysed = c.requires.analysed;
       written = c.requires.written;
@@ -74,12 +80,15 @@ returns-in-None c = λ file offset holds.
       members = of_seen.members;
       in_order = of_seen.in_order;
       good = c.requires.good;
-    }) in
-    let asked : Asked = record { project = c.args.project; files = c.args.files; analysis = c.args.analysis; class = c.deref.result; old = c.args.old; new = c.args.new } in
+    } in
+    let unhindered = none-of asked place c.in_ok-broken.field-0 c.in-None.is (c.in_ok-broken.ensures place is) in
     record {
       class = class-of view files place seen c.args.old.now;
       is_class = named-class view files place seen c.args.old.now of_seen c.requires.written file offset holds;
       tokens_are = ap plain_file_tokens c.deref.ensures.value;
+      stand_apart =
+          subst (λ (tokens : List FileToken). StandApart files (plain_file_tokens tokens)) c.deref.ensures.value
+          (stand-apart asked place is (unhindered in_macro_body) c.classes_stand_on_text_lines.ensures c.listed_stand_apart.ensures);
       other_name = λ same. never c.if-eq.false (subst IsTrue (sym c.eq.ensures) ((bytes_eq-Decides c.args.old.now c.args.new.now).1 same));
-      unhindered = none-of asked place c.in_ok-broken.field-0 c.in-None.is told;
+      unhindered = unhindered;
     }
