@@ -1,3 +1,4 @@
 pub mod Rename
 pub mod Products
 pub mod Laws
+pub mod Steps
