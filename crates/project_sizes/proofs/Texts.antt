@@ -7,7 +7,7 @@ use Rattle.toml_parser.specs.Numbers.{unquoted}
 use Rattle.toml_parser.specs.declared.scalar.Scalar.{Scalar}
 use Rattle.toml_parser.specs.declared.scalar.Scalar.TheVariants.{Boolean, Integer, Float, Datetime}
 use Rattle.toml.specs.Data.{Data, string, array, table, Items, no_items, Members, get_member, push_item}
-use Rattle.toml.specs.Tables.{no_nodes, close, Expression, key_value, std_table, array_table, Document, define}
+use Rattle.toml.specs.Tables.{no_nodes, close, Definition, Expression, key_value, std_table, array_table, Document, define}
 use Rattle.toml.specs.Parse.{read_map, after_byte, after_element, key_equals, keyval, items, members, scalar_data, atom, val, header_key, expression, ends_line, line, lines, skip_bom, parse_document}
 use Rattle.file_outcomes.proofs.TomlStrings.{chosen, Holds, mapped, bound, Short}
 use Rattle.file_outcomes.proofs.TomlTables.{FitsDefinition}
@@ -85,7 +85,7 @@ module _ (limit : ℕ) where
   both P Q None h k = tt
   both P Q (Some x) h k = (h, k)
 
-  wider : (most : ℕ) (x : Rattle.toml.specs.Tables.Definition) → limit ≤ most → SmallDefinition limit x → SmallDefinition most x
+  wider : (most : ℕ) (x : Definition) → limit ≤ most → SmallDefinition limit x → SmallDefinition most x
   wider most (key_value datum) e h = omega (arith, e, h)
   wider most std_table e h = tt
   wider most array_table e h = tt
