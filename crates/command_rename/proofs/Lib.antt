@@ -1,1 +1,3 @@
 mod Said
+mod Decided
+mod Concluding

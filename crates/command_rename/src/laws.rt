@@ -8,6 +8,7 @@ use c_lexer::lines_are_one;
 use kept_products::renamings_keep_products;
 use named_classes::{found_are_named, named_classes_are_one};
 use project_refactorings::{Refactoring, refactorings_are_decided, refactorings_conclude};
+use project_sizes::projects_have_few_files;
 use rename_words::{asks_are_one, fits_are_alike, fits_are_one};
 
 /// The command that the laws of commands which refactor are asked of.
@@ -38,6 +39,7 @@ pub fn rename_concludes()
 {
     refactorings_conclude::<Renaming>();
     found_are_named();
+    projects_have_few_files();
 }
 
 /// What is written where `rename` answers 0 keeps the products of the project that was read.
