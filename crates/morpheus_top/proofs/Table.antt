@@ -1,13 +1,17 @@
 -- The commands have different words, and their statuses are among those of the program.
 use Rattle.std.proofs.Common.{◌≡◌, ◌≢◌, inl, subst, ℕ, zero, suc, ◌<◌, List, [], ◌∷◌, Option, Some, None, refl, sym, ◌∙◌, ap, arith, codes, if◌then◌else◌}
+use Rattle.std.proofs.lemmas.List.Elements.{All-weaker}
 use Rattle.std.specs.List.{Contains}
 use Rattle.std.specs.Str.{bytes_eq}
+use Rattle.text_edits.specs.Files.{PlainFile}
 use Rattle.project_store.specs.States.{StoreState, SinkState}
+use Rattle.command_promises.specs.Courses.{Deed, says, Course, IsThere, Comes}
 use Rattle.command_promises.specs.Commands.{Asked, CourseOf, IsOwn, IsDecidedCommand}
 use Rattle.command_promises.specs.Endings.{Answers}
 use Rattle.command_promises.specs.Promises.{Promises}
 use Rattle.command_promises.proofs.Promising.{promised, all_decided as decided_all}
 use Rattle.command_promises.proofs.Fitting.{is_own}
+use Rattle.command_outcomes.specs.Concluding.{ComesOver}
 use Rattle.quick_form.specs.Quick.{RenamingKeepsBehaviour}
 use Rattle.command_quick.specs.Words.{Renaming}
 use Rattle.command_quick.specs.Behaviour.{BehaviourIsKept}
@@ -109,9 +113,17 @@ behaves keeps words r asked before after sink sink' status t zero_is p =
     let s = p.said (subst IsOwn (sym zero_is) (is_own 0 (inl (omega arith)))) in
     behaviour_kept keeps asked.0 r asked.2 before t after.file s.what s.comes (s.status_is ∙ zero_is) (s.written t)
 
+-- what a course comes to over a store that tells what it holds
+over_told : (course : Course) (store : StoreState) → store.tells → (deed : Deed) → Comes course store deed → ComesOver course store.file deed
+over_told course store t deed comes = record {
+  files = comes.files;
+  are_held = All-weaker (IsThere store) (λ (f : PlainFile). store.file f.name ≡ Some f.bytes) (λ f h. h t) comes.files comes.are_there;
+  leads = comes.leads;
+}
+
 -- the renamed project that `rename` wrote
 pub keeps_products : RenamingsThatAreWrittenKeepProducts → (words : List (List ℕ)) (q : RenameQuery) → Asked rename words q → (before after : StoreState) (sink sink' : SinkState) (status : ℕ) → before.tells → status ≡ 0
     → Promises rename q before after sink sink' status → ProductsAreKept q before.file after.file
 keeps_products keeps words q asked before after sink sink' status t zero_is p =
     let s = p.said (subst IsOwn (sym zero_is) (is_own 0 (inl (omega arith)))) in
-    keeps q before after.file s.what asked.2.good s.comes (s.status_is ∙ zero_is) (s.written t)
+    keeps q before.file after.file s.what asked.2.good (over_told (rename.Does q) before t (says s.what) s.comes) (s.status_is ∙ zero_is) (s.written t)
