@@ -16,7 +16,7 @@ pub(crate) struct Suite {
 }
 
 /// All vectors.
-pub(crate) const SUITES: [Suite; 7] = [
+pub(crate) const SUITES: [Suite; 8] = [
     Suite {
         command: "quick",
         file: "quick.tsv",
@@ -50,6 +50,11 @@ pub(crate) const SUITES: [Suite; 7] = [
     Suite {
         command: "rename",
         file: "rename.tsv",
+        output: Output::Files,
+    },
+    Suite {
+        command: "worked rows of rename",
+        file: "rename_rows.tsv",
         output: Output::Files,
     },
 ];
