@@ -14,6 +14,8 @@ pub enum Which {
     Run,
     /// Whether all products of a project are accepted.
     Check,
+    /// What stands at a place gets a new name in all products of a project.
+    Rename,
 }
 
 /// The command that the word names.
@@ -36,6 +38,9 @@ pub(crate) fn named(word: &str) -> Option<Which>
     }
     if word == "check" {
         return Some(Which::Check);
+    }
+    if word == "rename" {
+        return Some(Which::Rename);
     }
     None
 }

@@ -16,6 +16,9 @@ ghost use Rattle.command_tokens.specs.Tokens as tokens;
 ghost use Rattle.command_run.specs.Words.{RunQuery};
 ghost use Rattle.command_run.specs.Run as run;
 ghost use Rattle.command_check.specs.Check as check;
+ghost use Rattle.rename_words.specs.Words.{RenameQuery};
+ghost use Rattle.command_rename.specs.Rename as rename;
+ghost use Rattle.command_rename.specs.Products.{ProductsAreKept};
 ghost use Rattle.morpheus_top.specs.Commands.{commands, program, IsUsage};
 
 use crate::commands::{Which, named};
@@ -24,6 +27,7 @@ use command_admit::{admit, admit_is_decided};
 use command_check::{check, check_is_decided};
 use command_promises::{Said, Stop, finish, usage};
 use command_quick::{quick, quick_is_decided};
+use command_rename::{rename, rename_is_decided, renamings_that_are_written_keep_products};
 use command_run::{run, run_is_decided};
 use command_tokens::{tokens, tokens_are_decided};
 use project_store::{Sink, Store};
@@ -47,6 +51,7 @@ fn carried_out<S: Store>(
         Which::Tokens => tokens(alloc, further, store),
         Which::Run => run(alloc, further, store),
         Which::Check => check(alloc, further, store),
+        Which::Rename => rename(alloc, further, store),
     }
 }
 
@@ -95,10 +100,11 @@ fn serve<S: Store, K: Sink>(alloc: Global, words: &[String], store: &mut S, out:
 
 /// Carries out a command over a store, gives its report to a sink, and answers the exit status.
 ///
-/// `words` are those after the program's name. The statuses are 0 where the command succeeded, 1 `broken STAGE at NAMES`,
-/// 2 `usage`, 3 `read fault`, 4 `write fault`, 5 `bad project: FAULT`, 6 where the sink failed, 7 `want of memory`,
-/// 9 `not admitted`, `not present` or `not accepted STAGE`, 10 `undefined` and 11 `running` behind what a run put out, and
-/// 12 `not quick at OFFSET`. Only want of memory may come at any time before the first write.
+/// `words` are those after the program's name. The statuses are 0 where the command succeeded, 1 `broken STAGE at NAMES` or
+/// `refused PRECONDITION at NAMES`, 2 `usage`, 3 `read fault`, 4 `write fault`, 5 `bad project: FAULT`, 6 where the sink failed,
+/// 7 `want of memory`, 8 `nothing at the place`, 9 `not admitted`, `not present` or `not accepted STAGE`, 10 `undefined` and
+/// 11 `running` behind what a run put out, and 12 `not quick at OFFSET`. Only want of memory may come at any time before the
+/// first write. Files are written in their order, the project file last; where a write fails, those before it stand whole.
 pub fn morpheus<S: Store, K: Sink>(
     alloc: Global,
     words: &[String],
@@ -125,10 +131,16 @@ pub fn morpheus<S: Store, K: Sink>(
         → Promises run.run q (S.state store.old) (S.state store.new) (K.state out.old) (K.state out.new) result }
     ensures check { (project : List ℕ) → Asked check.check (map string_bytes words.now) project
         → Promises check.check project (S.state store.old) (S.state store.new) (K.state out.old) (K.state out.new) result }
+    ensures rename { (q : RenameQuery) → Asked rename.rename (map string_bytes words.now) q
+        → Promises rename.rename q (S.state store.old) (S.state store.new) (K.state out.old) (K.state out.new) result }
 
     // Every product of the file that `quick` writes behaves as that of the file that was read.
     ensures behaviour { result ≡ 0 → (S.state store.old).tells → (r : Renaming) → Asked quick.quick (map string_bytes words.now) r
         → BehaviourIsKept r (S.state store.old).file (S.state store.new).file }
+
+    // Every product of the project that `rename` writes is accepted and runs as that of the project that was read.
+    ensures products { result ≡ 0 → (S.state store.old).tells → (q : RenameQuery) → Asked rename.rename (map string_bytes words.now) q
+        → ProductsAreKept q (S.state store.old).file (S.state store.new).file }
 {
     // The laws behind the clauses; they do nothing.
     quick_is_decided();
@@ -136,7 +148,9 @@ pub fn morpheus<S: Store, K: Sink>(
     tokens_are_decided();
     run_is_decided();
     check_is_decided();
+    rename_is_decided();
     renaming_keeps_behaviour();
+    renamings_that_are_written_keep_products();
     calls_conclude();
     serve(alloc, words, store, out)
 }

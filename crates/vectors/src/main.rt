@@ -10,6 +10,8 @@ mod admit_rows;
 mod answer;
 mod difference;
 #[cfg(test)]
+mod rename_rows;
+#[cfg(test)]
 mod rows;
 #[cfg(test)]
 mod run_rows;

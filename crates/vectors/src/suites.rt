@@ -16,7 +16,7 @@ pub(crate) struct Suite {
 }
 
 /// All vectors.
-pub(crate) const SUITES: [Suite; 6] = [
+pub(crate) const SUITES: [Suite; 8] = [
     Suite {
         command: "quick",
         file: "quick.tsv",
@@ -45,6 +45,16 @@ pub(crate) const SUITES: [Suite; 6] = [
     Suite {
         command: "worked rows of check",
         file: "check_rows.tsv",
+        output: Output::Files,
+    },
+    Suite {
+        command: "rename",
+        file: "rename.tsv",
+        output: Output::Files,
+    },
+    Suite {
+        command: "worked rows of rename",
+        file: "rename_rows.tsv",
         output: Output::Files,
     },
 ];

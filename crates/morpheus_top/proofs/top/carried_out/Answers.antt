@@ -25,3 +25,7 @@ returns-in-Run-clause-came g c =
 pub returns-in-Check-clause-came : goal.returns-in-Check-clause-came
 returns-in-Check-clause-came g c =
     subst (λ (which : Which). CameTo (CourseFor (commands which) (map string_bytes c.args.further.now)) (g.S.Store.state c.args.store.now) c.check.result) (sym c.in-Check.is) c.check.ensures.came
+
+pub returns-in-Rename-clause-came : goal.returns-in-Rename-clause-came
+returns-in-Rename-clause-came g c =
+    subst (λ (which : Which). CameTo (CourseFor (commands which) (map string_bytes c.args.further.now)) (g.S.Store.state c.args.store.now) c.rename.result) (sym c.in-Rename.is) c.rename.ensures.came
