@@ -1,0 +1,4 @@
+mod Refactored
+mod Standing
+mod Sources
+mod Kept
