@@ -1,12 +1,12 @@
 -- A renaming that was written keeps the products of the project that was read.
 use Rattle.std.proofs.Common.{◌≡◌, ◌≢◌, ℕ, zero, suc, ◌≤◌, Bool, List, [], ◌∷◌, ◌++◌, map, length, All, Some, Option, refl, sym, ◌∙◌, ap, subst, arith}
-use Rattle.std.proofs.lemmas.List.{map-append}
+use Rattle.std.proofs.lemmas.List.{map-append, length-map}
 use Rattle.std.proofs.lemmas.List.Elements.{All-nil, All-cons, All-head, All-tail}
 use Rattle.text_edits.specs.Files.{PlainFile, Lookup}
-use Rattle.c_text.specs.Preprocessing.{built_in_file}
 use Rattle.folder_names.specs.Folders.{in_folder}
 use Rattle.project_file.specs.Projects.{PlainProject, IsProject, AllDiffer}
 use Rattle.project_file.specs.Laws.{Alike, ProjectsAreAlike}
+use Rattle.project_sizes.specs.Laws.{ProjectsHaveFewFiles}
 use Rattle.project_store.specs.Reads.{names_of}
 use Rattle.command_promises.specs.Courses.{Saying, says}
 use Rattle.command_promises.specs.Writing.{PutsAll}
@@ -35,17 +35,14 @@ use Rattle.rename_words.specs.Laws.{FitsAreAlike}
 use Rattle.command_rename.specs.Rename.{renaming, rename, renaming_for}
 use Rattle.command_rename.specs.Products.{HoldsProject, KeepsProducts, ProductsAreKept}
 use Rattle.command_rename.specs.Laws.{RenamingsThatAreWrittenKeepProducts}
+use Rattle.command_rename.proofs.Concluding.{its-files}
 use Rattle.command_rename.proofs.Refactored.{SaysResult, says_result}
 use Rattle.command_rename.proofs.Standing.{stand_in_folder, stays_outside, held_are_one}
 use Rattle.command_rename.proofs.Sources.{all_differ}
 
--- a project has fewer files than there are numbers of files
-abbrev pub FilesAreFew : Type 0
-FilesAreFew = (name bytes : List ℕ) (project : PlainProject) → IsProject name bytes project → length (names_of project) ≤ built_in_file
-
 -- the laws that it follows from
 pub record KeptLaws : Type 0 where
-  pub few : FilesAreFew
+  pub few : ProjectsHaveFewFiles
   pub alike : ProjectsAreAlike
   pub words_alike : FitsAreAlike
   pub classes_alike : ClassesAreAlike
@@ -59,10 +56,6 @@ pub record KeptLaws : Type 0 where
 
 some_is : (x y : List ℕ) → ◌≡◌ {A = Option (List ℕ)} (Some x) (Some y) → x ≡ y
 some_is x y e = cc
-
-length-map : {X Y : Type 0} (f : X → Y) (xs : List X) → length (map f xs) ≡ length xs
-length-map f [] = refl
-length-map f (x ∷ xs) = ap suc (length-map f xs)
 
 renamed_names : (r : Renaming) (number : ℕ) (files : List PlainFile) → map (λ (f : PlainFile). f.name) (renamed_files r number files) ≡ map (λ (f : PlainFile). f.name) files
 renamed_names r number [] = refl
@@ -81,25 +74,24 @@ module _ (laws : KeptLaws) (q : RenameQuery) (good : IsGood q) (before : Lookup)
   abbrev r : Renaming
   r = renaming_for q said.sources said.task
 
-  few : HasItsFiles said.project said.sources
-  few =
-      let same : length said.sources ≡ length (names_of said.project) = sym (length-map (λ (f : PlainFile). f.name) said.sources) ∙ ap length said.names in
-      let bound : length (names_of said.project) ≤ built_in_file = laws.few q.project said.source.bytes said.project said.is_project in
-      record { one_each = same; few = omega (arith, same, bound) }
+  has_files : HasItsFiles said.project said.sources
+  has_files =
+      its-files laws.few q.project said.source.bytes said.project said.sources said.is_project
+      (sym (length-map said.sources (λ (f : PlainFile). f.name)) ∙ ap length said.names)
 
   unhindered : NothingStandsInTheWay said.project said.sources said.task.place r
   unhindered = none_broken said.project said.sources said.task r said.unhindered
 
   apart : StandApart said.sources said.task.tokens
   apart =
-      tokens-apart laws.stand laws.apart said.project said.sources said.task.place said.task.tokens r few said.is_task.found (unhindered in_macro_body) said.is_task.members said.is_task.in_order
+      tokens-apart laws.stand laws.apart said.project said.sources said.task.place said.task.tokens r has_files said.is_task.found (unhindered in_macro_body) said.is_task.members said.is_task.in_order
 
   renames : RenamesClass said.project said.sources said.task.place q.new r
   renames =
       laws.renamed said.project said.sources said.task.place said.task.tokens said.task.old q.new apart (λ token below. said.is_task.members token) said.is_task.written
 
   may : MayBeMade said.project said.sources said.task.place q.new r
-  may = record { has_files = few; renames = renames; found = said.is_task.found; good = good.new; unhindered = unhindered }
+  may = record { has_files = has_files; renames = renames; found = said.is_task.found; good = good.new; unhindered = unhindered }
 
   -- the same of another reading of the project file
   module _ (project : PlainProject) (alike : Alike said.project project) where

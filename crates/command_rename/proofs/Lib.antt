@@ -1,3 +1,5 @@
+mod Decided
+mod Concluding
 mod Refactored
 mod Standing
 mod Sources

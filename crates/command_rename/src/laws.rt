@@ -9,6 +9,7 @@ use kept_products::renamings_keep_products;
 use named_classes::{found_are_named, named_classes_are_one};
 use project_file::projects_are_alike;
 use project_refactorings::{Refactoring, refactorings_are_decided, refactorings_conclude};
+use project_sizes::projects_have_few_files;
 use rename_words::{asks_are_one, fits_are_alike, fits_are_one};
 use renamed_classes::{classes_fit_files, classes_stand_on_text_lines};
 use untouched_classes::untouched_classes_keep_outcomes;
@@ -41,6 +42,7 @@ pub fn rename_concludes()
 {
     refactorings_conclude::<Renaming>();
     found_are_named();
+    projects_have_few_files();
 }
 
 /// What is written where `rename` answers 0 keeps the products of the project that was read.
@@ -48,6 +50,7 @@ pub fn renamings_that_are_written_keep_products()
     ensures { RenamingsThatAreWrittenKeepProducts }
 {
     projects_are_alike();
+    projects_have_few_files();
     fits_are_alike();
     classes_are_alike();
     preconditions_are_alike();

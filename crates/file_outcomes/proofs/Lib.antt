@@ -4,6 +4,6 @@ mod Formulas
 mod Firsts
 mod Texts
 mod Faults
-mod TomlStrings
-mod TomlTables
-mod TomlTexts
+pub mod TomlStrings
+pub mod TomlTables
+pub mod TomlTexts

@@ -55,7 +55,7 @@ module _ (limit : ℕ) where
   got k no_nodes h = tt
   got k (node l x ns) h = chosen (Holds FitsNode) (same_key k l) (Some x) (get_node k ns) h.0 (got k ns h.1)
 
-  ordered : {X : Type 0} (P : X → Type 0) (o : Ordering) (a b c : X) → P a → P b → P c → P (match_ordering o a b c)
+  pub ordered : {X : Type 0} (P : X → Type 0) (o : Ordering) (a b c : X) → P a → P b → P c → P (match_ordering o a b c)
   ordered P Less a b c x y z = x
   ordered P Equal a b c x y z = y
   ordered P Greater a b c x y z = z

@@ -22,7 +22,7 @@ module _ (limit : ℕ) where
   abbrev Texts : Option (List ℕ) → Type 0
   Texts o = Holds (Short limit) o
 
-  blank_short : (text : List ℕ) → Short limit text → Short limit (skip_blank text)
+  pub blank_short : (text : List ℕ) → Short limit text → Short limit (skip_blank text)
   blank_short text h = short_skip limit Rattle.std.proofs.Common.true Rattle.std.proofs.Common.false text h
 
   after_byte_short : (byte : ℕ) (text : List ℕ) → Short limit text → Texts (after_byte byte text)
@@ -35,7 +35,7 @@ module _ (limit : ℕ) where
       let short = blank_short text h in
       chosen Texts (first rest == comma) (Some (drop 1 rest)) _ (short_drop limit 1 rest short) (chosen Texts (first rest == closing) (Some rest) None short tt)
 
-  key_equals_reads : (text : List ℕ) → Short limit text → Reads limit Any (key_equals text)
+  pub key_equals_reads : (text : List ℕ) → Short limit text → Reads limit Any (key_equals text)
   unfolding key_equals
   key_equals_reads text h =
       bound (λ (k : Key × List ℕ). ⊤ × Short limit k.1) (λ (p : Key × List ℕ). ⊤ × Short limit p.1) (λ k. option_map (λ rest. (k.0, skip_ws rest)) (after_byte equals k.1)) (key text) (key_reads limit text h)
@@ -132,7 +132,7 @@ module _ (limit : ℕ) where
       (mapped (λ (p : (Key × Data) × List ℕ). FitsData limit p.0.1 × Short limit p.1) (λ (p : Expression × List ℕ). FitsExpression p.0 × Short limit p.1) (λ p. ((p.0.0, key_value p.0.1), p.1)) (keyval (val recursion_limit) text)
       (keyval_reads (val recursion_limit) (val_reads recursion_limit) text h) (λ p g. g)))
 
-  line_reads : (text : List ℕ) → Short limit text → Reads limit FitsExpression (line text)
+  pub line_reads : (text : List ℕ) → Short limit text → Reads limit FitsExpression (line text)
   unfolding line
   line_reads text h =
       bound (λ (p : Expression × List ℕ). FitsExpression p.0 × Short limit p.1) (λ (p : Expression × List ℕ). FitsExpression p.0 × Short limit p.1) _ (expression text) (expression_reads text h)
@@ -160,7 +160,7 @@ module _ (limit : ℕ) where
       (bound (λ (p : Expression × List ℕ). FitsExpression p.0 × Short limit p.1) FitsDocument _ (line start) (line_reads start short)
       (λ e g. bound FitsDocument FitsDocument (λ next. lines n next e.1) (define doc e.0) (defined doc e.0 f g.0) (λ next k. lines_read n next e.1 k g.1)))
 
-  bom_short : (text : List ℕ) → Short limit text → Short limit (skip_bom text)
+  pub bom_short : (text : List ℕ) → Short limit text → Short limit (skip_bom text)
   unfolding skip_bom
   bom_short text h = chosen (Short limit) ((first text == 0xEF && slice_index text 1 == 0xBB) && slice_index text 2 == 0xBF) (drop 3 text) text (short_drop limit 3 text h) h
 

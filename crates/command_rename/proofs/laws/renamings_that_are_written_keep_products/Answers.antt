@@ -3,7 +3,7 @@ use Rattle.command_rename.proofs.laws.renamings_that_are_written_keep_products.G
 
 pub returns : goal.returns
 returns c = products_kept (record {
-  few = ?;
+  few = c.projects_have_few_files.ensures;
   alike = c.projects_are_alike.ensures;
   words_alike = c.fits_are_alike.ensures;
   classes_alike = c.classes_are_alike.ensures;
