@@ -11,7 +11,7 @@ use Rattle.project_refactorings.specs.Lawful.{HasTasks}
 use Rattle.command_rename.specs.Rename.{renaming}
 
 module _ (few : ProjectsHaveFewFiles) where
-  its-files : (name bytes : List ℕ) (project : PlainProject) (sources : List PlainFile) → IsProject name bytes project → length sources ≡ length (names_of project) → HasItsFiles project sources
+  pub its-files : (name bytes : List ℕ) (project : PlainProject) (sources : List PlainFile) → IsProject name bytes project → length sources ≡ length (names_of project) → HasItsFiles project sources
   its-files name bytes project sources is same = record {
     one_each = same;
     few = subst (λ (n : ℕ). n ≤ built_in_file) (sym same) (few name bytes project is);

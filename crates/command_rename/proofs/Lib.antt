@@ -1,3 +1,7 @@
 mod Said
 mod Decided
 mod Concluding
+mod Refactored
+mod Standing
+mod Sources
+mod Kept

@@ -4,7 +4,7 @@ use Rattle.cond_formula.specs.Features.{has}
 use Rattle.text_edits.specs.Files.{PlainFile, Lookup}
 use Rattle.c_text.specs.Preprocessing.{Outcome, IsPreprocessed}
 use Rattle.core_meaning.specs.Program.{PlainProgram}
-use Rattle.folder_names.specs.Folders.{in_folder}
+use Rattle.folder_names.specs.Folders.{in_folder, IsInFolder}
 use Rattle.project_file.specs.Projects.{PlainProject, IsProject}
 use Rattle.project_store.specs.Reads.{names_of}
 use Rattle.plain_pp.specs.Units.{sources_of, file_of}
@@ -17,7 +17,9 @@ use Rattle.renamed_units.specs.Laws.{SameOutcomes}
 use Rattle.program_occurrences.specs.Classes.{PlainFileToken}
 use Rattle.reference_classes.specs.Preconditions.{IsTouched}
 use Rattle.reference_classes.specs.Renamed.{RenamesClass}
+use Rattle.class_edits.specs.Places.{HoldsByte}
 use Rattle.rename_words.specs.Words.{RenameQuery}
+use Rattle.rename_words.specs.Fits.{Fits}
 
 -- A project file and the project's files stand under the names that are put for theirs.
 pub record HoldsProject (held : Lookup) (put : List ℕ → List ℕ) (name source : List ℕ) (project : PlainProject) (files : List PlainFile) : Type 0 where
@@ -26,13 +28,17 @@ pub record HoldsProject (held : Lookup) (put : List ℕ → List ℕ) (name sour
   pub names : map (λ (f : PlainFile). f.name) files ≡ names_of project
   pub stand : All (λ (f : PlainFile). held (put f.name) ≡ Some f.bytes) files
 
--- The files of one project are those of another with a class of tokens renamed. Each configuration that the project admits is accepted exactly
--- where it was, and has the program that it had and no other, so that it runs as before; or the same stage refuses it. Where no token of the
--- class is read, each unit gives tokens of the same spellings, or is refused for the same reason, whether the configuration is admitted or not.
-pub record KeepsProducts (new : List ℕ) (project : PlainProject) (files renamed : List PlainFile) : Type 0 where
+-- The files of one project are those of another with the class of the token renamed at which the words stand. Each configuration that the
+-- project admits is accepted exactly where it was, and has the program that it had and no other, so that it runs as before; or the same stage
+-- refuses it. Where no token of the class is read, each unit gives tokens of the same spellings, or is refused for the same reason, whether the
+-- configuration is admitted or not.
+pub record KeepsProducts (q : RenameQuery) (project : PlainProject) (files renamed : List PlainFile) : Type 0 where
+  pub number : ℕ
+  pub fits : Fits q project number
   pub place : PlainFileToken
+  pub there : HoldsByte files number q.offset place
   pub r : Renaming
-  pub renames : RenamesClass project files place new r
+  pub renames : RenamesClass project files place q.new r
   pub are_renamed : renamed ≡ renamed_files r 0 files
   pub programs :
       (c : List Bool) → IsAdmitted project c → (p : PlainProgram) → IsProgram project files (has c) p ↔ IsProgram project renamed (has c) p
@@ -43,10 +49,16 @@ pub record KeepsProducts (new : List ℕ) (project : PlainProject) (files rename
       → (outcome : Outcome) → IsPreprocessed (sources_of project files (has c)) (file_of project unit) outcome
       → IsPreprocessed (sources_of project renamed (has c)) (file_of project unit) (renamed_outcome r outcome) × SameOutcomes outcome (renamed_outcome r outcome)
 
--- The project that stood under the names of the words before, and the one that stands in the output folder after: the project file is the
--- same, and the products are kept.
+-- A project stood under the names of the words before, and one with the same project file stands in the output folder after. Nothing else is
+-- written, and however the project file is read, the products are kept.
 pub record ProductsAreKept (q : RenameQuery) (before after : Lookup) : Type 0 where
-  pub copied : after (in_folder q.out q.project) ≡ before q.project
+  pub source : List ℕ
+  pub project : PlainProject
+  pub files : List PlainFile
+  pub renamed : List PlainFile
+  pub stood : HoldsProject before (λ name. name) q.project source project files
+  pub stands : HoldsProject after (in_folder q.out) q.project source project renamed
+  pub elsewhere : (name : List ℕ) → (IsInFolder name q.out → ⊥) → after name ≡ before name
   pub kept :
       (source : List ℕ) (project : PlainProject) (files renamed : List PlainFile) → HoldsProject before (λ name. name) q.project source project files
-      → HoldsProject after (in_folder q.out) q.project source project renamed → KeepsProducts q.new project files renamed
+      → HoldsProject after (in_folder q.out) q.project source project renamed → KeepsProducts q project files renamed

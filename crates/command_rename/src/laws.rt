@@ -3,13 +3,16 @@ ghost use Rattle.command_promises.specs.Commands.{IsDecidedCommand};
 ghost use Rattle.command_rename.specs.Rename as spec;
 ghost use Rattle.command_rename.specs.Laws.{RenameConcludes, RenamingsThatAreWrittenKeepProducts};
 
-use alike_classes::{named_classes_are_alike, preconditions_are_alike};
-use c_lexer::lines_are_one;
+use alike_classes::{classes_are_alike, named_classes_are_alike, preconditions_are_alike};
+use class_edits::{listed_classes_are_renamed, listed_stand_apart};
 use kept_products::renamings_keep_products;
 use named_classes::{found_are_named, named_classes_are_one};
+use project_file::projects_are_alike;
 use project_refactorings::{Refactoring, refactorings_are_decided, refactorings_conclude};
 use project_sizes::projects_have_few_files;
 use rename_words::{asks_are_one, fits_are_alike, fits_are_one};
+use renamed_classes::{classes_fit_files, classes_stand_on_text_lines};
+use untouched_classes::untouched_classes_keep_outcomes;
 
 /// The command that the laws of commands which refactor are asked of.
 struct Renaming;
@@ -46,5 +49,15 @@ pub fn rename_concludes()
 pub fn renamings_that_are_written_keep_products()
     ensures { RenamingsThatAreWrittenKeepProducts }
 {
+    projects_are_alike();
+    projects_have_few_files();
+    fits_are_alike();
+    classes_are_alike();
+    preconditions_are_alike();
+    classes_stand_on_text_lines();
+    listed_stand_apart();
+    listed_classes_are_renamed();
+    classes_fit_files();
     renamings_keep_products();
+    untouched_classes_keep_outcomes();
 }

@@ -1,4 +1,4 @@
-mod Named
+pub mod Named
 mod Told
 mod Captured
 mod First

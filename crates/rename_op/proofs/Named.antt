@@ -2,11 +2,14 @@
 use Rattle.std.proofs.Common.{◌≡◌, ℕ, zero, suc, ◌<◌, List, [], ◌∷◌, length, Some, refl, ap, ◌∙◌, arith}
 use Rattle.std.specs.Prelude.{slice_get, slice_index_or, Contains}
 use Rattle.text_edits.specs.Files.{PlainFile}
-use Rattle.command_projects.specs.Least.{Nowhere}
+use Rattle.command_projects.specs.Least.{Nowhere, Somewhere}
 use Rattle.program_occurrences.specs.Classes.{PlainFileToken}
-use Rattle.reference_classes.specs.Preconditions.{in_macro_body}
+use Rattle.reference_classes.specs.Preconditions.{in_macro_body, IsFound, Breaks}
 use Rattle.reference_classes.specs.Renamed.{RenamesClass}
-use Rattle.tied_tokens.specs.Tokens.{plain_file_tokens}
+use Rattle.tied_tokens.specs.Tokens.{plain_file_tokens, AreInOrder}
+use Rattle.class_touches.specs.Laws.{IsListOf}
+use Rattle.renamings.specs.Renamings.{Renaming}
+use Rattle.renamed_sources.specs.Projects.{HasItsFiles}
 use Rattle.class_edits.specs.Listed.{StandApart}
 use Rattle.class_edits.specs.Places.{IsTokenOf}
 use Rattle.class_edits.specs.Laws.{ListedStandApart, ListedClassesAreRenamed}
@@ -42,14 +45,20 @@ token-of-text project files token below t =
       };
     }
 
+-- The tokens of a class, in their order, stand apart where none of them comes out of the body of a macro.
+pub tokens-apart : ClassesStandOnTextLines → ListedStandApart → (project : PlainProject) (files : List PlainFile) (place : PlainFileToken) (tokens : List PlainFileToken) (r : Renaming)
+    → HasItsFiles project files → Somewhere project (IsFound project files place) → Nowhere project (Breaks project files place r in_macro_body)
+    → IsListOf project files place tokens → AreInOrder tokens → StandApart files tokens
+tokens-apart stand apart project files place tokens r has_files found in_text members in_order =
+    apart files tokens in_order (λ token below among.
+    token-of-text project files token below (stand project files place r has_files found in_text token below ((members token).0 among)))
+
 module _ (asked : Asked) (place : PlainFileToken) (is : IsAsked asked place) (in_text : Nowhere (project_of asked) (BreaksIn asked place in_macro_body)) where
   abbrev tokens : List PlainFileToken
   tokens = plain_file_tokens asked.class.now
 
   pub stand-apart : ClassesStandOnTextLines → ListedStandApart → StandApart (files_of asked) tokens
-  stand-apart stand apart = apart (files_of asked) tokens is.in_order (λ token below among.
-      token-of-text (project_of asked) (files_of asked) token below
-      (stand (project_of asked) (files_of asked) place (renaming asked) is.has_files is.found in_text token below ((is.members token).0 among)))
+  stand-apart stand apart = tokens-apart stand apart (project_of asked) (files_of asked) place tokens (renaming asked) is.has_files is.found in_text is.members is.in_order
 
 -- the laws that it follows from
 pub record NamedLaws : Type 0 where
