@@ -1,8 +1,8 @@
-//! A renaming in a project of a header and two units, whose second write fails.
+//! A renaming in a project of a header and two units: where its second write fails, and where the room for it is told.
 
 use crate::rows::{failing, holds, owned_words};
 use morpheus_top::morpheus;
-use project_store::{MemorySink, MemoryStore};
+use project_store::{MemorySink, MemoryStore, SureSink, SureStore};
 use std::alloc::{AllocError, Global};
 use std::test::Fail;
 use text_edits::{Files, SourceFile};
@@ -42,6 +42,9 @@ const FILES: [(&str, &str); 4] = [
 /// The second write is the sixth call, behind a read of each file.
 const SECOND_WRITE: u32 = 6;
 
+/// The bytes of the four files in `out`, and of their names.
+const ROOM: u64 = 218;
+
 fn files(alloc: Global) -> Result<Files, AllocError> {
     let mut list = Vec::new(alloc);
     for (name, text) in &FILES {
@@ -66,5 +69,18 @@ fn what_is_written_before_a_fault_is_whole(rt: HostRuntime) -> Result<(), Fail> 
     for (name, text) in &FILES {
         assert!(rt; holds(&store, name, Some(text)));
     }
+    Ok(())
+}
+
+#[test]
+fn told_room_suffices(rt: HostRuntime) -> Result<(), Fail> {
+    let alloc = rt.alloc();
+    let words = owned_words(alloc, &["rename", "p.toml", "m.h@4", "y", "out"])?;
+    let mut store = SureStore::new(alloc, files(alloc)?, 4, ROOM)?;
+    let mut out = SureSink::new(alloc, 28)?;
+    assert_eq!(rt; morpheus(alloc, &words, &mut store, &mut out), 0);
+    assert_eq!(rt; out.bytes(), b"renamed 3 tokens in 3 files\n".as_slice());
+    assert_eq!(rt; store.get("out/m.h"), Some(RENAMED_HEADER.as_bytes()));
+    assert_eq!(rt; store.get("out/p.toml"), Some(PROJECT.as_bytes()));
     Ok(())
 }
