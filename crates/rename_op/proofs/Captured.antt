@@ -16,8 +16,8 @@ use Rattle.renamed_classes.specs.Laws.{ClassesMayBeRenamed}
 use Rattle.told_ties.specs.Ties.{named_seen}
 use Rattle.tied_tokens.specs.Ties.{plain_declared_name}
 use Rattle.class_captures.specs.Captures.{AreCaptured, AreWellTold, MayGetName}
-use Rattle.analysed_classes.specs.Laws.{numbered_trees, AnalysesHaveTrees, AnalysesTellWell, ClassesMayGetNames, IdentifiersAreRenamed}
-use Rattle.renamed_captures.specs.Laws.{IsRenamedByBoth, CapturesAreOfTrees}
+use Rattle.rename_op.specs.Analysed.{numbered_trees, AnalysesHaveTrees, AnalysesTellWell, ClassesMayGetNames, IdentifiersAreRenamed}
+use Rattle.rename_op.specs.Captures.{IsRenamedByBoth, CapturesAreOfTrees}
 use Rattle.rename_op.specs.Asked.{IsAsked, NoneBefore, BreaksIn, TellsCause, project_of, files_of, renaming}
 use Rattle.rename_op.specs.declared.asked.Asked.{Asked}
 use Rattle.rename_op.proofs.Named.{NamedLaws, renames-class, on-text-lines}

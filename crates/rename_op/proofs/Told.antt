@@ -13,7 +13,7 @@ use Rattle.class_conditions.specs.Laws.{ConditionsTellPreconditions, TellPrecond
 use Rattle.class_conditions.specs.Told.{some_unit_passes}
 use Rattle.class_touches.specs.Touches.{IsReadAsMacroBy}
 use Rattle.class_touches.specs.Laws.{ListsAreReadAsClasses}
-use Rattle.analysed_classes.specs.Laws.{AnalysesAreTold}
+use Rattle.rename_op.specs.Analysed.{AnalysesAreTold}
 use Rattle.rename_op.specs.Asked.{IsAsked, BreaksIn, TellsCause, project_of, files_of}
 use Rattle.rename_op.specs.declared.asked.Asked.{Asked}
 

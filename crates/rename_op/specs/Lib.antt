@@ -1,2 +1,4 @@
+pub mod Analysed
+pub mod Captures
 pub mod Outcomes
 pub mod Asked

@@ -14,12 +14,13 @@ ghost use Rattle.class_touches.specs.Touches.{IsTouchedBy};
 ghost use Rattle.rename_op.specs.Outcomes.{plain_precondition};
 ghost use Rattle.rename_op.specs.Asked.{IsAsked, NoneBefore, BreaksIn, Tells, project_of, files_of};
 
-use crate::asked::Asked;
-use crate::outcomes::Precondition;
-use analysed_classes::{
+use crate::analysed::{
     analyses_are_told, analyses_have_trees, analyses_tell_well, classes_may_get_names,
     identifiers_are_renamed,
 };
+use crate::asked::Asked;
+use crate::captures::captures_are_of_trees;
+use crate::outcomes::Precondition;
 use class_captures::where_captured;
 use class_conditions::{conditions_tell_preconditions, where_fixed_in, where_in_macro_body};
 use class_edits::{listed_classes_are_renamed, listed_stand_apart};
@@ -27,7 +28,6 @@ use class_touches::{lists_are_read_as_classes, lists_touch_as_classes, read_as_m
 use cond_formula::{Config, Formula, NoMemory, Oracle};
 use project_questions::least_where;
 use reduced_conditions::{both, either};
-use renamed_captures::captures_are_of_trees;
 use renamed_classes::{classes_may_be_renamed, classes_stand_on_text_lines};
 use std::alloc::Global;
 

@@ -2,8 +2,10 @@
 //! the way in all configurations, or which tokens get the new name.
 #![tactic(auto)]
 
+mod analysed;
 mod asked;
 mod breaking;
+mod captures;
 mod operation;
 mod outcomes;
 

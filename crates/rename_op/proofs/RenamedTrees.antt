@@ -16,7 +16,7 @@ use Rattle.renamed_programs.specs.Trees.{SameButName, SameButNames, AllSameButNa
 use Rattle.renamed_products.specs.Products.{renamed_all}
 use Rattle.changed_forests.specs.Renamed.{is_name, copies, is_of_class, with_name, renamed_tree, renamed_trees}
 use Rattle.changed_forests.specs.Numbered.{unsited, AreSameButSites}
-use Rattle.renamed_captures.specs.Laws.{IsRenamedByBoth}
+use Rattle.rename_op.specs.Captures.{IsRenamedByBoth}
 
 -- ---- a name in place of another, and tokens without their sites
 

@@ -1,9 +1,5 @@
-//! Where a renaming captures a name, told by the trees before it (ISO/IEC 9899:2011, 6.2.1, 6.2.2): what is told of a configuration's trees with the
-//! new name in place is so of the project whose files are renamed. Here are the definitions (in `specs/`) and the law, the contract of a function
-//! without a body of its own.
-#![tactic(auto)]
-
-ghost use Rattle.renamed_captures.specs.Laws.{CapturesAreOfTrees};
+//! The law that what the trees of a product tell of captures is so of the files.
+ghost use Rattle.rename_op.specs.Captures.{CapturesAreOfTrees};
 
 use c_tree::tokens_spell_one_unit;
 use moved_names::moves_dont_name;

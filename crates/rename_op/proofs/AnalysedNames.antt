@@ -26,11 +26,11 @@ use Rattle.linked_otherwise.specs.Laws.{ClosedAreRenamedTogether}
 use Rattle.class_touches.specs.Laws.{IsListOf}
 use Rattle.class_occurrences.specs.Laws.{TestsAreOfPreconditions}
 use Rattle.class_captures.specs.Laws.{HaveNames}
-use Rattle.analysed_classes.specs.Laws.{numbered_trees, AnalysesHaveTrees, AnalysesTellWell, ClassesMayGetNames}
-use Rattle.analysed_classes.proofs.Like.{like_in_trees}
-use Rattle.analysed_classes.proofs.Members.{of_class_in, in_of_class}
-use Rattle.analysed_classes.proofs.Brought.{brought_along}
-use Rattle.analysed_classes.proofs.NewName.{renamed_written}
+use Rattle.rename_op.specs.Analysed.{numbered_trees, AnalysesHaveTrees, AnalysesTellWell, ClassesMayGetNames}
+use Rattle.rename_op.proofs.Like.{like_in_trees}
+use Rattle.rename_op.proofs.Members.{of_class_in, in_of_class}
+use Rattle.rename_op.proofs.Brought.{brought_along}
+use Rattle.rename_op.proofs.NewName.{renamed_written}
 
 -- the laws that it follows from
 pub record NamingLaws : Type 0 where

@@ -29,8 +29,8 @@ use Rattle.project_ties.proofs.Products.{have_trees}
 use Rattle.project_analysis.proofs.Numbers.{units_tell}
 use Rattle.project_analysis.proofs.Written.{all_written}
 use Rattle.class_captures.specs.Laws.{HaveNames}
-use Rattle.analysed_classes.specs.Laws.{AnalysesAreTold, numbered_trees, AnalysesHaveTrees, AnalysesTellWell}
-use Rattle.analysed_classes.proofs.Like.{like_in_trees}
+use Rattle.rename_op.specs.Analysed.{AnalysesAreTold, numbered_trees, AnalysesHaveTrees, AnalysesTellWell}
+use Rattle.rename_op.proofs.Like.{like_in_trees}
 
 pub are_told : AnalysesAreTold
 are_told project files a is c product =

@@ -31,8 +31,8 @@ use Rattle.reference_classes.specs.Products.{Product, names_in}
 use Rattle.reference_classes.specs.Preconditions.{IsCaptured, not_accepted, bound_otherwise}
 use Rattle.changed_forests.specs.Numbered.{AreSameButSites}
 use Rattle.class_captures.specs.Captures.{AreCaptured, not_elaborated, bound_otherwise as bound_otherwise_in_trees}
-use Rattle.renamed_captures.specs.Laws.{IsRenamedByBoth, RenamesJust, CapturesAreOfTrees}
-use Rattle.renamed_captures.proofs.Trees.{with_names, unplaced-of-unsited, named-unplaced, trees-named}
+use Rattle.rename_op.specs.Captures.{IsRenamedByBoth, RenamesJust, CapturesAreOfTrees}
+use Rattle.rename_op.proofs.RenamedTrees.{with_names, unplaced-of-unsited, named-unplaced, trees-named}
 
 -- the laws that are put together here
 pub record Laws : Type 0 where

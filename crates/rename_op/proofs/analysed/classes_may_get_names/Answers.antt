@@ -1,5 +1,5 @@
-use Rattle.analysed_classes.proofs.Named.{may_get_names}
-use Rattle.analysed_classes.proofs.laws.classes_may_get_names.Goals as goal
+use Rattle.rename_op.proofs.AnalysedNames.{may_get_names}
+use Rattle.rename_op.proofs.analysed.classes_may_get_names.Goals as goal
 
 pub returns : goal.returns
 returns c = may_get_names (record {

@@ -11,8 +11,8 @@ use Rattle.program_occurrences.specs.Classes.{copied_by}
 use Rattle.changed_forests.specs.Renamed.{is_name, is_of_class}
 use Rattle.class_occurrences.specs.Laws.{TestsAreOfPreconditions}
 use Rattle.renamed_classes.specs.Laws.{ClassesStandInFiles}
-use Rattle.analysed_classes.specs.Laws.{IdentifiersAreRenamed}
-use Rattle.analysed_classes.proofs.Members.{of_class_in, in_of_class}
+use Rattle.rename_op.specs.Analysed.{IdentifiersAreRenamed}
+use Rattle.rename_op.proofs.Members.{of_class_in, in_of_class}
 
 -- what is renamed stands in one of the files, if elsewhere nothing is
 in_some_file : (r : Renaming) (files : List PlainFile) → ((number : ℕ) → length files ≤ number → r.spans number ≡ []) → (number : ℕ) (span : PlainSpan)

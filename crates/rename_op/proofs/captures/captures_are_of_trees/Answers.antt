@@ -1,5 +1,5 @@
-use Rattle.renamed_captures.proofs.Captures.{captures-of-trees}
-use Rattle.renamed_captures.proofs.captures_are_of_trees.Goals as goal
+use Rattle.rename_op.proofs.FileCaptures.{captures-of-trees}
+use Rattle.rename_op.proofs.captures.captures_are_of_trees.Goals as goal
 
 pub returns : goal.returns
 returns c = captures-of-trees (record {

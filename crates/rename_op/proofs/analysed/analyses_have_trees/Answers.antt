@@ -1,5 +1,5 @@
-use Rattle.analysed_classes.proofs.Products.{trees_are}
-use Rattle.analysed_classes.proofs.laws.analyses_have_trees.Goals as goal
+use Rattle.rename_op.proofs.Products.{trees_are}
+use Rattle.rename_op.proofs.analysed.analyses_have_trees.Goals as goal
 
 pub returns : goal.returns
 returns c =

@@ -1,5 +1,5 @@
 //! Laws of analyses and classes. Each function is its contract.
-ghost use Rattle.analysed_classes.specs.Laws.{AnalysesAreTold, AnalysesHaveTrees, AnalysesTellWell, ClassesMayGetNames, IdentifiersAreRenamed};
+ghost use Rattle.rename_op.specs.Analysed.{AnalysesAreTold, AnalysesHaveTrees, AnalysesTellWell, ClassesMayGetNames, IdentifiersAreRenamed};
 
 use c_tree::tokens_spell_one_unit;
 use changed_forests::{changes_are_seen, numberings_are_seen, sites_dont_matter};

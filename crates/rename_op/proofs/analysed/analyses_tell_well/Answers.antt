@@ -1,5 +1,5 @@
-use Rattle.analysed_classes.proofs.Products.{tell_well}
-use Rattle.analysed_classes.proofs.laws.analyses_tell_well.Goals as goal
+use Rattle.rename_op.proofs.Products.{tell_well}
+use Rattle.rename_op.proofs.analysed.analyses_tell_well.Goals as goal
 
 pub returns : goal.returns
 returns c = tell_well (record {

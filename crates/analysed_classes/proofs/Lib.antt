@@ -1,7 +1,0 @@
-mod Like
-mod Products
-mod Members
-mod Brought
-mod NewName
-mod Named
-mod Renamed
