@@ -7,38 +7,6 @@ use std::alloc::{AllocError, Global};
 use std::test::Fail;
 use text_edits::{Files, SourceFile};
 
-const PROJECT: &str = "features = [\"A\"]
-headers = [\"m.h\"]
-[[unit]]
-file = \"m.c\"
-[[unit]]
-file = \"n.c\"
-";
-
-const HEADER: &str = "int x;
-";
-
-const RENAMED_HEADER: &str = "int y;
-";
-
-const MAIN: &str = "#include \"m.h\"
-int main(void) { return x; }
-";
-
-const OTHER: &str = "#include \"m.h\"
-#ifdef A
-int f(void) { return x; }
-#endif
-";
-
-/// The names and the texts of the project.
-const FILES: [(&str, &str); 4] = [
-    ("p.toml", PROJECT),
-    ("m.h", HEADER),
-    ("m.c", MAIN),
-    ("n.c", OTHER),
-];
-
 /// The sample project.
 const SAMPLE: [(&str, &str); 4] = [
     ("p.toml", SAMPLE_PROJECT),
@@ -131,7 +99,7 @@ const HIDING: [(&str, &str); 2] = [
 const SECOND_WRITE: u32 = 6;
 
 /// The bytes of the four files in `out`, and of their names.
-const ROOM: u64 = 218;
+const ROOM: u64 = 872;
 
 fn files_of(alloc: Global, texts: &[(&str, &str)]) -> Result<Files, AllocError> {
     let mut list = Vec::new(alloc);
@@ -179,12 +147,15 @@ fn a_refusal_that_is_not_printed_writes_nothing(rt: HostRuntime) -> Result<(), F
 #[test]
 fn told_room_suffices(rt: HostRuntime) -> Result<(), Fail> {
     let alloc = rt.alloc();
-    let words = owned_words(alloc, &["rename", "p.toml", "m.h@4", "y", "out"])?;
-    let mut store = SureStore::new(alloc, files_of(alloc, &FILES)?, 4, ROOM)?;
+    let words = owned_words(alloc, &["rename", "p.toml", "counter.h@111", "sum", "out"])?;
+    let mut store = SureStore::new(alloc, files_of(alloc, &SAMPLE)?, 4, ROOM)?;
     let mut out = SureSink::new(alloc, 28)?;
     assert_eq!(rt; morpheus(alloc, &words, &mut store, &mut out), 0);
-    assert_eq!(rt; out.bytes(), b"renamed 3 tokens in 3 files\n".as_slice());
-    assert_eq!(rt; store.get("out/m.h"), Some(RENAMED_HEADER.as_bytes()));
-    assert_eq!(rt; store.get("out/p.toml"), Some(PROJECT.as_bytes()));
+    assert_eq!(rt; out.bytes(), b"renamed 5 tokens in 3 files\n".as_slice());
+    assert_eq!(rt;
+        store.get("out/counter.h"),
+        Some(RENAMED_COUNTER_HEADER.as_bytes())
+    );
+    assert_eq!(rt; store.get("out/p.toml"), Some(SAMPLE_PROJECT.as_bytes()));
     Ok(())
 }
