@@ -11,6 +11,7 @@ use Rattle.command_promises.specs.Courses.{Deed, says}
 use Rattle.command_promises.specs.Sayings.{usage}
 use Rattle.command_projects.specs.Least.{IsAdmitted, Nowhere, Somewhere, IsLeast}
 use Rattle.command_projects.specs.Projects.{Unless}
+use Rattle.sat_core.specs.declared.answers.Proof.{Proof}
 use Rattle.project_questions.proofs.Same.{nowhere-of-same, least-of-same}
 use Rattle.project_refactorings.specs.Refactorings.{refused_at, put_in, refactored, Asking, Refactors}
 use Rattle.renamings.specs.Renamings.{Renaming, renamed_files}
@@ -141,10 +142,10 @@ module _ (q : RenameQuery) (source : PlainFile) (project : PlainProject) (file :
       asked h.class h.is_class h.other_name deed (refusal-asked h.class h.is_class h.other_name p c deed h.first.none_before h.first.least e)
 
   pub renaming-said :
-      (tokens : List PlainFileToken) → IsRenamed project sources file q.offset q.new tokens → (deed : Deed)
+      (tokens : List PlainFileToken) (proofs : List Proof) → IsRenamed project sources file q.offset q.new tokens proofs → (deed : Deed)
       → ((old : List ℕ) → deed ≡ says (put_in q.out (renamed_files (renaming_of (length sources) tokens old q.new) 0 sources ++ source ∷ []) (report_of (renaming_of (length sources) tokens old q.new) sources)))
       → Refactors renaming q source project file sources [] deed
-  renaming-said tokens h deed said =
+  renaming-said tokens proofs h deed said =
       asked h.class h.is_class h.other_name deed (none-asked h.class h.is_class h.other_name h.unhindered deed
       (subst (λ (ts : List PlainFileToken). deed ≡ says (put_in q.out (renamed_files (renaming_of (length sources) ts h.class.old q.new) 0 sources ++ source ∷ []) (report_of (renaming_of (length sources) ts h.class.old q.new) sources)))
       (sym h.tokens_are) (said h.class.old)))

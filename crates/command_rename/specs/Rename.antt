@@ -1,5 +1,5 @@
 -- The command `rename PROJECT FILE@OFFSET NEW OUT`: what stands at a place gets a new name in all products of a project.
-use Rattle.std.specs.Prelude.{ℕ, List, length, map, codes}
+use Rattle.std.specs.Prelude.{ℕ, List, map, codes}
 use Rattle.std.specs.Str.{bytes_eq}
 use Rattle.text_edits.specs.Files.{PlainFile}
 use Rattle.command_promises.specs.Commands.{Command}
@@ -7,14 +7,14 @@ use Rattle.project_refactorings.specs.Refactorings.{RefactoringCommand, command_
 use Rattle.renamings.specs.Renamings.{Renaming, renamed_files}
 use Rattle.reference_classes.specs.Preconditions.{precondition_name, preconditions, BreaksNamed}
 use Rattle.reference_classes.specs.Renamed.{report_of}
-use Rattle.class_edits.specs.Listed.{renaming_of}
 use Rattle.named_classes.specs.Classes.{NamedClass, Finds, IsNamedClass}
+use Rattle.rename_op.specs.Outcomes.{renaming_to}
 use Rattle.rename_words.specs.Words.{RenameQuery, Asks}
 use Rattle.rename_words.specs.Fits.{Fits}
 
 -- the class with the new name that the words give it
 abbrev pub renaming_for : RenameQuery → List PlainFile → NamedClass → Renaming
-renaming_for q sources class = renaming_of (length sources) class.tokens class.old q.new
+renaming_for q sources = renaming_to sources q.new
 
 -- The task is the class of the token at the place; where the words fit the project, they say which of its files that is in.
 abbrev pub renaming : RefactoringCommand

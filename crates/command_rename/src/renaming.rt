@@ -121,7 +121,7 @@ fn of_sources(
             let said = refused_at(alloc, &text.project, precondition.name(), least)?;
             Ok(said)
         }
-        Outcome::Renamed(class) => {
+        Outcome::Renamed(class, _) => {
             let said = renamed(alloc, query, text, files, &class)?;
             Ok(said)
         }

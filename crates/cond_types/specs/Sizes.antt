@@ -14,6 +14,10 @@ abbrev pub is_plain_declarator : Kind → Bool
 is_plain_declarator k.Declarator = true
 is_plain_declarator kind = false
 
+abbrev pub is_plain_tree : PlainTree → Bool
+is_plain_tree (leaf token) = false
+is_plain_tree (node kind parts) = is_plain_declarator kind
+
 abbrev pub is_list : Kind → Bool
 is_list k.Declarators = true
 is_list kind = false

@@ -161,6 +161,36 @@ fn where_some_expansion(
     Ok(so_far)
 }
 
+/// Whether an item is a declarator without brackets.
+#[tactic(auto, using(choice_trees::specs::ItemLaws::item_kinds))]
+fn is_plain_item(item: &Item) -> bool
+    ensures { (on : ℕ → Bool) → result ≡ spec.is_plain_tree (item_at on (plain_item item.now)) }
+{
+    match item {
+        Item::Leaf(..) => false,
+        Item::Node(kind, _) => is_plain_declarator(*kind),
+    }
+}
+
+/// Where the object of a declarator is too big. One with brackets declares no such object, so its parameters aren't read.
+fn where_declarator_big<O: Oracle>(
+    alloc: Global,
+    oracle: &mut O,
+    tables: &Tables,
+    item: &Item,
+) -> Result<Formula, NoMemory>
+    ensures kept { O.admits oracle.new ≡ O.admits oracle.old }
+    ensures big { IfOk result (λ f. (c : List Bool) → IsTrue (value (has c) (O.admits oracle.old)) → value (has c) (condition_of f)
+        ≡ spec.is_big_declarator (seen_tables (has c) tables.now) (item_at (has c) (plain_item item.now))) }
+{
+    if !is_plain_item(item) {
+        return never();
+    }
+    let all = expansions(alloc, oracle, item)?;
+    let f = where_some_expansion(alloc, tables, &all)?;
+    Ok(f)
+}
+
 // ---- lists of declarators, declarations and items
 
 /// Whether the object of a declarator is too big.
@@ -178,9 +208,7 @@ impl<'t> Question for BigDeclarator<'t> {
         oracle: &mut O,
         item: &Item,
     ) -> Result<Formula, NoMemory> {
-        let all = expansions(alloc, oracle, item)?;
-        let f = where_some_expansion(alloc, self.tables, &all)?;
-        Ok(f)
+        where_declarator_big(alloc, oracle, self.tables, item)
     }
 }
 

@@ -1,13 +1,16 @@
--- A least model of a formula among those that a project admits is the least configuration.
+-- What is answered of a project's model and a formula is what is found of the configurations that it admits.
 use Rattle.std.proofs.Common.{◌≡◌, ℕ, ◌≤◌, Bool, true, false, ◌&&◌, List, length, Option, Some, None, IsTrue, refl, sym, subst, ◌∙◌, ◌⊎◌, arith}
-use Rattle.std.specs.Prelude.{MatchOption}
 use Rattle.cond_formula.specs.Features.{has}
 use Rattle.cond_formula.specs.Conditions.{Condition, value, VarsBelow}
-use Rattle.sat_core.specs.Models.{HasNoModel, IsLeastModel, AreSame, IsLess}
+use Rattle.sat_core.specs.Models.{IsLeastModel, AreSame, IsLess}
+use Rattle.sat_core.specs.declared.answers.Proof.{Proof}
 use Rattle.verdict_query.specs.Verdicts.{where_admitted, FewerFeaturesLaw}
 use Rattle.project_file.specs.Projects.{PlainProject}
 use Rattle.command_projects.specs.Least.{IsAdmitted, Nowhere, IsLeast}
-use Rattle.project_questions.specs.Questions.{IsTrueIn}
+use Rattle.project_questions.specs.Questions.{IsTrueIn, ShowsNone, IsFound}
+use Rattle.project_questions.specs.Steps.{IsVerdictFound}
+use Rattle.project_questions.specs.declared.Finding.{Finding}
+use Rattle.project_questions.specs.declared.Finding.TheVariants.{Least, Never}
 
 second_false : (a b : Bool) → IsTrue a → (a && (b && true)) ≡ false → b ≡ false
 second_false true true h e = e
@@ -28,12 +31,6 @@ both_true true true h e = refl
 both_true true false h e = e
 both_true false b h e = h
 
-pub found_over :
-    FewerFeaturesLaw → (features : ℕ) → features ≤ 128 → (model f : Condition) → VarsBelow features model → VarsBelow features f → (found : Option (List Bool))
-    → MatchOption found (HasNoModel (where_admitted model f)) (IsLeastModel 128 (where_admitted model f)) → MatchOption found (HasNoModel (where_admitted model f)) (IsLeastModel features (where_admitted model f))
-found_over fewer features few model f model_below below None none = none
-found_over fewer features few model f model_below below (Some config) least = fewer features 128 few (where_admitted model f) (model_below, (below, tt)) config least
-
 module _ (project : PlainProject) (f : Condition) (features : ℕ) (count : length project.features ≡ features) where
   is_least : (c : List Bool) → IsLeastModel features (where_admitted project.model f) c → IsLeast project (IsTrueIn f) c
   is_least c is = record {
@@ -47,10 +44,16 @@ module _ (project : PlainProject) (f : Condition) (features : ℕ) (count : leng
         (is.least (has other) (both_true (value (has other) project.model) (value (has other) f) admitted.admitted holds));
   }
 
-  pub found_is : (found : Option (List Bool)) → MatchOption found (HasNoModel (where_admitted project.model f)) (IsLeastModel features (where_admitted project.model f)) → MatchOption found (Nowhere project (IsTrueIn f)) (IsLeast project (IsTrueIn f))
-  found_is None none = λ c admitted holds.
-      let no : value (has c) f ≡ false = second_false (value (has c) project.model) (value (has c) f) admitted.admitted (none (has c)) in
-      let yes : value (has c) f ≡ true = holds in
-      let both : ◌≡◌ {A = Bool} false true = sym no ∙ yes in
-      cc
-  found_is (Some c) is = is_least c is
+  -- what is answered of a condition that names none but the project's features is what is found of the configurations
+  pub found-is : FewerFeaturesLaw → features ≤ 128 → VarsBelow features project.model → VarsBelow features f → (found : Finding) → IsVerdictFound project.model f found → IsFound project (IsTrueIn f) found
+  found-is fewer few model_below below (Least c) least =
+      is_least c (fewer features 128 few (where_admitted project.model f) (model_below, (below, tt)) c least)
+  found-is fewer few model_below below (Never proof) refutes = record { question = f; asks = λ c admitted. (λ h. h, λ h. h); refutes = refutes }
+
+-- where a proof shows that no configuration is such, none is
+pub none-shown : (project : PlainProject) (Holds : List Bool → Type 0) (proof : Proof) → ShowsNone project Holds proof → Nowhere project Holds
+none-shown project Holds proof shown c admitted holds =
+    let no : value (has c) shown.question ≡ false = second_false (value (has c) project.model) (value (has c) shown.question) admitted.admitted (shown.refutes.no_model (has c)) in
+    let yes : value (has c) shown.question ≡ true = (shown.asks c admitted).1 holds in
+    let both : ◌≡◌ {A = Bool} false true = sym no ∙ yes in
+    cc

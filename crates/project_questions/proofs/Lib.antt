@@ -1,2 +1,2 @@
-mod Found
+pub mod Found
 pub mod Same

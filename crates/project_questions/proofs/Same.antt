@@ -1,8 +1,10 @@
--- The least configuration of which one thing holds, where another holds of the same.
-use Rattle.std.proofs.Common.{Bool, List, Option, Some, None}
-use Rattle.std.specs.Prelude.{◌↔◌, MatchOption}
+-- What is found of the configurations of which one thing holds, where another holds of the same.
+use Rattle.std.specs.Prelude.{◌↔◌, Bool, List}
 use Rattle.project_file.specs.Projects.{PlainProject}
 use Rattle.command_projects.specs.Least.{IsAdmitted, Nowhere, IsLeast}
+use Rattle.project_questions.specs.Questions.{IsFound}
+use Rattle.project_questions.specs.declared.Finding.{Finding}
+use Rattle.project_questions.specs.declared.Finding.TheVariants.{Least, Never}
 
 module _ (project : PlainProject) (Holds Other : List Bool → Type 0) (same : (c : List Bool) → IsAdmitted project c → Holds c ↔ Other c) where
   pub nowhere-of-same : Nowhere project Holds → Nowhere project Other
@@ -15,6 +17,10 @@ module _ (project : PlainProject) (Holds Other : List Bool → Type 0) (same : (
     least = λ other admitted holds. is.least other admitted ((same other admitted).1 holds);
   }
 
-  pub found-of-same : (found : Option (List Bool)) → MatchOption found (Nowhere project Holds) (IsLeast project Holds) → MatchOption found (Nowhere project Other) (IsLeast project Other)
-  found-of-same None none = nowhere-of-same none
-  found-of-same (Some c) is = least-of-same c is
+  pub found-of-same : (found : Finding) → IsFound project Holds found → IsFound project Other found
+  found-of-same (Least c) is = least-of-same c is
+  found-of-same (Never proof) shown = record {
+    question = shown.question;
+    asks = λ c admitted. (λ h. (same c admitted).0 ((shown.asks c admitted).0 h), λ x. (shown.asks c admitted).1 ((same c admitted).1 x));
+    refutes = shown.refutes;
+  }

@@ -30,6 +30,7 @@ use plain_pp::outcomes_are_one;
 use project_check::{ParsedUnits, where_parsed_broken};
 use project_file::Project;
 use project_program::programs_are_one;
+use refuted_parts::without_refuted;
 use std::alloc::Global;
 use text_edits::Files;
 use tied_tokens::{DeclaredName, Tie, TiedTokens};
@@ -75,7 +76,8 @@ fn where_accepted<O: Oracle>(
     ensures exact { IfOk result (λ f. (c : List Bool) → IsOwn (length project.now.features.items) (O.admits oracle.old) c
         → TellsProgram (not (value (has c) (condition_of f))) (project_view project.now) (plain_files files.now) (has c)) }
 {
-    let broken = where_parsed_broken(alloc, oracle, project, files, parsed)?;
+    let anywhere = where_parsed_broken(alloc, oracle, project, files, parsed)?;
+    let broken = without_refuted(alloc, oracle, &anywhere)?;
     let elsewhere = Formula::not(alloc, broken)?;
     let f = own_condition(alloc, oracle, project.features.len(), &elsewhere)?;
     Ok(f)

@@ -1,17 +1,20 @@
 -- The first precondition that is broken.
-use Rattle.std.proofs.Common.{◌≡◌, Bool, true, false, ◌&&◌, List, Option, Some, None, IsTrue, refl, sym, subst}
-use Rattle.std.specs.Prelude.{◌↔◌, MatchOption}
+use Rattle.std.proofs.Common.{◌≡◌, Bool, true, false, ◌&&◌, List, [], ◌∷◌, ◌++◌, IsTrue, refl, sym, subst}
+use Rattle.std.specs.Prelude.{◌↔◌}
+use Rattle.std.specs.List.{AllByRecursion}
 use Rattle.cond_formula.specs.Features.{has}
 use Rattle.cond_formula.specs.Conditions.{Condition, value}
-use Rattle.command_projects.specs.Least.{IsAdmitted, Nowhere, IsLeast}
+use Rattle.sat_core.specs.declared.answers.Proof.{Proof}
+use Rattle.project_file.specs.Projects.{PlainProject}
+use Rattle.command_projects.specs.Least.{IsAdmitted, Nowhere}
 use Rattle.program_occurrences.specs.Classes.{PlainFileToken}
-use Rattle.reference_classes.specs.Preconditions.{Precondition, broken, in_macro_body, macro_name, fixed, capture, IsTouched}
+use Rattle.reference_classes.specs.Preconditions.{Precondition, broken, in_macro_body, macro_name, fixed, capture, preconditions, IsTouched}
 use Rattle.renamed_classes.specs.Renaming.{NothingStandsInTheWay}
-use Rattle.rename_op.specs.Asked.{BreaksIn, TellsCause, TellsFirst, project_of, files_of, renaming}
+use Rattle.rename_op.specs.Asked.{BreaksIn, TellsCause, project_of, files_of, renaming}
 use Rattle.rename_op.specs.declared.asked.Asked.{Asked}
-use Rattle.project_questions.specs.Questions.{IsTrueIn}
-use Rattle.rename_op.specs.declared.outcomes.Precondition as code
-use Rattle.rename_op.specs.Outcomes.{plain_precondition, IsFirstBroken}
+use Rattle.project_questions.specs.Questions.{IsTrueIn, ShowsNone}
+use Rattle.project_questions.proofs.Found.{none-shown}
+use Rattle.rename_op.specs.Outcomes.{AreShown}
 
 both-first : (a b : Bool) → IsTrue (a && b) → IsTrue a
 both-first true b h = refl
@@ -43,32 +46,35 @@ breaks-told asked place precondition read caused breaking same touched tells c a
         subst IsTrue (sym (same (has c)))
         (both-from (value (has c) read) (value (has c) caused) ((touched c admitted).1 x.touched) ((tells c admitted x.touched).1 x.stands_in_the_way))
 
+-- a condition that has the same value in each admitted configuration tells the same
+pub told-of-same :
+    (asked : Asked) (place : PlainFileToken) (precondition : Precondition) (caused live : Condition)
+    → ((c : List Bool) → IsAdmitted (project_of asked) c → value (has c) live ≡ value (has c) caused)
+    → TellsCause asked place precondition caused → TellsCause asked place precondition live
+told-of-same asked place precondition caused live same tells c admitted touched =
+    (λ h. (tells c admitted touched).0 (subst IsTrue (same c admitted) h), λ x. subst IsTrue (sym (same c admitted)) ((tells c admitted touched).1 x))
+
+module _ (project : PlainProject) (Holds : Precondition → List Bool → Type 0) where
+  pub none-before : (preconditions : List Precondition) (proofs : List Proof) → AreShown project Holds preconditions proofs → AllByRecursion (λ p. Nowhere project (Holds p)) preconditions
+  none-before [] proofs shown = tt
+  none-before (p ∷ preconditions) [] shown = absurd shown
+  none-before (p ∷ preconditions) (proof ∷ proofs) shown = (none-shown project (Holds p) proof shown.0, none-before preconditions proofs shown.1)
+
+  pub one-more :
+      (preconditions : List Precondition) (proofs : List Proof) (p : Precondition) (proof : Proof) → AreShown project Holds preconditions proofs → ShowsNone project (Holds p) proof
+      → AreShown project Holds (preconditions ++ p ∷ []) (proofs ++ proof ∷ [])
+  one-more [] [] p proof shown none = (none, tt)
+  one-more [] (other ∷ proofs) p proof shown none = absurd shown
+  one-more (q ∷ preconditions) [] p proof shown none = absurd shown
+  one-more (q ∷ preconditions) (other ∷ proofs) p proof shown none = (shown.0, one-more preconditions proofs p proof shown.1 none)
+
 module _ (asked : Asked) (place : PlainFileToken) where
-  module _ (precondition : Precondition) (found : Option (List Bool)) where
-    -- what is answered of a precondition
-    abbrev Answers : Option (List Bool) → Type 0
-    Answers o = MatchOption o (Nowhere (project_of asked) (BreaksIn asked place precondition)) (IsLeast (project_of asked) (BreaksIn asked place precondition))
-
-    pub is-least : (c : List Bool) → found ≡ Some c → Answers found → IsLeast (project_of asked) (BreaksIn asked place precondition) c
-    is-least c e h = subst Answers e h
-
-    pub is-nowhere : found ≡ None → Answers found → Nowhere (project_of asked) (BreaksIn asked place precondition)
-    is-nowhere e h = subst Answers e h
-
-  abbrev Nothing : Precondition → Type 0
-  Nothing precondition = Nowhere (project_of asked) (BreaksIn asked place precondition)
-
-  pub in-none : Nothing broken → Nothing in_macro_body → Nothing macro_name → Nothing fixed → Nothing capture → NothingStandsInTheWay (project_of asked) (files_of asked) place (renaming asked)
-  in-none a b k d e broken = a
-  in-none a b k d e in_macro_body = b
-  in-none a b k d e macro_name = k
-  in-none a b k d e fixed = d
-  in-none a b k d e capture = e
-
-  pub first-of :
-      (found : Option (code.Precondition × List Bool)) (precondition : code.Precondition) (c : List Bool) → found ≡ Some (precondition, c) → TellsFirst asked place found
-      → IsFirstBroken (project_of asked) (files_of asked) place (renaming asked) (plain_precondition precondition) c
-  first-of found precondition c e h = subst (TellsFirst asked place) e h
-
-  pub none-of : (found : Option (code.Precondition × List Bool)) → found ≡ None → TellsFirst asked place found → NothingStandsInTheWay (project_of asked) (files_of asked) place (renaming asked)
-  none-of found e h = subst (TellsFirst asked place) e h
+  pub unhindered : (proofs : List Proof) → AreShown (project_of asked) (BreaksIn asked place) preconditions proofs → NothingStandsInTheWay (project_of asked) (files_of asked) place (renaming asked)
+  unhindered proofs shown = by (none-before (project_of asked) (BreaksIn asked place) preconditions proofs shown)
+    where
+      by : AllByRecursion (λ p. Nowhere (project_of asked) (BreaksIn asked place p)) preconditions → NothingStandsInTheWay (project_of asked) (files_of asked) place (renaming asked)
+      by none broken = none.0
+      by none in_macro_body = none.1.0
+      by none macro_name = none.1.1.0
+      by none fixed = none.1.1.1.0
+      by none capture = none.1.1.1.1.0

@@ -1,6 +1,6 @@
 -- The list of a class whose tokens are names on text lines is renamed as the class.
-use Rattle.std.proofs.Common.{◌≡◌, ℕ, zero, suc, ◌<◌, List, [], ◌∷◌, length, Some, refl, ap, ◌∙◌, arith}
-use Rattle.std.specs.Prelude.{slice_get, slice_index_or, Contains}
+use Rattle.std.proofs.Common.{◌<◌, List, [], length, refl, ap, ◌∙◌}
+use Rattle.std.specs.Prelude.{slice_index_or}
 use Rattle.text_edits.specs.Files.{PlainFile}
 use Rattle.command_projects.specs.Least.{Nowhere, Somewhere}
 use Rattle.program_occurrences.specs.Classes.{PlainFileToken}
@@ -17,12 +17,8 @@ use Rattle.project_file.specs.Projects.{PlainProject}
 use Rattle.renamed_classes.specs.Laws.{IsTextNameSomewhere, ClassesStandOnTextLines}
 use Rattle.renamed_classes.specs.Renaming.{RenamesOnTextLines}
 use Rattle.rename_op.specs.Asked.{IsAsked, BreaksIn, project_of, files_of, renaming}
+use Rattle.renamed_classes.proofs.OneName.{file-below}
 use Rattle.rename_op.specs.declared.asked.Asked.{Asked}
-
-file-below : (files : List PlainFile) (n : ℕ) (other : PlainFile) → n < length files → slice_get files n ≡ Some (slice_index_or files n other)
-file-below [] n other below = absurd (omega (arith, below))
-file-below (first ∷ files) zero other below = refl
-file-below (first ∷ files) (suc n) other below = file-below files n other (omega (arith, below))
 
 -- a name on a text line is a token of the file's text
 token-of-text : (project : PlainProject) (files : List PlainFile) (token : PlainFileToken) → token.file < length files → IsTextNameSomewhere project files token → IsTokenOf files token

@@ -1,5 +1,5 @@
 -- What is known of a class when it is asked what stands in the way of its renaming, and what a condition tells of a precondition.
-use Rattle.std.specs.Prelude.{◌↔◌, Bool, List, length, IsTrue, Option, Some, None}
+use Rattle.std.specs.Prelude.{◌↔◌, Bool, List, length, IsTrue}
 use Rattle.std.specs.List.{AllByRecursion}
 use Rattle.text_edits.specs.Files.{PlainFile, plain_files}
 use Rattle.c_names.specs.Names.{is_new_name}
@@ -17,10 +17,10 @@ use Rattle.tied_tokens.specs.Tokens.{plain_file_tokens, AreInOrder}
 use Rattle.class_touches.specs.Laws.{IsListOf}
 use Rattle.class_edits.specs.Listed.{renaming_of}
 use Rattle.project_analysis.specs.Analysed.{IsAnalysed}
-use Rattle.renamed_classes.specs.Renaming.{NothingStandsInTheWay}
-use Rattle.rename_op.specs.declared.outcomes.Precondition as code
-use Rattle.rename_op.specs.Outcomes.{plain_precondition, earlier, IsFirstBroken}
+use Rattle.rename_op.specs.Outcomes.{plain_precondition, earlier, IsFirstBroken, AreShown}
 use Rattle.rename_op.specs.declared.asked.Asked.{Asked}
+use Rattle.rename_op.specs.declared.asked.Answered.{Answered}
+use Rattle.rename_op.specs.declared.asked.Answered.TheVariants.{FirstBroken, Unbroken}
 
 module _ (asked : Asked) where
   abbrev pub project_of : PlainProject
@@ -56,12 +56,11 @@ module _ (asked : Asked) where
         (c : List Bool) → IsAdmitted project_of c → IsTouched project_of files_of place c
         → IsTrue (value (has c) condition) ↔ StandsInTheWay project_of files_of place renaming precondition c
 
+    -- What is answered of these preconditions: the first that is broken; or none is, as there is a proof for each.
+    abbrev pub TellsFirst : List Precondition → Answered → Type 0
+    TellsFirst preconditions (FirstBroken precondition c) = IsFirstBroken project_of files_of place renaming (plain_precondition precondition) c
+    TellsFirst preconditions (Unbroken proofs) = AreShown project_of BreaksIn preconditions proofs.items
+
   -- so the condition does, whatever place it is that the class was asked of
   abbrev pub Tells : Precondition → Condition → Type 0
   Tells precondition condition = (place : PlainFileToken) → IsAsked place → NoneBefore place precondition → TellsCause place precondition condition
-
-  module _ (place : PlainFileToken) where
-    -- the first precondition that is broken; or none is
-    abbrev pub TellsFirst : Option (code.Precondition × List Bool) → Type 0
-    TellsFirst (Some (precondition, c)) = IsFirstBroken project_of files_of place renaming (plain_precondition precondition) c
-    TellsFirst None = NothingStandsInTheWay project_of files_of place renaming

@@ -1,5 +1,5 @@
 -- What becomes of the renaming of what stands at a byte of a project's files.
-use Rattle.std.specs.Prelude.{◌≡◌, ℕ, Bool, List, [], ◌∷◌, length}
+use Rattle.std.specs.Prelude.{◌≡◌, ℕ, Bool, List, [], ◌∷◌, length, ⊤}
 use Rattle.std.specs.List.{AllByRecursion}
 use Rattle.text_edits.specs.Files.{PlainFile}
 use Rattle.project_file.specs.Projects.{PlainProject}
@@ -12,6 +12,8 @@ use Rattle.tied_tokens.specs.Tokens.{plain_file_tokens}
 use Rattle.class_edits.specs.Listed.{renaming_of, StandApart}
 use Rattle.named_classes.specs.Classes.{NamedClass, Finds, IsNamedClass}
 use Rattle.renamed_classes.specs.Renaming.{NothingStandsInTheWay}
+use Rattle.sat_core.specs.declared.answers.Proof.{Proof}
+use Rattle.project_questions.specs.Questions.{ShowsNone}
 use Rattle.rename_op.specs.declared.outcomes.Precondition.{Precondition}
 use Rattle.rename_op.specs.declared.outcomes.Precondition.TheVariants.{Broken, InMacroBody, MacroName, Fixed, Capture}
 use Rattle.rename_op.specs.declared.outcomes.Outcome.{Outcome}
@@ -37,10 +39,17 @@ pub record IsFirstBroken (project : PlainProject) (files : List PlainFile) (plac
   pub none_before : AllByRecursion (λ other. Nowhere project (Breaks project files place r other)) (earlier precondition)
   pub least : IsLeast project (Breaks project files place r precondition) c
 
-module _ (project : PlainProject) (files : List PlainFile) (file offset : ℕ) (new : List ℕ) where
-  abbrev pub renaming_to : NamedClass → Renaming
-  renaming_to class = renaming_of (length files) class.tokens class.old new
+-- one proof for each precondition, in order, that no configuration that the project admits is such
+abbrev pub AreShown : PlainProject → (spec.Precondition → List Bool → Type 0) → List spec.Precondition → List Proof → Type 0
+AreShown project Holds [] [] = ⊤
+AreShown project Holds (precondition ∷ preconditions) (proof ∷ proofs) = ShowsNone project (Holds precondition) proof × AreShown project Holds preconditions proofs
+AreShown project Holds preconditions proofs = ⊥
 
+-- the class with another name
+abbrev pub renaming_to : List PlainFile → List ℕ → NamedClass → Renaming
+renaming_to files new class = renaming_of (length files) class.tokens class.old new
+
+module _ (project : PlainProject) (files : List PlainFile) (file offset : ℕ) (new : List ℕ) where
   pub record HasOldName : Type 0 where
     pub class : NamedClass
     pub is_class : IsNamedClass project files file offset class
@@ -50,19 +59,20 @@ module _ (project : PlainProject) (files : List PlainFile) (file offset : ℕ) (
     pub class : NamedClass
     pub is_class : IsNamedClass project files file offset class
     pub other_name : class.old ≡ new → ⊥
-    pub first : IsFirstBroken project files class.place (renaming_to class) precondition c
+    pub first : IsFirstBroken project files class.place (renaming_to files new class) precondition c
 
-  pub record IsRenamed (tokens : List PlainFileToken) : Type 0 where
+  pub record IsRenamed (tokens : List PlainFileToken) (proofs : List Proof) : Type 0 where
     pub class : NamedClass
     pub is_class : IsNamedClass project files file offset class
     pub tokens_are : class.tokens ≡ tokens
     pub stand_apart : StandApart files tokens
     pub other_name : class.old ≡ new → ⊥
-    pub unhindered : NothingStandsInTheWay project files class.place (renaming_to class)
+    pub unhindered : NothingStandsInTheWay project files class.place (renaming_to files new class)
+    pub shown : AreShown project (Breaks project files class.place (renaming_to files new class)) spec.preconditions proofs
 
-  -- There is nothing to rename; or the name is the old one; or a precondition is broken; or these tokens get the new name.
+  -- There is nothing to rename; or the name is the old one; or a precondition is broken; or these tokens get the new name, and none is.
   abbrev pub IsOutcome : Outcome → Type 0
   IsOutcome Nothing = Nowhere project (Finds project files file offset)
   IsOutcome SameName = HasOldName
   IsOutcome (Refused precondition c) = IsRefused (plain_precondition precondition) c
-  IsOutcome (Renamed tokens) = IsRenamed (plain_file_tokens tokens.items)
+  IsOutcome (Renamed tokens proofs) = IsRenamed (plain_file_tokens tokens.items) proofs.items

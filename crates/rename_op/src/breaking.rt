@@ -8,7 +8,8 @@ ghost use Rattle.project_file.specs.View.{project_view};
 ghost use Rattle.project_store.specs.Reads.{names_of};
 ghost use Rattle.tied_tokens.specs.Tokens.{plain_file_tokens};
 ghost use Rattle.program_occurrences.specs.Classes.{PlainFileToken};
-ghost use Rattle.command_projects.specs.Least.{IsAdmitted, Nowhere, IsLeast};
+ghost use Rattle.command_projects.specs.Least.{IsAdmitted};
+ghost use Rattle.project_questions.specs.Questions.{IsFound};
 ghost use Rattle.reference_classes.specs.Preconditions.{broken, in_macro_body, macro_name, fixed, capture};
 ghost use Rattle.class_touches.specs.Touches.{IsTouchedBy};
 ghost use Rattle.rename_op.specs.Outcomes.{plain_precondition};
@@ -25,9 +26,10 @@ use class_captures::where_captured;
 use class_conditions::{conditions_tell_preconditions, where_fixed_in, where_in_macro_body};
 use class_edits::{listed_classes_are_renamed, listed_stand_apart};
 use class_touches::{lists_are_read_as_classes, lists_touch_as_classes, read_as_macro};
-use cond_formula::{Config, Formula, NoMemory, Oracle};
-use project_questions::least_where;
+use cond_formula::{Formula, NoMemory, Oracle};
+use project_questions::{Finding, find_least};
 use reduced_conditions::{both, either};
+use refuted_parts::without_refuted;
 use renamed_classes::{classes_may_be_renamed, classes_stand_on_text_lines};
 use std::alloc::Global;
 
@@ -155,14 +157,14 @@ fn where_caused<O: Oracle>(
     }
 }
 
-/// The least configuration that breaks a precondition, if one does. `read` is where a token of the class is read.
+/// The least configuration that breaks a precondition, or a proof that none does. `read` is where a token of the class is read.
 pub(crate) fn least_breaking<O: Oracle>(
     alloc: Global,
     asked: &Asked<'_>,
     read: &Formula,
     precondition: Precondition,
     oracle: &mut O,
-) -> Result<Option<Config>, NoMemory>
+) -> Result<Finding, NoMemory>
     requires named { map (λ f. f.name) (plain_files asked.now.files.now) ≡ names_of (project_view asked.now.project.now) }
     requires short { All (λ f. length f.bytes ≤ 4294967295) (plain_files asked.now.files.now) }
     requires few { length asked.now.files.now.list.items < 4294967295 }
@@ -174,13 +176,13 @@ pub(crate) fn least_breaking<O: Oracle>(
         ↔ IsTouchedBy (project_of asked.now) (files_of asked.now) (plain_file_tokens asked.now.class.now) c }
     ensures kept { O.admits oracle.new ≡ O.admits oracle.old }
     ensures least { IfOk result (λ found. (place : PlainFileToken) → IsAsked asked.now place → NoneBefore asked.now place (plain_precondition precondition)
-        → MatchOption found (Nowhere (project_of asked.now) (BreaksIn asked.now place (plain_precondition precondition)))
-        (IsLeast (project_of asked.now) (BreaksIn asked.now place (plain_precondition precondition)))) }
+        → IsFound (project_of asked.now) (BreaksIn asked.now place (plain_precondition precondition)) found) }
 {
     lists_touch_as_classes();
     let caused = where_caused(alloc, asked, precondition, oracle)?;
+    let live = without_refuted(alloc, oracle, &caused)?;
     let read = read.try_clone(alloc)?;
-    let breaking = both(alloc, read, caused)?;
-    let found = least_where(alloc, asked.project, &breaking)?;
+    let breaking = both(alloc, read, live)?;
+    let found = find_least(alloc, asked.project, &breaking)?;
     Ok(found)
 }

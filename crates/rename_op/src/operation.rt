@@ -1,5 +1,5 @@
 //! The renaming of what stands at a byte of a project's files.
-ghost use Rattle.std.specs.Prelude.{◌≡◌, ◌↔◌, ◌<◌, ◌≤◌, ℕ, List, Bool, length, map, All, IsTrue, IfOk};
+ghost use Rattle.std.specs.Prelude.{◌≡◌, ◌↔◌, ◌<◌, ◌≤◌, ◌++◌, ◌∷◌, ℕ, List, [], Bool, length, map, All, IsTrue, IfOk};
 ghost use Rattle.c_names.specs.Names.{is_new_name};
 ghost use Rattle.text_edits.specs.Files.{plain_files};
 ghost use Rattle.cond_formula.specs.Features.{has};
@@ -14,33 +14,37 @@ ghost use Rattle.reference_classes.specs.Renamed.{IsWrittenAt};
 ghost use Rattle.class_touches.specs.Touches.{IsTouchedBy};
 ghost use Rattle.class_edits.specs.Places.{HoldsByte};
 ghost use Rattle.project_analysis.specs.Analysed.{IsAnalysed};
-ghost use Rattle.rename_op.specs.Outcomes.{IsOutcome};
-ghost use Rattle.rename_op.specs.declared.outcomes.Outcome.TheVariants.{Refused};
-ghost use Rattle.rename_op.specs.Asked.{IsAsked, TellsFirst, project_of, files_of};
+ghost use Rattle.rename_op.specs.Outcomes.{plain_precondition, earlier, AreShown, IsOutcome};
+ghost use Rattle.reference_classes.specs.Preconditions.{preconditions};
+ghost use Rattle.rename_op.specs.Asked.{IsAsked, BreaksIn, TellsFirst, project_of, files_of};
 
-use crate::asked::Asked;
+use crate::asked::{Answered, Asked};
 use crate::breaking::least_breaking;
 use crate::outcomes::{Outcome, Precondition};
 use c_text::FileToken;
 use class_edits::{bytes_tell_tokens, listed_stand_apart, name_at, token_at};
 use class_touches::touched;
-use cond_formula::{Config, Formula, NoMemory};
+use cond_formula::{Formula, NoMemory};
 use project_analysis::{Analysis, analysed};
 use project_classes::{ClassAnswer, class_of};
 use project_file::Project;
+use project_questions::Finding;
 use renamed_classes::classes_stand_on_text_lines;
+use sat_core::Proof;
 use std::alloc::Global;
 use text_edits::Files;
 use verdict_query::ModelOracle;
 
-/// The first precondition that an admitted configuration breaks, with the least that does, if there is one. `read` is where a token of the class is
-/// read.
-fn first_breaking(
+/// What is answered when one precondition more is asked, and none before it is broken. `read` is where a token of the class is read, and
+/// `proofs` are those of the preconditions before.
+fn ask_one(
     alloc: Global,
     asked: &Asked<'_>,
     read: &Formula,
+    mut proofs: Vec<Proof>,
+    precondition: Precondition,
     oracle: &mut ModelOracle<'_>,
-) -> Result<Option<(Precondition, Config)>, NoMemory>
+) -> Result<Answered, NoMemory>
     requires named { map (λ f. f.name) (plain_files asked.now.files.now) ≡ names_of (project_view asked.now.project.now) }
     requires short { All (λ f. length f.bytes ≤ 4294967295) (plain_files asked.now.files.now) }
     requires few { length asked.now.files.now.list.items < 4294967295 }
@@ -50,56 +54,117 @@ fn first_breaking(
     requires model { admitted oracle.old.model.now ≡ admitted asked.now.project.now.model }
     requires touched { (c : List Bool) → IsAdmitted (project_of asked.now) c → IsTrue (value (has c) (condition_of read.now))
         ↔ IsTouchedBy (project_of asked.now) (files_of asked.now) (plain_file_tokens asked.now.class.now) c }
-    ensures { IfOk result (λ found. (place : PlainFileToken) → IsAsked asked.now place → TellsFirst asked.now place found) }
+    ensures kept { admitted oracle.new.model.now ≡ admitted oracle.old.model.now }
+    ensures more { IfOk result (λ a. (place : PlainFileToken) → IsAsked asked.now place
+        → AreShown (project_of asked.now) (BreaksIn asked.now place) (earlier (plain_precondition precondition)) proofs.items
+        → TellsFirst asked.now place (earlier (plain_precondition precondition) ++ plain_precondition precondition ∷ []) a) }
 {
-    let broken = least_breaking(alloc, asked, read, Precondition::Broken, oracle)?;
-    if let Some(c) = broken {
-        return Ok(Some((Precondition::Broken, c)));
+    let found = least_breaking(alloc, asked, read, precondition, oracle)?;
+    match found {
+        Finding::Least(c) => Ok(Answered::FirstBroken(precondition, c)),
+        Finding::Never(proof) => {
+            proofs.push(proof)?;
+            Ok(Answered::Unbroken(proofs))
+        }
     }
-    let in_macro_body = least_breaking(alloc, asked, read, Precondition::InMacroBody, oracle)?;
-    if let Some(c) = in_macro_body {
-        return Ok(Some((Precondition::InMacroBody, c)));
-    }
-    let macro_name = least_breaking(alloc, asked, read, Precondition::MacroName, oracle)?;
-    if let Some(c) = macro_name {
-        return Ok(Some((Precondition::MacroName, c)));
-    }
-    let fixed = least_breaking(alloc, asked, read, Precondition::Fixed, oracle)?;
-    if let Some(c) = fixed {
-        return Ok(Some((Precondition::Fixed, c)));
-    }
-    let capture = least_breaking(alloc, asked, read, Precondition::Capture, oracle)?;
-    if let Some(c) = capture {
-        return Ok(Some((Precondition::Capture, c)));
-    }
-    Ok(None)
 }
 
-/// The same, asked of the configurations that the project admits.
-fn first_broken(
+/// The same, unless one before it is broken.
+fn ask_next(
     alloc: Global,
     asked: &Asked<'_>,
-) -> Result<Option<(Precondition, Config)>, NoMemory>
+    read: &Formula,
+    before: Answered,
+    precondition: Precondition,
+    oracle: &mut ModelOracle<'_>,
+) -> Result<Answered, NoMemory>
     requires named { map (λ f. f.name) (plain_files asked.now.files.now) ≡ names_of (project_view asked.now.project.now) }
     requires short { All (λ f. length f.bytes ≤ 4294967295) (plain_files asked.now.files.now) }
     requires few { length asked.now.files.now.list.items < 4294967295 }
     requires as_many { length asked.now.analysis.now.told.numbered.items ≡ length asked.now.project.now.units.items }
     requires features { length asked.now.project.now.features.items ≤ 128 }
     requires below { VarsBelow (length asked.now.project.now.features.items) (admitted asked.now.project.now.model) }
-    ensures { IfOk result (λ found. (place : PlainFileToken) → IsAsked asked.now place → TellsFirst asked.now place found) }
+    requires model { admitted oracle.old.model.now ≡ admitted asked.now.project.now.model }
+    requires touched { (c : List Bool) → IsAdmitted (project_of asked.now) c → IsTrue (value (has c) (condition_of read.now))
+        ↔ IsTouchedBy (project_of asked.now) (files_of asked.now) (plain_file_tokens asked.now.class.now) c }
+    ensures kept { admitted oracle.new.model.now ≡ admitted oracle.old.model.now }
+    ensures next { IfOk result (λ a. (place : PlainFileToken) → IsAsked asked.now place → TellsFirst asked.now place (earlier (plain_precondition precondition)) before
+        → TellsFirst asked.now place (earlier (plain_precondition precondition) ++ plain_precondition precondition ∷ []) a) }
+{
+    match before {
+        Answered::FirstBroken(first, c) => Ok(Answered::FirstBroken(first, c)),
+        Answered::Unbroken(proofs) => {
+            let answered = ask_one(alloc, asked, read, proofs, precondition, oracle)?;
+            Ok(answered)
+        }
+    }
+}
+
+/// What is answered of all preconditions.
+fn first_breaking(
+    alloc: Global,
+    asked: &Asked<'_>,
+    read: &Formula,
+    oracle: &mut ModelOracle<'_>,
+) -> Result<Answered, NoMemory>
+    requires named { map (λ f. f.name) (plain_files asked.now.files.now) ≡ names_of (project_view asked.now.project.now) }
+    requires short { All (λ f. length f.bytes ≤ 4294967295) (plain_files asked.now.files.now) }
+    requires few { length asked.now.files.now.list.items < 4294967295 }
+    requires as_many { length asked.now.analysis.now.told.numbered.items ≡ length asked.now.project.now.units.items }
+    requires features { length asked.now.project.now.features.items ≤ 128 }
+    requires below { VarsBelow (length asked.now.project.now.features.items) (admitted asked.now.project.now.model) }
+    requires model { admitted oracle.old.model.now ≡ admitted asked.now.project.now.model }
+    requires touched { (c : List Bool) → IsAdmitted (project_of asked.now) c → IsTrue (value (has c) (condition_of read.now))
+        ↔ IsTouchedBy (project_of asked.now) (files_of asked.now) (plain_file_tokens asked.now.class.now) c }
+    ensures { IfOk result (λ a. (place : PlainFileToken) → IsAsked asked.now place → TellsFirst asked.now place preconditions a) }
+{
+    let none = Answered::Unbroken(Vec::new(alloc));
+    let broken = ask_next(alloc, asked, read, none, Precondition::Broken, oracle)?;
+    let in_macro_body = ask_next(
+        alloc,
+        asked,
+        read,
+        broken,
+        Precondition::InMacroBody,
+        oracle,
+    )?;
+    let macro_name = ask_next(
+        alloc,
+        asked,
+        read,
+        in_macro_body,
+        Precondition::MacroName,
+        oracle,
+    )?;
+    let fixed = ask_next(
+        alloc,
+        asked,
+        read,
+        macro_name,
+        Precondition::Fixed,
+        oracle,
+    )?;
+    let capture = ask_next(alloc, asked, read, fixed, Precondition::Capture, oracle)?;
+    Ok(capture)
+}
+
+/// The same, asked of the configurations that the project admits.
+fn first_broken(
+    alloc: Global,
+    asked: &Asked<'_>,
+) -> Result<Answered, NoMemory>
+    requires named { map (λ f. f.name) (plain_files asked.now.files.now) ≡ names_of (project_view asked.now.project.now) }
+    requires short { All (λ f. length f.bytes ≤ 4294967295) (plain_files asked.now.files.now) }
+    requires few { length asked.now.files.now.list.items < 4294967295 }
+    requires as_many { length asked.now.analysis.now.told.numbered.items ≡ length asked.now.project.now.units.items }
+    requires features { length asked.now.project.now.features.items ≤ 128 }
+    requires below { VarsBelow (length asked.now.project.now.features.items) (admitted asked.now.project.now.model) }
+    ensures { IfOk result (λ a. (place : PlainFileToken) → IsAsked asked.now place → TellsFirst asked.now place preconditions a) }
 {
     let mut oracle = ModelOracle::new(alloc, &asked.project.model);
     let read = touched(alloc, asked.project, asked.files, asked.class, &mut oracle)?;
     let found = first_breaking(alloc, asked, &read, &mut oracle)?;
     Ok(found)
-}
-
-/// The refusal for a precondition that is broken, with the configuration that breaks it.
-fn refused(broken: (Precondition, Config)) -> Outcome
-    ensures { result ≡ Refused broken.0 broken.1 }
-{
-    let (precondition, c) = broken;
-    Outcome::Refused(precondition, c)
 }
 
 /// What becomes of the renaming of what stands at a place where the old name is written.
@@ -140,9 +205,10 @@ fn outcome_at(
         old,
         new,
     };
-    match first_broken(alloc, &asked)? {
-        Some(broken) => Ok(refused(broken)),
-        None => Ok(Outcome::Renamed(class)),
+    let answered = first_broken(alloc, &asked)?;
+    match answered {
+        Answered::FirstBroken(precondition, c) => Ok(Outcome::Refused(precondition, c)),
+        Answered::Unbroken(proofs) => Ok(Outcome::Renamed(class, proofs)),
     }
 }
 

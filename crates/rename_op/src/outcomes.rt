@@ -4,6 +4,7 @@ ghost use Rattle.std.specs.Prelude.{◌≡◌};
 
 use c_text::FileToken;
 use cond_formula::Config;
+use sat_core::Proof;
 
 /// What may stand in the way of a renaming, in the order in which it is asked.
 #[derive(Clone, Copy, Debug, PartialEq, Eq)]
@@ -47,6 +48,7 @@ pub enum Outcome {
     SameName,
     /// The first precondition that is broken, with the least configuration that breaks it.
     Refused(Precondition, Config),
-    /// The tokens that get the new name, those of built-in headers among them, in the order of the files and of their texts.
-    Renamed(Vec<FileToken>),
+    /// The tokens that get the new name, those of built-in headers among them, in the order of the files and of their texts; and for each
+    /// precondition, in order, a refutation of the question where it is broken.
+    Renamed(Vec<FileToken>, Vec<Proof>),
 }

@@ -2,7 +2,7 @@ mod Stable
 pub mod Occurring
 pub mod Given
 mod TextLines
-mod OneName
+pub mod OneName
 mod Fits
 mod NoMacros
 mod MainAlike

@@ -61,7 +61,7 @@ module _ (one : LinesAreOne) (tell : PlacesTellTokens) where
       file-got (first ∷ files) zero f other e = same_Some first f e
       file-got (first ∷ files) (suc n) f other e = file-got files n f other e
 
-file-below : (files : List PlainFile) (n : ℕ) (other : PlainFile) → n < length files → slice_get files n ≡ Some (slice_index_or files n other)
+pub file-below : (files : List PlainFile) (n : ℕ) (other : PlainFile) → n < length files → slice_get files n ≡ Some (slice_index_or files n other)
 file-below [] n other below = absurd (omega (arith, below))
 file-below (first ∷ files) zero other below = refl
 file-below (first ∷ files) (suc n) other below = file-below files n other (omega (arith, below))

@@ -64,6 +64,19 @@ fn is_found_true(f: &Formula) -> bool
     false
 }
 
+/// Whether the formula is true where one of so many features is on alone, as each branch of a chain of exclusive ones is.
+fn is_true_with_one(f: &Formula, features: u8) -> bool
+    requires { features ≤ 128 }
+    ensures { IsTrue result → (on : ℕ → Bool) × IsTrue (value on (condition_of f.now)) }
+{
+    for feature in 0..features {
+        if f.value(Config { bits: 1 << feature }) {
+            return true;
+        }
+    }
+    false
+}
+
 /// Whether the solver has a refutation of the formula.
 fn is_refuted(alloc: Global, f: &Formula) -> bool
     ensures { IsTrue result → HasNoModel (condition_of f.now) }
@@ -72,7 +85,10 @@ fn is_refuted(alloc: Global, f: &Formula) -> bool
         return false;
     }
     match features_of(f) {
-        Some(features) => matches!(solve(alloc, f, features), Answer::Unsat(_)),
+        Some(features) => {
+            !is_true_with_one(f, features)
+                && matches!(solve(alloc, f, features), Answer::Unsat(_))
+        }
         None => false,
     }
 }

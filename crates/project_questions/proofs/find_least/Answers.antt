@@ -1,5 +1,5 @@
 use Rattle.std.proofs.Common.{◌≡◌, ℕ, ◌≤◌, Bool, List, length, IsTrue, rules, subst, sym, ◌∙◌, arith}
-use Rattle.std.specs.Prelude.{◌↔◌, MatchOption, string_bytes}
+use Rattle.std.specs.Prelude.{◌↔◌, string_bytes}
 use Rattle.std.proofs.lemmas.List.{length-map}
 use Rattle.cond_formula.specs.Features.{has}
 use Rattle.cond_formula.specs.Conditions.{condition_of, value, VarsBelow}
@@ -8,9 +8,9 @@ use Rattle.feature_model.specs.ModelView.{admitted}
 use Rattle.project_file.specs.View.{project_view}
 use Rattle.command_projects.specs.Least.{IsAdmitted}
 use Rattle.project_questions.specs.Questions.{IsTrueIn}
-use Rattle.project_questions.proofs.Found.{found_over, found_is}
+use Rattle.project_questions.proofs.Found.{found-is}
 use Rattle.project_questions.proofs.Same.{found-of-same}
-use Rattle.project_questions.proofs.least_where.Goals as goal
+use Rattle.project_questions.proofs.find_least.Goals as goal
 
 pub ask-verdict-requires-clause-model_numbered : goal.ask-verdict-requires-clause-model_numbered
 ask-verdict-requires-clause-model_numbered c =
@@ -36,5 +36,4 @@ returns c =
     λ on is. c.in_ok-within.ensures.same (has on) (λ feature h. is.within feature (omega (arith, h, many, count))) in
     found-of-same view (IsTrueIn within) (IsTrueIn (condition_of c.args.f.now))
     (λ on is. (λ t. subst IsTrue (same on is) t, λ t. subst IsTrue (sym (same on is)) t)) found
-    (found_is view within features count found
-    (found_over c.fewer_features_suffice.ensures features c.requires.few model within c.requires.below below found (c.in_ok-found.ensures model within c.ask-verdict.ensures)))
+    (found-is view within features count c.fewer_features_suffice.ensures c.requires.few c.requires.below below found (c.in_ok-found.ensures model within c.ask-verdict.ensures))
