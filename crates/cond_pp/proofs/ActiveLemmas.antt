@@ -1,29 +1,64 @@
 -- Active tokens, however the files are read.
-use Rattle.std.proofs.Common.{◌≡◌, ◌⊎◌, ◌==◌, ℕ, Bool, true, false, ◌&&◌, List, [], ◌∷◌, All, IsTrue, Option, refl, ap, sym, ◌∙◌, inl, inr}
-use Rattle.std.specs.Prelude.{◌↔◌}
+use Rattle.std.proofs.Common.{◌≡◌, ◌⊎◌, ◌==◌, ℕ, zero, suc, Bool, true, false, ◌&&◌, List, [], ◌∷◌, All, IsTrue, Option, refl, ap, sym, ◌∙◌, subst, inl, inr, arith}
+use Rattle.std.specs.Prelude.{◌↔◌, Any}
 use Rattle.std.specs.Bool.{Decides}
 use Rattle.std.proofs.lemmas.Bool.Decides.{Decides-eqb, Decides-and, not_from_Decides}
 use Rattle.std.proofs.lemmas.List.Elements.{All-nil, All-cons, All-head, All-tail}
-use Rattle.text_edits.specs.Span.{PlainSpan}
+use Rattle.text_edits.specs.Span.{PlainSpan, plain_span}
+use Rattle.c_text.specs.declared.origin.FileToken.{FileToken}
 use Rattle.c_text.specs.Token.{PlainToken}
 use Rattle.c_text.specs.Preprocessing.{Source, Sources, Syntax, IsSyntaxOf, feature_token}
+use Rattle.active_tokens.specs.Reads.{Read}
 use Rattle.active_tokens.specs.Active.{AreMisplaced, InAllReads, IsReadAt, HasActiveOrigin, TokensComeFromActive, reads_of_unit}
 use Rattle.plain_pp.specs.Laws.{ProjectsHaveSyntax}
+use Rattle.read_walks.specs.SourceReads.{HasMisplaced}
 use Rattle.read_walks.specs.Laws.{FilesHaveMisplaced, TestIsExact}
 use Rattle.read_walks.specs.Tests.{IsDefinedIn, is_read_at}
+use Rattle.unit_outcomes.specs.Laws.{HasFiles, ReadsAreOne}
 use Rattle.cond_pp.specs.Laws.{ComesFromActive, StreamsComeFromActive}
 
--- what is found of a token is whether it is read
-pub found-is : ProjectsHaveSyntax → FilesHaveMisplaced → TestIsExact → (s : Sources) (number file : ℕ) (span : PlainSpan) (name : Option (List ℕ)) (found : Bool) → ((x : Syntax) (are : IsSyntaxOf s x) (misplaced : Source → List PlainToken) → AreMisplaced are misplaced → found ≡ is_read_at file span name (reads_of_unit s x misplaced number)) → IsTrue found ↔ InAllReads s number (λ reads. IsReadAt reads file span (IsDefinedIn name))
-found-is have_syntax have_misplaced exact s number file span name found is = (
-  λ h x are misplaced are_misplaced.
-      (exact file span name (reads_of_unit s x misplaced number)).0 (sym (is x are misplaced are_misplaced) ∙ h),
-  λ all.
-      let p = have_syntax s in
-      let m = have_misplaced s p.0 p.1 in
-      is p.0 p.1 m.misplaced m.are_misplaced
-      ∙ (exact file span name (reads_of_unit s p.0 m.misplaced number)).1 (all p.0 p.1 m.misplaced m.are_misplaced),
+-- what is found of tokens is whether one of them is read
+pub found-is : ProjectsHaveSyntax → FilesHaveMisplaced → ReadsAreOne → TestIsExact → (s : Sources) (number : ℕ) → HasFiles s number → (places : List FileToken) (name : Option (List ℕ)) (found : Bool) → ((x : Syntax) (are : IsSyntaxOf s x) (misplaced : Source → List PlainToken) → AreMisplaced are misplaced → found ≡ is_read_at places name (reads_of_unit s x misplaced number)) → IsTrue found ↔ Any (λ at. InAllReads s number (λ reads. IsReadAt reads at.file (plain_span at.span) (IsDefinedIn name))) places
+found-is have_syntax have_misplaced one exact s number has places name found is = (to, back)
+  where
+    x : Syntax
+    x = (have_syntax s).0
+
+    are : IsSyntaxOf s x
+    are = (have_syntax s).1
+
+    m : HasMisplaced are
+    m = have_misplaced s x are
+
+    reads : List Read
+    reads = reads_of_unit s x m.misplaced number
+
+    to : IsTrue found → Any (λ at. InAllReads s number (λ all. IsReadAt all at.file (plain_span at.span) (IsDefinedIn name))) places
+    to h =
+        let a = (exact places name reads).0 (sym (is x are m.misplaced m.are_misplaced) ∙ h) in (
+          a.0,
+          a.1,
+          a.2,
+          a.3,
+          λ y is_syntax misplaced told.
+              subst (λ (all : List Read). IsReadAt all a.1.file (plain_span a.1.span) (IsDefinedIn name)) (one s number has x y are is_syntax m.misplaced misplaced m.are_misplaced told) a.4,
+        )
+
+    back : Any (λ at. InAllReads s number (λ all. IsReadAt all at.file (plain_span at.span) (IsDefinedIn name))) places → IsTrue found
+    back (place, at, inside, at_is, all) =
+        is x are m.misplaced m.are_misplaced
+        ∙ (exact places name reads).1 (place, at, inside, at_is, all x are m.misplaced m.are_misplaced)
+
+-- one of a single element
+pub any-of-one : {X : Type 0} (P : X → Type 0) (xs : List X) (x : X) → xs ≡ x ∷ [] → Any P xs ↔ P x
+any-of-one {X} P xs x e = (
+  λ any. only (subst (λ (ys : List X). Any P ys) e any),
+  λ p. subst (λ (ys : List X). Any P ys) (sym e) (0, x, omega arith, refl, p),
 )
+  where
+    only : Any P (x ∷ []) → P x
+    only (zero, y, inside, same, p) = subst P (sym same) p
+    only (suc k, y, inside, same, p) = absurd (omega (arith, inside))
 
 -- ---- the tokens of a stream
 

@@ -13,7 +13,7 @@ use Rattle.cond_pp.specs.Watches.{PlainSought, is_read_in, read_where}
 -- one list behind another
 pub seen-joined : TestIsJoined → (sought : Option PlainSought) (first second : List Read) → is_read_in sought (first ++ second) ≡ (is_read_in sought first || is_read_in sought second)
 seen-joined joined None first second = refl
-seen-joined joined (Some s) first second = joined s.file s.span s.name first second
+seen-joined joined (Some s) first second = joined s.places s.name first second
 
 pub seen-none : (sought : Option PlainSought) → is_read_in sought [] ≡ false
 seen-none None = refl
@@ -39,7 +39,7 @@ seen-run sought false false run (Some r) inside = refl
 -- reads that are the same token by token
 pub seen-tokens : TestIsByToken → (sought : Option PlainSought) (first second : List Read) → by_token first ≡ by_token second → is_read_in sought first ≡ is_read_in sought second
 seen-tokens by_tokens None first second same = refl
-seen-tokens by_tokens (Some s) first second same = by_tokens s.file s.span s.name first second same
+seen-tokens by_tokens (Some s) first second same = by_tokens s.places s.name first second same
 
 pub seen-where : (sought : Option PlainSought) (b : Bool) (f g : Reading → List Read) (o : Option Reading) → ((r : Reading) → is_read_in sought (f r) ≡ is_read_in sought (g r)) → is_read_in sought (read_where b f o) ≡ is_read_in sought (read_where b g o)
 seen-where sought b f g None h = refl

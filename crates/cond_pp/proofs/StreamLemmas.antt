@@ -1,13 +1,19 @@
 -- What a unit gives, by what is seen of its reading.
-use Rattle.std.proofs.Common.{◌≡◌, ℕ, suc, ◌+◌, Bool, true, false, List, [], ◌∷◌, ◌++◌, ◌≤◌, length, map, All, add-one, Option, Some, None, refl, sym, ap, ◌∙◌}
+use Rattle.std.proofs.Common.{◌≡◌, ℕ, suc, ◌+◌, ◌<◌, Bool, true, false, List, [], ◌∷◌, ◌++◌, ◌≤◌, length, map, All, add-one, Option, Some, None, refl, sym, ap, ◌∙◌, arith}
 use Rattle.std.specs.Prelude.{if◌then◌else◌, ◌||◌, ◌&&◌}
 use Rattle.std.specs.List.{list_any}
 use Rattle.std.specs.Str.{bytes_eq}
 use Rattle.std.proofs.Math.Path.{fun_ext}
 use Rattle.std.proofs.lemmas.List.{length-map, length-append}
 use Rattle.std.proofs.lemmas.List.Elements.{All-nil, All-cons, All-head, All-tail}
+use Rattle.std.specs.String.{string_bytes}
 use Rattle.text_edits.specs.declared.files.SourceFile.{SourceFile}
-use Rattle.text_edits.specs.Files.{PlainFile, plain_file}
+use Rattle.text_edits.specs.declared.files.Files.{Files}
+use Rattle.text_edits.specs.Files.{PlainFile, plain_file, plain_files}
+use Rattle.project_file.specs.declared.projects.Project.{Project}
+use Rattle.project_file.specs.View.{project_view, unit_view}
+use Rattle.project_store.specs.Reads.{names_of}
+use Rattle.plain_pp.specs.Units.{sources_of, file_of}
 use Rattle.cond_formula.specs.Conditions.{Condition, Always, condition_of, value}
 use Rattle.cond_tokens.specs.Streams.{tokens_at}
 use Rattle.c_text.specs.Macros.{Table, Meaning, feature}
@@ -118,6 +124,18 @@ stream-is have features names s number files r read =
 pub files-named : (files : List SourceFile) (headers units : List (List ℕ)) → map (λ f. f.name) (map plain_file files) ≡ headers ++ units → length files ≡ length headers + length units
 files-named files headers units h =
     sym (length-map files plain_file) ∙ sym (length-map (map plain_file files) (λ f. f.name)) ∙ ap length h ∙ length-append headers units
+
+-- a unit of a project has a file, and so has each header
+pub has-files : (p : Project) (files : Files) (features : ℕ → Bool) (unit : ℕ) → unit < length p.units.items → map (λ f. f.name) (plain_files files) ≡ names_of (project_view p) → HasFiles (sources_of (project_view p) (plain_files files) features) (file_of (project_view p) unit)
+has-files p files features unit there named =
+    let view = project_view p in
+    let list = files.list.items in
+    let headers = length-map p.headers.items string_bytes in
+    let units = length-map p.units.items unit_view in
+    let counted = files-named list view.headers (map (λ u. u.file) view.units) named in record {
+      unit = omega (arith, length-map list plain_file, length-map view.units (λ u. u.file));
+      headers = omega (arith, length-map list plain_file);
+    }
 
 abbrev IsShort : PlainFile → Type 0
 IsShort f = length f.bytes ≤ 4294967295

@@ -9,6 +9,6 @@ mod units;
 mod walk;
 mod watch;
 
-pub use activity::{active, defined_at};
+pub use activity::{active, any_active, any_defined_at, defined_at};
 pub use laws::streams_come_from_active;
 pub use streams::preprocess_all;

@@ -33,7 +33,7 @@ fn unit_number(headers: usize, unit: u32, files: usize) -> u32
     headers as u32 + unit
 }
 
-/// Reads a unit, while a token is watched.
+/// Reads a unit, while tokens are watched.
 pub fn read_unit<O: Oracle>(
     alloc: Global,
     project: &Project,

@@ -1,14 +1,13 @@
-//! A token that is looked for while a unit is read in all configurations.
+//! Tokens that are looked for while a unit is read in all configurations.
 ghost use Rattle.std.specs.Prelude.{◌≡◌, ◌&&◌, ◌||◌, ◌∷◌, ℕ, Bool, not, false, List, [], map, Some, None, IfOk, OnOk};
 ghost use Rattle.std.specs.Option.{option_map};
 ghost use Rattle.std.specs.List.{list_any};
 ghost use Rattle.std.specs.String.{string_bytes};
 ghost use Rattle.cond_formula.specs.Features.{has};
 ghost use Rattle.cond_formula.specs.Conditions.{condition_of, value};
-ghost use Rattle.text_edits.specs.Span.{plain_span};
 ghost use Rattle.c_text.specs.Token.{plain_token};
 ghost use Rattle.active_tokens.specs.Reads.{read_of};
-ghost use Rattle.read_walks.specs.Tests.{stands_at, is_defined};
+ghost use Rattle.read_walks.specs.Tests.{stands_at, stands_at_one, is_defined};
 ghost use Rattle.macro_table.specs.Features.{macros_at};
 ghost use Rattle.cond_readings.specs.Readings.{reading_at, table_in};
 ghost use Rattle.cond_pp.specs.Watches.{is_seen, read_where};
@@ -22,26 +21,38 @@ use std::alloc::Global;
 use std::mem;
 use unit_files::Surroundings;
 
-/// A token of a file, while a name is defined if one is given.
+/// Tokens of files, while a name is defined if one is given.
 #[derive(Clone, Copy)]
 pub struct Sought<'a> {
-    pub at: FileToken,
+    pub at: &'a [FileToken],
     pub name: Option<&'a [u8]>,
 }
 
+// Whether this is the token of a file.
+fn is_token_of(token: &Token, at: &FileToken) -> bool
+    ensures { result ≡ stands_at at.now (plain_token token.now) }
+{
+    token.origin.file == at.file
+        && token.origin.span.start == at.span.start
+        && token.origin.span.end == at.span.end
+}
+
 impl Sought<'_> {
-    // Whether the token stands there.
+    // Whether the token is one of them.
     fn is_at(&self, token: &Token) -> bool
-        ensures { result ≡ stands_at self.now.at.file (plain_span self.now.at.span) (plain_token token.now) }
+        ensures { result ≡ stands_at_one self.now.at.now (plain_token token.now) }
     {
-        token.origin.file == self.at.file
-            && token.origin.span.start == self.at.span.start
-            && token.origin.span.end == self.at.span.end
+        for at in self.at {
+            if is_token_of(token, at) {
+                return true;
+            }
+        }
+        false
     }
 
-    // Whether one of the tokens stands there.
+    // Whether one of the tokens is one of them.
     fn is_among(&self, tokens: &[Token]) -> bool
-        ensures { result ≡ list_any (stands_at self.now.at.file (plain_span self.now.at.span)) (map plain_token tokens.now) }
+        ensures { result ≡ list_any (stands_at_one self.now.at.now) (map plain_token tokens.now) }
     {
         for token in tokens {
             if self.is_at(token) {
@@ -53,7 +64,7 @@ impl Sought<'_> {
 
     // The same of tokens that stand elsewhere.
     fn is_in_run(&self, run: &[&Token]) -> bool
-        ensures { result ≡ list_any (stands_at self.now.at.file (plain_span self.now.at.span)) (map (λ t. plain_token t.now) run.now) }
+        ensures { result ≡ list_any (stands_at_one self.now.at.now) (map (λ t. plain_token t.now) run.now) }
     {
         for token in run {
             if self.is_at(token) {
@@ -94,7 +105,7 @@ impl<'a> Watch<'a> {
         }
     }
 
-    /// A token is looked for.
+    /// These tokens are looked for.
     #[tactic(auto, using(cond_formula::specs::ConditionLaws::formula_kinds))]
     pub fn new(sought: Sought<'a>) -> Self
         ensures sought { result.sought ≡ Some sought.entry }
@@ -106,7 +117,7 @@ impl<'a> Watch<'a> {
         }
     }
 
-    // It is read here, where its name is defined.
+    // One is read here, where the name is defined.
     fn find(
         &mut self,
         alloc: Global,

@@ -1,6 +1,6 @@
 mod Behind
 mod SpineReads
 mod Leading
-mod Walks
+pub mod Walks
 mod Sources
 mod TestLemmas

@@ -1,6 +1,7 @@
 -- LAWS, each the contract of a function of this crate.
-use Rattle.std.specs.Prelude.{◌≡◌, ◌↔◌, ℕ, ◌||◌, List, [], ◌++◌, length, Option, Some, IsTrue}
-use Rattle.text_edits.specs.Span.{PlainSpan}
+use Rattle.std.specs.Prelude.{◌≡◌, ◌↔◌, ℕ, ◌||◌, List, [], ◌++◌, length, Option, Some, IsTrue, Any}
+use Rattle.text_edits.specs.Span.{plain_span}
+use Rattle.c_text.specs.declared.origin.FileToken.{FileToken}
 use Rattle.c_text.specs.Token.{PlainToken}
 use Rattle.c_text.specs.Lines.{PlainLine, AreItsLines}
 use Rattle.c_text.specs.Trees.{Part}
@@ -61,20 +62,20 @@ LinesLeadOn =
 abbrev pub WalksAreOne : Type 0
 WalksAreOne = (first second : Walk) → ((told : Walk → Reading) → told first ≡ told second) → first ≡ second
 
--- the test for a token is exact
+-- the test for tokens is exact
 abbrev pub TestIsExact : Type 0
 TestIsExact =
-    (file : ℕ) (span : PlainSpan) (name : Option (List ℕ)) (all : List Read)
-    → IsTrue (is_read_at file span name all) ↔ IsReadAt all file span (IsDefinedIn name)
+    (places : List FileToken) (name : Option (List ℕ)) (all : List Read)
+    → IsTrue (is_read_at places name all) ↔ Any (λ at. IsReadAt all at.file (plain_span at.span) (IsDefinedIn name)) places
 
 -- it is asked of one list of reads after another
 abbrev pub TestIsJoined : Type 0
 TestIsJoined =
-    (file : ℕ) (span : PlainSpan) (name : Option (List ℕ)) (first second : List Read)
-    → is_read_at file span name (first ++ second) ≡ (is_read_at file span name first || is_read_at file span name second)
+    (places : List FileToken) (name : Option (List ℕ)) (first second : List Read)
+    → is_read_at places name (first ++ second) ≡ (is_read_at places name first || is_read_at places name second)
 
 -- and tells no more than what is read token by token
 abbrev pub TestIsByToken : Type 0
 TestIsByToken =
-    (file : ℕ) (span : PlainSpan) (name : Option (List ℕ)) (first second : List Read) → by_token first ≡ by_token second
-    → is_read_at file span name first ≡ is_read_at file span name second
+    (places : List FileToken) (name : Option (List ℕ)) (first second : List Read) → by_token first ≡ by_token second
+    → is_read_at places name first ≡ is_read_at places name second

@@ -1,5 +1,5 @@
 //! What a unit reads outside every skipped group, told line by line, which is what code does: the reads of the walk over a file's
-//! lines and a test for one token among them (in `specs/`), and the laws that tie them to the definition by groups (ISO/IEC
+//! lines and a test for tokens of files among them (in `specs/`), and the laws that tie them to the definition by groups (ISO/IEC
 //! 9899:2011, 6.10.1), each the contract of a function that computes nothing.
 #![tactic(auto)]
 
@@ -34,7 +34,7 @@ pub fn walks_are_one()
     ensures { WalksAreOne }
 {}
 
-/// The test for a token is exact, and is asked list by list and token by token.
+/// The test for tokens is exact, and is asked list by list and token by token.
 pub fn reads_are_tested()
     ensures exact { TestIsExact }
     ensures joined { TestIsJoined }

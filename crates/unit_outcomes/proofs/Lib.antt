@@ -4,3 +4,4 @@ mod InRange
 mod TokensSpelt
 mod SameReadings
 mod Outcomes
+mod SameReads

@@ -26,7 +26,7 @@ same-file file length lines others part other broken breaks e a b =
     record { parts = ap front_of (sym p.spine ∙ q.spine); breaks_are = p.break_is ∙ sym q.break_is }
 
 module _ (one : LinesAreOne) (s : Sources) (x y : Syntax) (a : IsSyntaxOf s x) (b : IsSyntaxOf s y) (few : length s.headers ≤ length s.files) where
-  same-value : (tokens : List PlainToken) → x.value_of tokens ≡ y.value_of tokens
+  pub same-value : (tokens : List PlainToken) → x.value_of tokens ≡ y.value_of tokens
   same-value tokens = by (x.value_of tokens) (y.value_of tokens) refl refl
     where
       by : (v w : Option ℤ) → x.value_of tokens ≡ v → y.value_of tokens ≡ w → x.value_of tokens ≡ y.value_of tokens
@@ -34,20 +34,20 @@ module _ (one : LinesAreOne) (s : Sources) (x y : Syntax) (a : IsSyntaxOf s x) (
       by (Some z) w e f = e ∙ sym ((b.values tokens z).1 ((a.values tokens z).0 e))
       by None (Some z) e f = (a.values tokens z).1 ((b.values tokens z).0 f) ∙ sym f
 
-  built-in : a.built_in_lines ≡ b.built_in_lines
+  pub built-in : a.built_in_lines ≡ b.built_in_lines
   built-in = one built_in_file built_in_text a.built_in_lines b.built_in_lines a.are_built_in b.are_built_in
 
-  same-source : (source : Source) → IsFound (length s.files) source → AreSame (x.part_of source) (y.part_of source) (x.broken_in source) (y.broken_in source)
+  pub same-source : (source : Source) → IsFound (length s.files) source → AreSame (x.part_of source) (y.part_of source) (x.broken_in source) (y.broken_in source)
   same-source (project_file number) found =
       same-file number (length (file_at s number).bytes) (a.lines number) (b.lines number) _ _ _ _
       (one number (file_at s number).bytes (a.lines number) (b.lines number) (a.are_lines number found) (b.are_lines number found)) (a.are_files number found) (b.are_files number found)
   same-source stdio found = same-file built_in_file (length built_in_text) (take 5 a.built_in_lines) (take 5 b.built_in_lines) _ _ _ _ (ap (take 5) built-in) a.stdio_is b.stdio_is
   same-source stdlib found = same-file built_in_file (length built_in_text) (drop 5 a.built_in_lines) (drop 5 b.built_in_lines) _ _ _ _ (ap (drop 5) built-in) a.stdlib_is b.stdlib_is
 
-  abbrev is_feature : List ℕ → Rattle.std.specs.Prelude.Bool
+  abbrev pub is_feature : List ℕ → Rattle.std.specs.Prelude.Bool
   is_feature = λ name. list_any (bytes_eq name) s.features
 
-  source-same : (n : ℕ) (source : Source) → IsFound (length s.files) source → (r : Reading) → read_source s x n source r ≡ read_source s y n source r
+  pub source-same : (n : ℕ) (source : Source) → IsFound (length s.files) source → (r : Reading) → read_source s x n source r ≡ read_source s y n source r
   source-same zero source found r =
       let e = same-source source found in
       part-same x.value_of y.value_of same-value is_feature s.headers (source_name s source) (x.broken_in source) None None (length s.files) few tt (x.part_of source) r

@@ -47,7 +47,7 @@ module _ (value other : List PlainToken → Option ℤ) (same : (tokens : List P
   line-same table hash tokens null_line = refl
   line-same table hash tokens malformed = refl
 
-  condition-same : (table : Table) (tokens : List PlainToken) → condition_at value table tokens ≡ condition_at other table tokens
+  pub condition-same : (table : Table) (tokens : List PlainToken) → condition_at value table tokens ≡ condition_at other table tokens
   condition-same table [] = refl
   condition-same table (hash ∷ rest) = line-same table hash (hash ∷ rest) (directive_of (hash ∷ rest))
 
@@ -80,7 +80,7 @@ module _ (value other : List PlainToken → Option ℤ) (same : (tokens : List P
     directed-same r hash tokens endif_line = refl
     directed-same r hash tokens malformed = refl
 
-    directive-same : (r : Reading) (tokens : List PlainToken) → read_directive s r tokens ≡ read_directive t r tokens
+    pub directive-same : (r : Reading) (tokens : List PlainToken) → read_directive s r tokens ≡ read_directive t r tokens
     directive-same r [] = refl
     directive-same r (hash ∷ rest) = directed-same r hash (hash ∷ rest) (directive_of (hash ∷ rest))
 
@@ -93,7 +93,7 @@ module _ (value other : List PlainToken → Option ℤ) (same : (tokens : List P
     chosen-same (holds false) a b c d e f = f
     chosen-same (fails why) a b c d e f = refl
 
-    branched-same : (r : Reading) (line : PlainLine) (others : Branches) (a b c d : Flow) → a ≡ b → c ≡ d → branched s r line a others c ≡ branched t r line b others d
+    pub branched-same : (r : Reading) (line : PlainLine) (others : Branches) (a b c d : Flow) → a ≡ b → c ≡ d → branched s r line a others c ≡ branched t r line b others d
     branched-same r line others a b c d e f =
         ap (λ truth. by_condition s truth (then_read a (λ after. skip s after others)) c) (condition-same r.table line.tokens)
         ∙ chosen-same (condition_at other r.table line.tokens) (then_read a (λ after. skip s after others)) (then_read b (λ after. skip t after others)) c d

@@ -1,7 +1,7 @@
 //! What becomes of units: laws of preprocessing in one configuration (ISO/IEC 9899:2011, 6.10), the contracts of functions without a body.
 #![tactic(auto)]
 
-ghost use Rattle.unit_outcomes.specs.Laws.{TokensAreSpelt, UnitsHaveOutcomes};
+ghost use Rattle.unit_outcomes.specs.Laws.{ReadsAreOne, TokensAreSpelt, UnitsHaveOutcomes};
 
 use c_lexer::lines_are_one;
 use plain_pp::projects_have_syntax;
@@ -12,6 +12,13 @@ pub fn units_have_outcomes()
 {
     lines_are_one();
     projects_have_syntax();
+}
+
+/// However a project's files are read, a unit reads the same outside every skipped group.
+pub fn reads_are_one()
+    ensures { ReadsAreOne }
+{
+    lines_are_one();
 }
 
 /// What preprocessing gives is spelt as its kinds say.

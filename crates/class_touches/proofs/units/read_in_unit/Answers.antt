@@ -1,26 +1,31 @@
-use Rattle.std.proofs.Common.{Bool, List, ℕ, Option, Bor, IfOk, IsTrue, sym, subst}
-use Rattle.std.specs.Prelude.{◌↔◌, option_map}
+use Rattle.std.proofs.Common.{List, ℕ, Option, Some, None, Bor, IsTrue, sym, subst}
+use Rattle.std.specs.Prelude.{◌↔◌, Any, option_map}
 use Rattle.text_edits.specs.Files.{plain_files}
 use Rattle.cond_formula.specs.Features.{has}
 use Rattle.cond_formula.specs.Conditions.{condition_of, value}
 use Rattle.project_file.specs.View.{project_view}
 use Rattle.plain_pp.specs.Units.{sources_of, file_of}
-use Rattle.tied_tokens.specs.Tokens.{plain_file_token}
+use Rattle.tied_tokens.specs.Tokens.{plain_file_token, plain_file_tokens}
 use Rattle.class_touches.specs.Touches.{IsReadWhile}
+use Rattle.class_touches.proofs.Reading.{one-made}
 use Rattle.class_touches.proofs.units.read_in_unit.Goals as goal
 
-pub returns-in-Some-clause-read : goal.returns-in-Some-clause-read
-returns-in-Some-clause-read g c =
+pub returns-in_ok-any_defined_at-in-Some-clause-read : goal.returns-in_ok-any_defined_at-in-Some-clause-read
+returns-in_ok-any_defined_at-in-Some-clause-read g c = λ c' admitted.
     let project = project_view c.args.project.now in
-    let files = plain_files c.args.files.now in
-    subst (λ (name : Option (Bor (List ℕ))). IfOk c.defined_at.result (λ f. (c' : List Bool) → IsTrue (value (has c') (g.O.Oracle.admits c.args.oracle.now)) → IsTrue (value (has c') (condition_of f))
-    ↔ IsReadWhile (sources_of project files (has c')) (file_of project c.args.unit) (plain_file_token c.args.token.now) (option_map (λ n. n.now) name)))
-    (sym c.in-Some.is) c.defined_at.ensures.defined
+    let s = sources_of project (plain_files c.args.files.now) (has c') in
+    let number = file_of project c.args.unit in
+    let tokens = c.args.tokens.now in
+    let found = value (has c') (condition_of c.in_ok-any_defined_at-in-Some.value) in
+    subst (λ (name : Option (Bor (List ℕ))). IsTrue found ↔ Any (λ token. IsReadWhile s number token (option_map (λ n. n.now) name)) (plain_file_tokens tokens)) (sym c.in-Some.is)
+    (one-made plain_file_token (λ token. IsReadWhile s number token (Some c.in-Some.field-0.now)) tokens found (c.in_ok-any_defined_at-in-Some.ensures.defined c' admitted))
 
-pub returns-in-None-clause-read : goal.returns-in-None-clause-read
-returns-in-None-clause-read g c =
+pub returns-in_ok-any_active-in-None-clause-read : goal.returns-in_ok-any_active-in-None-clause-read
+returns-in_ok-any_active-in-None-clause-read g c = λ c' admitted.
     let project = project_view c.args.project.now in
-    let files = plain_files c.args.files.now in
-    subst (λ (name : Option (Bor (List ℕ))). IfOk c.active.result (λ f. (c' : List Bool) → IsTrue (value (has c') (g.O.Oracle.admits c.args.oracle.now)) → IsTrue (value (has c') (condition_of f))
-    ↔ IsReadWhile (sources_of project files (has c')) (file_of project c.args.unit) (plain_file_token c.args.token.now) (option_map (λ n. n.now) name)))
-    (sym c.in-None.is) c.active.ensures.active
+    let s = sources_of project (plain_files c.args.files.now) (has c') in
+    let number = file_of project c.args.unit in
+    let tokens = c.args.tokens.now in
+    let found = value (has c') (condition_of c.in_ok-any_active-in-None.value) in
+    subst (λ (name : Option (Bor (List ℕ))). IsTrue found ↔ Any (λ token. IsReadWhile s number token (option_map (λ n. n.now) name)) (plain_file_tokens tokens)) (sym c.in-None.is)
+    (one-made plain_file_token (λ token. IsReadWhile s number token None) tokens found (c.in_ok-any_active-in-None.ensures.active c' admitted))

@@ -1,16 +1,17 @@
-use Rattle.std.specs.Prelude.{None}
 use Rattle.text_edits.specs.Files.{plain_files}
 use Rattle.text_edits.specs.Span.{plain_span}
+use Rattle.c_text.specs.declared.origin.FileToken.{FileToken}
 use Rattle.cond_formula.specs.Features.{has}
-use Rattle.cond_formula.specs.Conditions.{condition_of, value}
+use Rattle.active_tokens.specs.Active.{IsActive}
 use Rattle.project_file.specs.View.{project_view}
 use Rattle.plain_pp.specs.Units.{sources_of, file_of}
-use Rattle.cond_pp.proofs.ActiveLemmas.{found-is}
+use Rattle.cond_pp.proofs.ActiveLemmas.{any-of-one}
 use Rattle.cond_pp.proofs.activity.active.Goals as goal
 
 pub returns-clause-active : goal.returns-clause-active
 returns-clause-active g c =
     λ k adm.
     let view = project_view c.args.project.now in
-    let at = c.args.at.now in
-    found-is c.projects_have_syntax.ensures c.files_have_misplaced.ensures c.reads_are_tested.ensures.exact (sources_of view (plain_files c.args.files.now) (has k)) (file_of view c.args.unit) at.file (plain_span at.span) None (value (has k) (condition_of c.in_ok-found.found)) (λ x are misplaced am. c.in_ok-found.ensures.found k x are misplaced adm am)
+    let found = c.in_ok-found.ensures.active k adm in
+    let one = any-of-one (λ (at : FileToken). IsActive (sources_of view (plain_files c.args.files.now) (has k)) (file_of view c.args.unit) at.file (plain_span at.span)) c.from_ref.result.now c.args.at.now c.from_ref.ensures.value in
+    (λ h. one.0 (found.0 h), λ is. found.1 (one.1 is))

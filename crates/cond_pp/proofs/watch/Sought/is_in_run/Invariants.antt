@@ -1,11 +1,10 @@
 use Rattle.std.proofs.Common.{◌≡◌, map, drop}
 use Rattle.std.specs.List.{list_any}
-use Rattle.text_edits.specs.Span.{plain_span}
 use Rattle.c_text.specs.Token.{plain_token}
-use Rattle.read_walks.specs.Tests.{stands_at}
+use Rattle.read_walks.specs.Tests.{stands_at_one}
 use Rattle.cond_pp.proofs.watch.Sought.is_in_run.Given as goal
 
 abbrev pub invariant-loop-token : goal.invariant-loop-token
 invariant-loop-token l =
-    list_any (stands_at l.self.at.file (plain_span l.self.at.span)) (map (λ t. plain_token t.now) (drop l.token-index l.run))
-    ≡ list_any (stands_at l.self.at.file (plain_span l.self.at.span)) (map (λ t. plain_token t.now) l.run)
+    list_any (stands_at_one l.self.at.now) (map (λ t. plain_token t.now) (drop l.token-index l.run))
+    ≡ list_any (stands_at_one l.self.at.now) (map (λ t. plain_token t.now) l.run)
