@@ -8,4 +8,4 @@ returns-in-FirstBroken-clause-next c = λ place is told. subst (TellsFirst c.arg
 
 pub returns-in_ok-answered-in-Unbroken-clause-next : goal.returns-in_ok-answered-in-Unbroken-clause-next
 returns-in_ok-answered-in-Unbroken-clause-next c = λ place is told.
-    c.in_ok-answered.ensures.more place is (subst (TellsFirst c.args.asked.now place (earlier (plain_precondition c.args.precondition))) c.in-Unbroken.is told)
+    c.in_ok-answered-in-Unbroken.ensures.more place is (subst (TellsFirst c.args.asked.now place (earlier (plain_precondition c.args.precondition))) c.in-Unbroken.is told)
