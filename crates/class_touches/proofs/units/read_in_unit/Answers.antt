@@ -16,9 +16,9 @@ returns-in_ok-any_defined_at-in-Some-clause-read g c = λ c' admitted.
     let s = sources_of project (plain_files c.args.files.now) (has c') in
     let number = file_of project c.args.unit in
     let tokens = c.args.tokens.now in
-    let found = value (has c') (condition_of c.in_ok-any_defined_at-in-Some.value) in
+    let found = value (has c') (condition_of c.in_ok-any_defined_at-in-Some.field-0) in
     subst (λ (name : Option (Bor (List ℕ))). IsTrue found ↔ Any (λ token. IsReadWhile s number token (option_map (λ n. n.now) name)) (plain_file_tokens tokens)) (sym c.in-Some.is)
-    (one-made plain_file_token (λ token. IsReadWhile s number token (Some c.in-Some.field-0.now)) tokens found (c.in_ok-any_defined_at-in-Some.ensures.defined c' admitted))
+    (one-made plain_file_token (λ token. IsReadWhile s number token (Some c.in-Some.name.now)) tokens found (c.in_ok-any_defined_at-in-Some.ensures.defined c' admitted))
 
 pub returns-in_ok-any_active-in-None-clause-read : goal.returns-in_ok-any_active-in-None-clause-read
 returns-in_ok-any_active-in-None-clause-read g c = λ c' admitted.
@@ -26,6 +26,6 @@ returns-in_ok-any_active-in-None-clause-read g c = λ c' admitted.
     let s = sources_of project (plain_files c.args.files.now) (has c') in
     let number = file_of project c.args.unit in
     let tokens = c.args.tokens.now in
-    let found = value (has c') (condition_of c.in_ok-any_active-in-None.value) in
+    let found = value (has c') (condition_of c.in_ok-any_active-in-None.field-0) in
     subst (λ (name : Option (Bor (List ℕ))). IsTrue found ↔ Any (λ token. IsReadWhile s number token (option_map (λ n. n.now) name)) (plain_file_tokens tokens)) (sym c.in-None.is)
     (one-made plain_file_token (λ token. IsReadWhile s number token None) tokens found (c.in_ok-any_active-in-None.ensures.active c' admitted))
