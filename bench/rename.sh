@@ -1,7 +1,7 @@
 #!/usr/bin/env bash
 # Measures `morpheus rename` on projects that grow with the number of features: for 8, 16, 32 and 64 features the time and the peak of each family
 # of `bench/projects.sh`, in which a name of the unit gets another; and a project of 20 units, 2,000 functions and 64 features in which a function that is
-# declared for all of them does. Each must be renamed. Needs GNU time and awk. Ends with 1 where an answer is another, where the time of a family grows by
+# declared for all of them does, and then an object that each function uses. Each must be renamed. Needs GNU time and awk. Ends with 1 where an answer is another, where the time of a family grows by
 # more than 3 from 32 to 64 features, or where the large project takes two minutes or more. A time below 0.05 s isn't compared.
 #
 #   bench/rename.sh [FAMILY..]    these families alone, without the large project
@@ -69,7 +69,9 @@ done
 [ $# -eq 0 ] || exit "$failed"
 
 large
-read -r seconds peak < <(best all.h f0 300)
-printf '\n20 units, 2,000 functions, 64 features: %s in %.2f s, %d MiB.\n' "$(cat output)" "$seconds" $((peak / 1024))
-case $(cat output) in renamed*) awk -v s="$seconds" 'BEGIN { exit s >= 120 }' || failed=1 ;; *) failed=1 ;; esac
+for name in f0 shared; do
+  read -r seconds peak < <(best all.h "$name" 300)
+  printf '\n20 units, 2,000 functions, 64 features, %s: %s in %.2f s, %d MiB.\n' "$name" "$(cat output)" "$seconds" $((peak / 1024))
+  case $(cat output) in renamed*) awk -v s="$seconds" 'BEGIN { exit s >= 120 }' || failed=1 ;; *) failed=1 ;; esac
+done
 exit "$failed"

@@ -121,8 +121,8 @@ fn of_sources(
             let said = refused_at(alloc, &text.project, precondition.name(), least)?;
             Ok(said)
         }
-        Outcome::Renamed(class, _) => {
-            let said = renamed(alloc, query, text, files, &class)?;
+        Outcome::Renamed(found) => {
+            let said = renamed(alloc, query, text, files, &found.class)?;
             Ok(said)
         }
     }

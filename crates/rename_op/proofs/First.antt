@@ -55,18 +55,18 @@ told-of-same asked place precondition caused live same tells c admitted touched 
     (λ h. (tells c admitted touched).0 (subst IsTrue (same c admitted) h), λ x. subst IsTrue (sym (same c admitted)) ((tells c admitted touched).1 x))
 
 module _ (project : PlainProject) (Holds : Precondition → List Bool → Type 0) where
-  pub none-before : (preconditions : List Precondition) (proofs : List Proof) → AreShown project Holds preconditions proofs → AllByRecursion (λ p. Nowhere project (Holds p)) preconditions
+  pub none-before : (ps : List Precondition) (proofs : List Proof) → AreShown project Holds ps proofs → AllByRecursion (λ p. Nowhere project (Holds p)) ps
   none-before [] proofs shown = tt
-  none-before (p ∷ preconditions) [] shown = absurd shown
-  none-before (p ∷ preconditions) (proof ∷ proofs) shown = (none-shown project (Holds p) proof shown.0, none-before preconditions proofs shown.1)
+  none-before (p ∷ ps) [] shown = absurd shown
+  none-before (p ∷ ps) (proof ∷ proofs) shown = (none-shown project (Holds p) proof shown.0, none-before ps proofs shown.1)
 
   pub one-more :
-      (preconditions : List Precondition) (proofs : List Proof) (p : Precondition) (proof : Proof) → AreShown project Holds preconditions proofs → ShowsNone project (Holds p) proof
-      → AreShown project Holds (preconditions ++ p ∷ []) (proofs ++ proof ∷ [])
+      (ps : List Precondition) (proofs : List Proof) (p : Precondition) (proof : Proof) → AreShown project Holds ps proofs → ShowsNone project (Holds p) proof
+      → AreShown project Holds (ps ++ p ∷ []) (proofs ++ proof ∷ [])
   one-more [] [] p proof shown none = (none, tt)
   one-more [] (other ∷ proofs) p proof shown none = absurd shown
-  one-more (q ∷ preconditions) [] p proof shown none = absurd shown
-  one-more (q ∷ preconditions) (other ∷ proofs) p proof shown none = (shown.0, one-more preconditions proofs p proof shown.1 none)
+  one-more (q ∷ ps) [] p proof shown none = absurd shown
+  one-more (q ∷ ps) (other ∷ proofs) p proof shown none = (shown.0, one-more ps proofs p proof shown.1 none)
 
 module _ (asked : Asked) (place : PlainFileToken) where
   pub unhindered : (proofs : List Proof) → AreShown (project_of asked) (BreaksIn asked place) preconditions proofs → NothingStandsInTheWay (project_of asked) (files_of asked) place (renaming asked)

@@ -75,4 +75,4 @@ module _ (project : PlainProject) (files : List PlainFile) (file offset : ℕ) (
   IsOutcome Nothing = Nowhere project (Finds project files file offset)
   IsOutcome SameName = HasOldName
   IsOutcome (Refused precondition c) = IsRefused (plain_precondition precondition) c
-  IsOutcome (Renamed tokens proofs) = IsRenamed (plain_file_tokens tokens.items) proofs.items
+  IsOutcome (Renamed found) = IsRenamed (plain_file_tokens found.class.items) found.proofs.items

@@ -10,4 +10,4 @@ mod operation;
 mod outcomes;
 
 pub use operation::rename;
-pub use outcomes::{Outcome, Precondition};
+pub use outcomes::{Outcome, Precondition, Unhindered};

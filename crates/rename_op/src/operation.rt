@@ -20,7 +20,7 @@ ghost use Rattle.rename_op.specs.Asked.{IsAsked, BreaksIn, TellsFirst, project_o
 
 use crate::asked::{Answered, Asked};
 use crate::breaking::least_breaking;
-use crate::outcomes::{Outcome, Precondition};
+use crate::outcomes::{Outcome, Precondition, Unhindered};
 use c_text::FileToken;
 use class_edits::{bytes_tell_tokens, listed_stand_apart, name_at, token_at};
 use class_touches::touched;
@@ -136,23 +136,13 @@ fn first_breaking(
         Precondition::MacroName,
         oracle,
     )?;
-    let fixed = ask_next(
-        alloc,
-        asked,
-        read,
-        macro_name,
-        Precondition::Fixed,
-        oracle,
-    )?;
+    let fixed = ask_next(alloc, asked, read, macro_name, Precondition::Fixed, oracle)?;
     let capture = ask_next(alloc, asked, read, fixed, Precondition::Capture, oracle)?;
     Ok(capture)
 }
 
 /// The same, asked of the configurations that the project admits.
-fn first_broken(
-    alloc: Global,
-    asked: &Asked<'_>,
-) -> Result<Answered, NoMemory>
+fn first_broken(alloc: Global, asked: &Asked<'_>) -> Result<Answered, NoMemory>
     requires named { map (λ f. f.name) (plain_files asked.now.files.now) ≡ names_of (project_view asked.now.project.now) }
     requires short { All (λ f. length f.bytes ≤ 4294967295) (plain_files asked.now.files.now) }
     requires few { length asked.now.files.now.list.items < 4294967295 }
@@ -208,7 +198,7 @@ fn outcome_at(
     let answered = first_broken(alloc, &asked)?;
     match answered {
         Answered::FirstBroken(precondition, c) => Ok(Outcome::Refused(precondition, c)),
-        Answered::Unbroken(proofs) => Ok(Outcome::Renamed(class, proofs)),
+        Answered::Unbroken(proofs) => Ok(Outcome::Renamed(Unhindered { class, proofs })),
     }
 }
 

@@ -39,6 +39,15 @@ impl Precondition {
     }
 }
 
+/// A class in the way of whose renaming nothing stands.
+#[derive(Drop)]
+pub struct Unhindered {
+    /// The tokens that get the new name, those of built-in headers among them, in the order of the files and of their texts.
+    pub class: Vec<FileToken>,
+    /// For each precondition, in order, a refutation of the question where it is broken.
+    pub proofs: Vec<Proof>,
+}
+
 /// What becomes of a renaming.
 #[derive(Drop)]
 pub enum Outcome {
@@ -48,7 +57,6 @@ pub enum Outcome {
     SameName,
     /// The first precondition that is broken, with the least configuration that breaks it.
     Refused(Precondition, Config),
-    /// The tokens that get the new name, those of built-in headers among them, in the order of the files and of their texts; and for each
-    /// precondition, in order, a refutation of the question where it is broken.
-    Renamed(Vec<FileToken>, Vec<Proof>),
+    /// The class gets the new name.
+    Renamed(Unhindered),
 }

@@ -86,8 +86,7 @@ fn is_refuted(alloc: Global, f: &Formula) -> bool
     }
     match features_of(f) {
         Some(features) => {
-            !is_true_with_one(f, features)
-                && matches!(solve(alloc, f, features), Answer::Unsat(_))
+            !is_true_with_one(f, features) && matches!(solve(alloc, f, features), Answer::Unsat(_))
         }
         None => false,
     }

@@ -44,7 +44,7 @@ returns-in_ok-said-in-Renamed c =
     let project = project_view text.project in
     let sources = plain_files c.args.files.now in
     let outcome : IsOutcome project sources c.args.number q.offset q.new c.in_ok-outcome.outcome = subst (λ (new : List ℕ). IsOutcome project sources c.args.number q.offset new c.in_ok-outcome.outcome) c.as_bytes-new.ensures.value c.in_ok-outcome.ensures in
-    let renamed : IsRenamed project sources c.args.number q.offset q.new (plain_file_tokens c.in-Renamed.class.items) c.in-Renamed.field-1.items = subst (IsOutcome project sources c.args.number q.offset q.new) c.in-Renamed.is outcome in
-    let seen : IsRenamed project sources c.args.number q.offset q.new (plain_file_tokens c.deref.result.now) c.in-Renamed.field-1.items = subst (λ (tokens : List FileToken). IsRenamed project sources c.args.number q.offset q.new (plain_file_tokens tokens) c.in-Renamed.field-1.items) (sym c.deref.ensures.value) renamed in
-    renaming-said q (source_of q text) project c.args.number sources (plain_file_tokens c.deref.result.now) c.in-Renamed.field-1.items seen (says (saying c.in_ok-said-in-Renamed.said))
+    let renamed : IsRenamed project sources c.args.number q.offset q.new (plain_file_tokens c.in-Renamed.found.class.items) c.in-Renamed.found.proofs.items = subst (IsOutcome project sources c.args.number q.offset q.new) c.in-Renamed.is outcome in
+    let seen : IsRenamed project sources c.args.number q.offset q.new (plain_file_tokens c.deref.result.now) c.in-Renamed.found.proofs.items = subst (λ (tokens : List FileToken). IsRenamed project sources c.args.number q.offset q.new (plain_file_tokens tokens) c.in-Renamed.found.proofs.items) (sym c.deref.ensures.value) renamed in
+    renaming-said q (source_of q text) project c.args.number sources (plain_file_tokens c.deref.result.now) c.in-Renamed.found.proofs.items seen (says (saying c.in_ok-said-in-Renamed.said))
     (λ old. ap (λ x. says x) (c.in_ok-said-in-Renamed.ensures old))
