@@ -3,7 +3,7 @@ use Rattle.std.proofs.Common.{◌≡◌, ℕ, zero, suc, ◌+◌, ◌<◌, ◌�
 use Rattle.std.specs.Prelude.{slice_get, remove, option_map}
 use Rattle.std.proofs.lemmas.List.{drop_all, map-append}
 use Rattle.std.proofs.Math.Bool.{or_assoc, or_comm, or-false}
-use Rattle.cond_formula.specs.Conditions.{Condition, Always, value, condition_of, IsDisjunction}
+use Rattle.cond_formula.specs.Conditions.{Condition, Always, value, condition_of}
 use Rattle.conditional.specs.declared.entries.Guarded.{Guarded}
 use Rattle.conditional.specs.Entries.{Entry, entry_of, entries_of, seen, first, some_holds, Carry, Stands, Sees, Places, PlacesUnder}
 use Rattle.conditional.proofs.ListLaws.{item_of, first_at}
@@ -55,19 +55,19 @@ placed_new form on x old new is = rw (is, map-append (entry_of form) old (x ∷ 
 })
 
 pub placed_joined : {T P : Type 0} (form : T → P) (on : ℕ → Bool) (v : P) (a x : Guarded T) (when : Condition) (old new : List (Guarded T)) (i : ℕ) →
-    slice_get old i ≡ Some a → v ≡ form a.what → form x.what ≡ form a.what → IsDisjunction (condition_of a.when) when (condition_of x.when) →
+    slice_get old i ≡ Some a → v ≡ form a.what → form x.what ≡ form a.what → value on (condition_of x.when) ≡ (value on (condition_of a.when) || value on when) →
     new ≡ remove old i ++ x ∷ [] → Places on when v (entries_of form old) (entries_of form new)
 placed_joined form on v a x when old new i found is_v is_x either is =
     let pushed = placed_new form on x (remove old i) new is in
     record {
       held =
           pushed.held
-          ∙ ap (λ (k : Bool). some_holds on (entries_of form (remove old i)) || k) (either.holds on)
+          ∙ ap (λ (k : Bool). some_holds on (entries_of form (remove old i)) || k) either
           ∙ sym (or_assoc (some_holds on (entries_of form (remove old i))) (value on (condition_of a.when)) (value on when))
           ∙ ap (λ (k : Bool). k || value on when) (sym (held_without form on old i a found));
       carry = λ w carry also.
           pushed.carry w (carry_without form on w old i carry)
-          (λ t. is_x ∙ from_either (value on (condition_of a.when)) (value on when) (let e = either.holds on in rw e at t)
+          (λ t. is_x ∙ from_either (value on (condition_of a.when)) (value on when) (rw either at t)
           (λ s. carry_at form on w old i a found carry s) (λ s. sym is_v ∙ also s));
     }
 

@@ -6,6 +6,7 @@ ghost use Rattle.conditional.specs.Entries.{entries_of, some_holds};
 
 use crate::plain::Plain;
 use cond_formula::{Formula, NoMemory};
+use reduced_conditions::either;
 use std::alloc::Global;
 
 /// A value under a condition: it holds in the configurations in which the condition is true.
@@ -21,7 +22,7 @@ pub fn when_some_hold<T: Plain>(alloc: Global, entries: &[Guarded<T>]) -> Result
 {
     let mut some = Formula::False;
     for entry in entries {
-        some = Formula::or(alloc, some, entry.when.try_clone(alloc)?)?;
+        some = either(alloc, some, entry.when.try_clone(alloc)?)?;
     }
     Ok(some)
 }
@@ -30,6 +31,6 @@ pub fn when_some_hold<T: Plain>(alloc: Global, entries: &[Guarded<T>]) -> Result
 pub(crate) fn both(alloc: Global, a: &Formula, b: &Formula) -> Result<Formula, NoMemory>
     ensures { IfOk result (λ f. (on : ℕ → Bool) → value on (condition_of f) ≡ (value on (condition_of a.now) && value on (condition_of b.now))) }
 {
-    let f = Formula::and(alloc, a.try_clone(alloc)?, b.try_clone(alloc)?)?;
+    let f = reduced_conditions::both(alloc, a.try_clone(alloc)?, b.try_clone(alloc)?)?;
     Ok(f)
 }

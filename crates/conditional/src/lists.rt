@@ -9,6 +9,7 @@ use crate::entries::{Guarded, both};
 use crate::plain::{Function, Plain};
 use crate::values::CondValue;
 use cond_formula::{Formula, May, NoMemory, Oracle};
+use reduced_conditions::{either, without};
 use std::alloc::Global;
 
 /// A conditional list: in a configuration it is the list of the entries that hold there, in their order.
@@ -60,10 +61,9 @@ impl<T: Plain> CondList<T> {
         let mut all = CondValue::nothing(alloc);
         let mut earlier = Formula::False;
         for entry in &self.entries {
-            let elsewhere = Formula::not(alloc, earlier.try_clone(alloc)?)?;
-            let here = Formula::and(alloc, entry.when.try_clone(alloc)?, elsewhere)?;
+            let here = without(alloc, entry.when.try_clone(alloc)?, &earlier)?;
             all.place(alloc, here, entry.what.try_clone(alloc)?)?;
-            earlier = Formula::or(alloc, earlier, entry.when.try_clone(alloc)?)?;
+            earlier = either(alloc, earlier, entry.when.try_clone(alloc)?)?;
         }
         Ok(all)
     }

@@ -8,6 +8,7 @@ ghost use Rattle.conditional.specs.Entries.{entries_of, alternatives, Sees, Plac
 use crate::entries::{Guarded, both};
 use crate::plain::{Function, Plain};
 use cond_formula::{Formula, May, NoMemory, Oracle};
+use reduced_conditions::either;
 use std::alloc::Global;
 
 /// A conditional value: in a configuration it is the value of the alternatives that hold there, which agree, or nothing
@@ -167,7 +168,7 @@ fn widen<T: Plain>(
     ensures { IfOk result (λ _. (v : T.Form) (a : Guarded T) → slice_get alternatives.old.items i ≡ Some a → v ≡ T.form a.what → (on : ℕ → Bool) → Places on (condition_of when) v (entries_of T.form alternatives.old.items) (entries_of T.form alternatives.new.items)) }
 {
     let Guarded { when: before, what } = alternatives.remove(i);
-    let either = Formula::or(alloc, before, when)?;
-    alternatives.push(Guarded { when: either, what })?;
+    let wider = either(alloc, before, when)?;
+    alternatives.push(Guarded { when: wider, what })?;
     Ok(())
 }

@@ -81,3 +81,56 @@ pub kept_true : (k p r new : Bool) → (IsTrue (k && p) → IsTrue new) → IsTr
 kept_true true true r new e h = ap (λ (b : Bool). b && r) (e refl) ∙ h
 kept_true true false r new e h = cc
 kept_true false p r new e h = cc
+
+-- ---- what is left out
+
+pub excluded_not : (a b : Bool) → (a && b) ≡ false → a ≡ (a && not b)
+excluded_not true true h = h
+excluded_not true false h = refl
+excluded_not false b h = refl
+
+pub excluded_goes : (part rest b : Bool) → (part && b) ≡ false → ((part || rest) && b) ≡ (rest && b)
+excluded_goes true true b h = refl
+excluded_goes true false b h = h
+excluded_goes false rest b h = refl
+
+pub excluded_turned : (a b : Bool) → (a && b) ≡ false → (b && a) ≡ false
+excluded_turned true true h = h
+excluded_turned true false h = refl
+excluded_turned false true h = refl
+excluded_turned false false h = refl
+
+pub excluded_false : (a b : Bool) → (a && b) ≡ false → IsTrue b → IsTrue (not a)
+excluded_false true true h is = sym h
+excluded_false true false h is = is
+excluded_false false b h is = refl
+
+pub implied_without : (a b : Bool) → (IsTrue a → IsTrue b) → false ≡ (a && not b)
+implied_without true true h = refl
+implied_without true false h = h refl
+implied_without false b h = refl
+
+pub without_inside : (a b more e : Bool) → (IsTrue a → more ≡ b) → e ≡ not more → (a && e) ≡ (a && not b)
+without_inside true b more e h is = is ∙ ap not (h refl)
+without_inside false b more e h is = refl
+
+pub both_inside : (a b here : Bool) → (IsTrue b → here ≡ a) → (here && b) ≡ (a && b)
+both_inside a true here h = ap (λ (k : Bool). k && true) (h refl)
+both_inside true false true h = refl
+both_inside true false false h = refl
+both_inside false false true h = refl
+both_inside false false false h = refl
+
+pub elsewhere_either : (a b e : Bool) → (a ≡ false → e ≡ b) → e ≡ true → true ≡ (a || b)
+elsewhere_either true b e h is = refl
+elsewhere_either false b e h is = sym is ∙ h refl
+
+-- a part that the other says already
+
+pub said_already : (k p : Bool) → IsTrue p → k ≡ (k && p)
+said_already true p is = sym is
+said_already false p is = refl
+
+pub false_where_not : (o p : Bool) → (IsTrue o → p ≡ false) → IsTrue p → o ≡ false
+false_where_not true p h is = sym is ∙ h refl
+false_where_not false p h is = refl

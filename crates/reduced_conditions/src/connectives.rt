@@ -4,8 +4,9 @@ ghost use Rattle.std.specs.Prelude.{◌≡◌, ℕ, Bool, not, ◌&&◌, ◌||�
 ghost use Rattle.cond_formula.specs.Conditions.{condition_of, value};
 
 use crate::elsewhere::outside;
+use crate::inside::inside;
 use crate::parts::{exclude_each_other, is_implied};
-use crate::same::is_opposite;
+use crate::same::{is_always, is_opposite};
 use cond_formula::{Formula, NoMemory};
 use std::alloc::Global;
 
@@ -22,7 +23,8 @@ pub fn both(alloc: Global, a: Formula, b: Formula) -> Result<Formula, NoMemory>
     if exclude_each_other(&a, &b) {
         return Ok(Formula::False);
     }
-    let f = Formula::and(alloc, a, b)?;
+    let here = inside(alloc, a, &b)?;
+    let f = Formula::and(alloc, here, b)?;
     Ok(f)
 }
 
@@ -40,6 +42,9 @@ pub fn either(alloc: Global, a: Formula, b: Formula) -> Result<Formula, NoMemory
         return Ok(Formula::True);
     }
     let elsewhere = outside(alloc, &b, &a)?;
+    if is_always(&elsewhere) {
+        return Ok(Formula::True);
+    }
     let f = Formula::or(alloc, a, elsewhere)?;
     Ok(f)
 }
@@ -48,7 +53,14 @@ pub fn either(alloc: Global, a: Formula, b: Formula) -> Result<Formula, NoMemory
 pub fn without(alloc: Global, a: Formula, b: &Formula) -> Result<Formula, NoMemory>
     ensures { IfOk result (λ f. (on : ℕ → Bool) → value on (condition_of f) ≡ (value on (condition_of a) && not (value on (condition_of b.now)))) }
 {
-    let elsewhere = Formula::not(alloc, b.try_clone(alloc)?)?;
+    if exclude_each_other(&a, b) {
+        return Ok(a);
+    }
+    if is_implied(b, &a) {
+        return Ok(Formula::False);
+    }
+    let more = inside(alloc, b.try_clone(alloc)?, &a)?;
+    let elsewhere = Formula::not(alloc, more)?;
     let here = both(alloc, a, elsewhere)?;
     Ok(here)
 }

@@ -4,6 +4,7 @@
 
 mod connectives;
 mod elsewhere;
+mod inside;
 mod parts;
 mod same;
 

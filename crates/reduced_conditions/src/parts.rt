@@ -53,16 +53,16 @@ fn says_one(a: &Formula, parts: &[Formula]) -> bool
     false
 }
 
-/// Whether the parts of the formulas show that the first is true wherever the second is.
-#[tactic(auto, using(cond_formula::specs::ConditionLaws::formula_kinds))]
-pub fn is_implied(a: &Formula, b: &Formula) -> bool
-    ensures { IsTrue result → (on : ℕ → Bool) → IsTrue (value on (condition_of b.now)) → IsTrue (value on (condition_of a.now)) }
+// Whether a part of the first conjunction is the opposite of one of the second. The last part, which tells a branch of a chain
+// from the others, comes first.
+fn have_opposites(parts: &[Formula], others: &[Formula]) -> bool
+    ensures { IsTrue result → (on : ℕ → Bool) → IsTrue (all_true on (conditions_of parts.now)) → all_true on (conditions_of others.now) ≡ false }
 {
-    if is_always(a) || is_never(b) || says(b, a) {
-        return true;
-    }
-    if let Formula::Or(parts) = a {
-        return says_one(b, parts);
+    let count = parts.len();
+    for i in 0..count {
+        if has_opposite(others, &parts[count - 1 - i]) {
+            return true;
+        }
     }
     false
 }
@@ -72,18 +72,58 @@ pub fn is_implied(a: &Formula, b: &Formula) -> bool
 fn rules_out(a: &Formula, b: &Formula) -> bool
     ensures { IsTrue result → (on : ℕ → Bool) → IsTrue (value on (condition_of a.now)) → value on (condition_of b.now) ≡ false }
 {
-    if let Formula::And(parts) = a {
-        return has_opposite(parts, b);
+    match (a, b) {
+        (Formula::And(parts), Formula::And(others)) => have_opposites(parts, others),
+        (Formula::And(parts), _) => has_opposite(parts, b),
+        _ => is_opposite(a, b),
     }
-    is_opposite(a, b)
 }
 
-/// Whether the parts of the formulas show that they are nowhere both true.
-pub fn exclude_each_other(a: &Formula, b: &Formula) -> bool
+fn are_apart(a: &Formula, b: &Formula) -> bool
     ensures { IsTrue result → (on : ℕ → Bool) → (value on (condition_of a.now) && value on (condition_of b.now)) ≡ false }
 {
     if rules_out(a, b) {
         return true;
     }
     rules_out(b, a)
+}
+
+fn all_are_apart(parts: &[Formula], f: &Formula) -> bool
+    ensures { IsTrue result → (on : ℕ → Bool) → (any_true on (conditions_of parts.now) && value on (condition_of f.now)) ≡ false }
+{
+    for part in parts {
+        if !are_apart(part, f) {
+            return false;
+        }
+    }
+    true
+}
+
+/// Whether the parts of the formulas show that they are nowhere both true.
+#[tactic(auto, using(cond_formula::specs::ConditionLaws::formula_kinds))]
+pub fn exclude_each_other(a: &Formula, b: &Formula) -> bool
+    ensures { IsTrue result → (on : ℕ → Bool) → (value on (condition_of a.now) && value on (condition_of b.now)) ≡ false }
+{
+    if let Formula::Or(parts) = a {
+        return all_are_apart(parts, b);
+    }
+    if let Formula::Or(parts) = b {
+        return all_are_apart(parts, a);
+    }
+    are_apart(a, b)
+}
+
+/// Whether the parts of the formulas show that the first is true wherever the second is.
+#[tactic(auto, using(cond_formula::specs::ConditionLaws::formula_kinds))]
+pub fn is_implied(a: &Formula, b: &Formula) -> bool
+    ensures { IsTrue result → (on : ℕ → Bool) → IsTrue (value on (condition_of b.now)) → IsTrue (value on (condition_of a.now)) }
+{
+    if is_always(a) || is_never(b) || says(b, a) {
+        return true;
+    }
+    match a {
+        Formula::Or(parts) => says_one(b, parts),
+        Formula::Not(inner) => exclude_each_other(inner, b),
+        _ => false,
+    }
 }

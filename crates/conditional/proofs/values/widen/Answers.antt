@@ -9,5 +9,5 @@ pub returns : goal.returns
 returns g c = λ v a found is on.
     let e = get_or_from_slice_get c.args.alternatives.now.items c.args.i a c.remove-before.result found in
     let taken = c.remove-before.ensures.value ∙ e in
-    placed_joined g.T.Plain.form on v a (record { when = c.in_ok-either.either; what = c.remove-before.result.what }) (condition_of c.args.when) _ _ c.args.i found is
-    (ap (λ (x : Guarded _). g.T.Plain.form x.what) taken) (rw (← taken) (search rules)) (search rules)
+    placed_joined g.T.Plain.form on v a (record { when = c.in_ok-wider.wider; what = c.remove-before.result.what }) (condition_of c.args.when) _ _ c.args.i found is
+    (ap (λ (x : Guarded _). g.T.Plain.form x.what) taken) (rw (← taken) (c.in_ok-wider.ensures on)) (search rules)

@@ -1,7 +1,7 @@
 use Rattle.std.proofs.Common.{sym}
 use Rattle.cond_formula.specs.Conditions.{condition_of, value}
 use Rattle.reduced_conditions.proofs.PartLemmas.{ruled_out, ruled_out_left}
-use Rattle.reduced_conditions.proofs.parts.exclude_each_other.Goals as goal
+use Rattle.reduced_conditions.proofs.parts.are_apart.Goals as goal
 
 pub returns-then-rules_out : goal.returns-then-rules_out
 returns-then-rules_out c = λ t on.
