@@ -26,10 +26,11 @@ use expression_types::expressions_have_types;
 use known_tables::Visible;
 use operand_types::types_are_kept;
 use reduced_conditions::{both, either, without};
+use refuted_parts::without_refuted;
 use std::alloc::Global;
 use type_tables::{DeclaredType, Tables};
 
-/// Where an expression is refused that is used so.
+/// Where an expression is refused that is used so. What is never true is left out, so that no question about many of them is large.
 fn where_expression_refused<O: Oracle>(
     alloc: Global,
     oracle: &mut O,
@@ -48,7 +49,8 @@ fn where_expression_refused<O: Oracle>(
     expressions_have_types();
     let visible = Visible { tables };
     let read = read_expression(alloc, &visible, oracle, item)?;
-    where_operand_refused(alloc, returns, usage, read.outcomes)
+    let refused = where_operand_refused(alloc, returns, usage, read.outcomes)?;
+    without_refuted(alloc, oracle, &refused)
 }
 
 /// Where an expression in the head of a `for` is refused: before its last `;` it is a condition, behind it it isn't (6.8.5.3).

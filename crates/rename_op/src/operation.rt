@@ -51,10 +51,10 @@ fn ask_one(
     requires as_many { length asked.now.analysis.now.told.numbered.items ≡ length asked.now.project.now.units.items }
     requires features { length asked.now.project.now.features.items ≤ 128 }
     requires below { VarsBelow (length asked.now.project.now.features.items) (admitted asked.now.project.now.model) }
-    requires model { admitted oracle.old.model.now ≡ admitted asked.now.project.now.model }
+    requires model { admitted oracle.old ≡ admitted asked.now.project.now.model }
     requires touched { (c : List Bool) → IsAdmitted (project_of asked.now) c → IsTrue (value (has c) (condition_of read.now))
         ↔ IsTouchedBy (project_of asked.now) (files_of asked.now) (plain_file_tokens asked.now.class.now) c }
-    ensures kept { admitted oracle.new.model.now ≡ admitted oracle.old.model.now }
+    ensures kept { admitted oracle.new ≡ admitted oracle.old }
     ensures more { IfOk result (λ a. (place : PlainFileToken) → IsAsked asked.now place
         → AreShown (project_of asked.now) (BreaksIn asked.now place) (earlier (plain_precondition precondition)) proofs.items
         → TellsFirst asked.now place (earlier (plain_precondition precondition) ++ plain_precondition precondition ∷ []) a) }
@@ -84,10 +84,10 @@ fn ask_next(
     requires as_many { length asked.now.analysis.now.told.numbered.items ≡ length asked.now.project.now.units.items }
     requires features { length asked.now.project.now.features.items ≤ 128 }
     requires below { VarsBelow (length asked.now.project.now.features.items) (admitted asked.now.project.now.model) }
-    requires model { admitted oracle.old.model.now ≡ admitted asked.now.project.now.model }
+    requires model { admitted oracle.old ≡ admitted asked.now.project.now.model }
     requires touched { (c : List Bool) → IsAdmitted (project_of asked.now) c → IsTrue (value (has c) (condition_of read.now))
         ↔ IsTouchedBy (project_of asked.now) (files_of asked.now) (plain_file_tokens asked.now.class.now) c }
-    ensures kept { admitted oracle.new.model.now ≡ admitted oracle.old.model.now }
+    ensures kept { admitted oracle.new ≡ admitted oracle.old }
     ensures next { IfOk result (λ a. (place : PlainFileToken) → IsAsked asked.now place → TellsFirst asked.now place (earlier (plain_precondition precondition)) before
         → TellsFirst asked.now place (earlier (plain_precondition precondition) ++ plain_precondition precondition ∷ []) a) }
 {
@@ -113,7 +113,7 @@ fn first_breaking(
     requires as_many { length asked.now.analysis.now.told.numbered.items ≡ length asked.now.project.now.units.items }
     requires features { length asked.now.project.now.features.items ≤ 128 }
     requires below { VarsBelow (length asked.now.project.now.features.items) (admitted asked.now.project.now.model) }
-    requires model { admitted oracle.old.model.now ≡ admitted asked.now.project.now.model }
+    requires model { admitted oracle.old ≡ admitted asked.now.project.now.model }
     requires touched { (c : List Bool) → IsAdmitted (project_of asked.now) c → IsTrue (value (has c) (condition_of read.now))
         ↔ IsTouchedBy (project_of asked.now) (files_of asked.now) (plain_file_tokens asked.now.class.now) c }
     ensures { IfOk result (λ a. (place : PlainFileToken) → IsAsked asked.now place → TellsFirst asked.now place preconditions a) }

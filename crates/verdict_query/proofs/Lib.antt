@@ -1,1 +1,2 @@
 pub mod FewerFeatures
+pub mod Refuted

@@ -1,8 +1,9 @@
 -- Questions about the configurations that a model admits, and what is answered.
-use Rattle.std.specs.Prelude.{◌≡◌, ℕ, ◌≤◌, List, Bool, ⊤}
-use Rattle.cond_formula.specs.Conditions.{Condition, All_of, none, more, value, VarsBelow}
+use Rattle.std.specs.Prelude.{◌≡◌, ℕ, ◌≤◌, List, [], ◌∷◌, Bool, ⊤}
+use Rattle.cond_formula.specs.Conditions.{Condition, All_of, none, more, value, condition_of, VarsBelow}
+use Rattle.cond_formula.specs.declared.formulas.Formula.{Formula}
 use Rattle.clause_search.specs.Answers.{literals_of, steps_of}
-use Rattle.sat_core.specs.Models.{IsLeastModel}
+use Rattle.sat_core.specs.Models.{IsLeastModel, HasNoModel}
 use Rattle.sat_core.specs.Answers.{Refutes}
 use Rattle.verdict_query.specs.declared.questions.Verdict.{Verdict}
 use Rattle.verdict_query.specs.declared.questions.Verdict.TheVariants.{Never, Least, Memory}
@@ -10,6 +11,11 @@ use Rattle.verdict_query.specs.declared.questions.Verdict.TheVariants.{Never, Le
 -- true in the configurations that the model admits and in which the condition is true
 abbrev pub where_admitted : Condition → Condition → Condition
 where_admitted admitted condition = All_of (more admitted (more condition none))
+
+-- none of the formulas is true in a configuration that the model admits
+unfoldable pub AreNever : Condition → List Formula → Type 0
+AreNever admitted [] = ⊤
+AreNever admitted (f ∷ fs) = HasNoModel (where_admitted admitted (condition_of f)) × AreNever admitted fs
 
 -- The least admitted configuration that makes the condition true; or a refutation, where none does; or want of memory. Every
 -- feature that a project may have counts as one.

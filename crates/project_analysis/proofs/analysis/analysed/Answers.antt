@@ -23,7 +23,7 @@ returns c = record {
   numbered = c.in_ok-told.ensures.numbered;
   as_many = AllZip-long IsNumbered c.in_ok-parsed.parsed.forests.items c.in_ok-told.told.numbered.items c.in_ok-told.ensures.numbered ∙ c.in_ok-parsed.ensures.as_many;
   told = λ n product.
-      let admitted : IsTrue (value (has n) (admitted c.new-oracle.result.model.now)) = ap (value (has n)) c.new-oracle.ensures ∙ product.admitted.admitted in
+      let admitted : IsTrue (value (has n) (admitted c.new-oracle.result)) = ap (value (has n)) c.new-oracle.ensures ∙ product.admitted.admitted in
       record {
         are_parsed = c.in_ok-parsed.ensures.parsed n admitted;
         have_leaves = c.in_ok-parsed.ensures.leaves n admitted;
