@@ -1,5 +1,6 @@
-# Projects that grow with the number of features, for the scripts that measure commands on projects: `make FAMILY N` and `large` write one to the
-# current folder. Sourced by `check.sh` and `rename.sh`.
+# What the scripts that measure commands on projects have in common: projects that grow with the number of features (`make FAMILY N` and `large`
+# write one to the current folder), and how a command is measured on them (`best`, `table`). Sourced by `check.sh` and `rename.sh`, which set
+# `program` and `failed` and define `measured FAMILY`, which measures one run.
 
 readonly FAMILIES=(uses declarations types two-types three-types members parameters initialisers functions units blocks constraints)
 
@@ -133,4 +134,48 @@ large() {
     for (f = 0; f < 2000; f++) print "t = f" f "(t);"
     print "return 0;\n}"
   }' >m.c
+}
+
+# The lowest seconds of up to three runs of the program with the given words, and their highest peak in KiB; the answer is left in the file
+# output. The folder out is empty before each run. A run is stopped after so many seconds, and one of ten or more isn't made again.
+best() {
+  local most=$1
+  shift
+  for _ in 1 2 3; do
+    rm -rf out
+    mkdir out
+    /usr/bin/time -f '%e %M' -o measure timeout "$most" "$program" "$@" >output || true
+    tail -n 1 measure
+    [ -s output ] && tail -n 1 measure | awk '$1 < 10 { fast = 1 } END { exit !fast }' || break
+  done | awk 'NR == 1 || $1 < s { s = $1 } $2 > m { m = $2 } END { print s, m }'
+}
+
+# A table of the times of the families for 8, 16, 32 and 64 features, with the peak for 64. Each answer must begin with the wanted word. `failed` becomes 1
+# where one doesn't, and where the time of a family grows by more than 3 from 32 to 64 features; the families in `exempt` may grow by `more`. A time below
+# 0.05 s isn't compared.
+#   table WANTED MORE EXEMPT FAMILY..
+table() {
+  local wanted=$1 more=$2 exempt=$3 family n row before seconds peak most
+  shift 3
+  printf '| Family | 8 | 16 | 32 | 64 features | peak for 64 |\n|---|---|---|---|---|---|\n'
+  for family in "$@"; do
+    row="| $family |" seconds= peak=
+    for n in 8 16 32 64; do
+      make "$family" "$n"
+      before=$seconds
+      read -r seconds peak < <(measured "$family")
+      if [ ! -s output ]; then
+        row+=' over 60 s |'
+        failed=1
+        break
+      fi
+      row+=$(printf ' %.2f s |' "$seconds")
+      case $(cat output) in "$wanted"*) ;; *) failed=1; printf '\n%s for %d: %s\n\n' "$family" "$n" "$(cat output)" ;; esac
+    done
+    printf '%s %d MiB |\n' "$row" $((peak / 1024))
+    most=3
+    case " $exempt " in *" $family "*) most=$more ;; esac
+    awk -v a="$before" -v b="$seconds" -v most="$most" 'BEGIN { exit b >= 0.05 && b > most * (a > 0.01 ? a : 0.01) }' ||
+      { failed=1; printf '\n%s grows by more than %d from 32 to 64 features.\n\n' "$family" "$most"; }
+  done
 }
