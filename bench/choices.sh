@@ -1,9 +1,9 @@
 #!/usr/bin/env bash
-# Measures the forests of units that grow with the number of features: for 8, 16, 32 and 64 features the time and the peak of the program
-# that reads the unit in all configurations at once (`crates/forest_cases`), how many tokens its stream has, how many leaves and
+# Measures the forests of units that grow with the number of features: for 8, 16, 32 and 64 features the processor time and the peak of the
+# program that reads the unit in all configurations at once (`crates/forest_cases`), how many tokens its stream has, how many leaves and
 # items its forest has, and how many nodes their conditions have. Needs GNU time and awk. Ends with 1 where leaves, items or the time grow
-# by more than 3 from 32 to 64. Two families are tried for 8 features alone: links of an `else if` chain, and groups inside one
-# expression (docs/CHOICE-TREES.md says why).
+# by more than 3 from 32 to 64; a time below 0.05 s isn't compared. Two families are tried for 8 features alone: links of an `else if`
+# chain, and groups inside one expression (docs/CHOICE-TREES.md says why).
 set -eu
 
 home=$(dirname -- "$(dirname -- "$(readlink -f -- "$0")")")
@@ -11,13 +11,8 @@ program=$home/crates/forest_cases/out/forest_cases
 room=$(mktemp -d)
 trap 'rm -rf "$room"' EXIT
 
-# The lowest seconds of three runs and the highest peak in KiB.
-best() {
-  for _ in 1 2 3; do
-    /usr/bin/time -f '%e %M' -o measure "$@" >output
-    cat measure
-  done | awk 'NR == 1 || $1 < s { s = $1 } $2 > m { m = $2 } END { print s, m }'
-}
+# shellcheck source=bench/measure.sh
+. "$home/bench/measure.sh"
 
 [ -x "$program" ] || (cd "$home/crates/forest_cases" && rt run >/dev/null)
 cd "$room"
@@ -31,7 +26,7 @@ for family in statements declarations functions members parameters arguments ini
     case $family in
       else-if | expression) [ "$n" = 8 ] || continue ;;
     esac
-    read -r seconds peak < <(best "$program" "$family" "$n")
+    read -r seconds peak < <(best 60 "$family" "$n")
     read -r tokens leaves items nodes <output
     printf '| %s | %d | %d | %d | %d | %d | %.2f s | %d MiB |\n' "$family" "$n" "$tokens" "$leaves" "$items" "$nodes" "$seconds" $((peak / 1024))
     if [ "$n" = 64 ]; then

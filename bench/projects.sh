@@ -1,5 +1,6 @@
+# shellcheck shell=bash
 # What the scripts that measure commands on projects have in common: projects that grow with the number of features (`make FAMILY N` and `large`
-# write one to the current folder), and how a command is measured on them (`best`, `table`). Sourced by `check.sh` and `rename.sh`, which set
+# write one to the current folder), and a table of what a command takes on them (`table`). Sourced by `check.sh` and `rename.sh`, which set
 # `program` and `failed` and define `measured FAMILY`, which measures one run.
 
 readonly FAMILIES=(uses declarations types two-types three-types members parameters initialisers functions units blocks constraints)
@@ -134,20 +135,6 @@ large() {
     for (f = 0; f < 2000; f++) print "t = f" f "(t);"
     print "return 0;\n}"
   }' >m.c
-}
-
-# The lowest seconds of up to three runs of the program with the given words, and their highest peak in KiB; the answer is left in the file
-# output. The folder out is empty before each run. A run is stopped after so many seconds, and one of ten or more isn't made again.
-best() {
-  local most=$1
-  shift
-  for _ in 1 2 3; do
-    rm -rf out
-    mkdir out
-    /usr/bin/time -f '%e %M' -o measure timeout "$most" "$program" "$@" >output || true
-    tail -n 1 measure
-    [ -s output ] && tail -n 1 measure | awk '$1 < 10 { fast = 1 } END { exit !fast }' || break
-  done | awk 'NR == 1 || $1 < s { s = $1 } $2 > m { m = $2 } END { print s, m }'
 }
 
 # A table of the times of the families for 8, 16, 32 and 64 features, with the peak for 64. Each answer must begin with the wanted word. `failed` becomes 1

@@ -13,6 +13,8 @@ program=$home/build/morpheus
 room=$(mktemp -d)
 trap 'rm -rf "$room"' EXIT
 
+# shellcheck source=bench/measure.sh
+. "$home/bench/measure.sh"
 # shellcheck source=bench/projects.sh
 . "$home/bench/projects.sh"
 
