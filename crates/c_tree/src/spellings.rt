@@ -10,83 +10,29 @@ use crate::terminals::Terminal;
 use c_text::{Token, TokenKind};
 
 /// A spelling and what it is.
-struct Spelling {
-    text: &'static [u8],
-    terminal: Terminal,
-}
+struct Spelling(&'static [u8], Terminal);
 
 fn keywords() -> &'static [Spelling]
     ensures { map plain_spelling result.now ≡ keywords }
 {
     &[
-        Spelling {
-            text: b"void",
-            terminal: Terminal::Void,
-        },
-        Spelling {
-            text: b"char",
-            terminal: Terminal::Char,
-        },
-        Spelling {
-            text: b"unsigned",
-            terminal: Terminal::Unsigned,
-        },
-        Spelling {
-            text: b"int",
-            terminal: Terminal::Int,
-        },
-        Spelling {
-            text: b"long",
-            terminal: Terminal::Long,
-        },
-        Spelling {
-            text: b"struct",
-            terminal: Terminal::Struct,
-        },
-        Spelling {
-            text: b"static",
-            terminal: Terminal::Static,
-        },
-        Spelling {
-            text: b"extern",
-            terminal: Terminal::Extern,
-        },
-        Spelling {
-            text: b"inline",
-            terminal: Terminal::Inline,
-        },
-        Spelling {
-            text: b"if",
-            terminal: Terminal::If,
-        },
-        Spelling {
-            text: b"else",
-            terminal: Terminal::Else,
-        },
-        Spelling {
-            text: b"while",
-            terminal: Terminal::While,
-        },
-        Spelling {
-            text: b"do",
-            terminal: Terminal::Do,
-        },
-        Spelling {
-            text: b"for",
-            terminal: Terminal::For,
-        },
-        Spelling {
-            text: b"break",
-            terminal: Terminal::Jump,
-        },
-        Spelling {
-            text: b"continue",
-            terminal: Terminal::Jump,
-        },
-        Spelling {
-            text: b"return",
-            terminal: Terminal::Return,
-        },
+        Spelling(b"void", Terminal::Void),
+        Spelling(b"char", Terminal::Char),
+        Spelling(b"unsigned", Terminal::Unsigned),
+        Spelling(b"int", Terminal::Int),
+        Spelling(b"long", Terminal::Long),
+        Spelling(b"struct", Terminal::Struct),
+        Spelling(b"static", Terminal::Static),
+        Spelling(b"extern", Terminal::Extern),
+        Spelling(b"inline", Terminal::Inline),
+        Spelling(b"if", Terminal::If),
+        Spelling(b"else", Terminal::Else),
+        Spelling(b"while", Terminal::While),
+        Spelling(b"do", Terminal::Do),
+        Spelling(b"for", Terminal::For),
+        Spelling(b"break", Terminal::Jump),
+        Spelling(b"continue", Terminal::Jump),
+        Spelling(b"return", Terminal::Return),
     ]
 }
 
@@ -94,186 +40,51 @@ fn punctuators() -> &'static [Spelling]
     ensures { map plain_spelling result.now ≡ punctuators }
 {
     &[
-        Spelling {
-            text: b"(",
-            terminal: Terminal::OpenParenthesis,
-        },
-        Spelling {
-            text: b")",
-            terminal: Terminal::CloseParenthesis,
-        },
-        Spelling {
-            text: b"[",
-            terminal: Terminal::OpenBracket,
-        },
-        Spelling {
-            text: b"]",
-            terminal: Terminal::CloseBracket,
-        },
-        Spelling {
-            text: b"{",
-            terminal: Terminal::OpenBrace,
-        },
-        Spelling {
-            text: b"}",
-            terminal: Terminal::CloseBrace,
-        },
-        Spelling {
-            text: b";",
-            terminal: Terminal::Semicolon,
-        },
-        Spelling {
-            text: b",",
-            terminal: Terminal::Comma,
-        },
-        Spelling {
-            text: b"?",
-            terminal: Terminal::Question,
-        },
-        Spelling {
-            text: b":",
-            terminal: Terminal::Colon,
-        },
-        Spelling {
-            text: b".",
-            terminal: Terminal::Select,
-        },
-        Spelling {
-            text: b"->",
-            terminal: Terminal::Select,
-        },
-        Spelling {
-            text: b"++",
-            terminal: Terminal::Step,
-        },
-        Spelling {
-            text: b"--",
-            terminal: Terminal::Step,
-        },
-        Spelling {
-            text: b"&",
-            terminal: Terminal::Ampersand,
-        },
-        Spelling {
-            text: b"*",
-            terminal: Terminal::Star,
-        },
-        Spelling {
-            text: b"+",
-            terminal: Terminal::Sign,
-        },
-        Spelling {
-            text: b"-",
-            terminal: Terminal::Sign,
-        },
-        Spelling {
-            text: b"~",
-            terminal: Terminal::Negation,
-        },
-        Spelling {
-            text: b"!",
-            terminal: Terminal::Negation,
-        },
-        Spelling {
-            text: b"/",
-            terminal: Terminal::Divide,
-        },
-        Spelling {
-            text: b"%",
-            terminal: Terminal::Divide,
-        },
-        Spelling {
-            text: b"<<",
-            terminal: Terminal::Shift,
-        },
-        Spelling {
-            text: b">>",
-            terminal: Terminal::Shift,
-        },
-        Spelling {
-            text: b"<",
-            terminal: Terminal::Relation,
-        },
-        Spelling {
-            text: b">",
-            terminal: Terminal::Relation,
-        },
-        Spelling {
-            text: b"<=",
-            terminal: Terminal::Relation,
-        },
-        Spelling {
-            text: b">=",
-            terminal: Terminal::Relation,
-        },
-        Spelling {
-            text: b"==",
-            terminal: Terminal::Equality,
-        },
-        Spelling {
-            text: b"!=",
-            terminal: Terminal::Equality,
-        },
-        Spelling {
-            text: b"^",
-            terminal: Terminal::Caret,
-        },
-        Spelling {
-            text: b"|",
-            terminal: Terminal::Bar,
-        },
-        Spelling {
-            text: b"&&",
-            terminal: Terminal::AndAnd,
-        },
-        Spelling {
-            text: b"||",
-            terminal: Terminal::OrOr,
-        },
-        Spelling {
-            text: b"=",
-            terminal: Terminal::Assign,
-        },
-        Spelling {
-            text: b"*=",
-            terminal: Terminal::CompoundAssign,
-        },
-        Spelling {
-            text: b"/=",
-            terminal: Terminal::CompoundAssign,
-        },
-        Spelling {
-            text: b"%=",
-            terminal: Terminal::CompoundAssign,
-        },
-        Spelling {
-            text: b"+=",
-            terminal: Terminal::CompoundAssign,
-        },
-        Spelling {
-            text: b"-=",
-            terminal: Terminal::CompoundAssign,
-        },
-        Spelling {
-            text: b"<<=",
-            terminal: Terminal::CompoundAssign,
-        },
-        Spelling {
-            text: b">>=",
-            terminal: Terminal::CompoundAssign,
-        },
-        Spelling {
-            text: b"&=",
-            terminal: Terminal::CompoundAssign,
-        },
-        Spelling {
-            text: b"^=",
-            terminal: Terminal::CompoundAssign,
-        },
-        Spelling {
-            text: b"|=",
-            terminal: Terminal::CompoundAssign,
-        },
+        Spelling(b"(", Terminal::OpenParenthesis),
+        Spelling(b")", Terminal::CloseParenthesis),
+        Spelling(b"[", Terminal::OpenBracket),
+        Spelling(b"]", Terminal::CloseBracket),
+        Spelling(b"{", Terminal::OpenBrace),
+        Spelling(b"}", Terminal::CloseBrace),
+        Spelling(b";", Terminal::Semicolon),
+        Spelling(b",", Terminal::Comma),
+        Spelling(b"?", Terminal::Question),
+        Spelling(b":", Terminal::Colon),
+        Spelling(b".", Terminal::Select),
+        Spelling(b"->", Terminal::Select),
+        Spelling(b"++", Terminal::Step),
+        Spelling(b"--", Terminal::Step),
+        Spelling(b"&", Terminal::Ampersand),
+        Spelling(b"*", Terminal::Star),
+        Spelling(b"+", Terminal::Sign),
+        Spelling(b"-", Terminal::Sign),
+        Spelling(b"~", Terminal::Negation),
+        Spelling(b"!", Terminal::Negation),
+        Spelling(b"/", Terminal::Divide),
+        Spelling(b"%", Terminal::Divide),
+        Spelling(b"<<", Terminal::Shift),
+        Spelling(b">>", Terminal::Shift),
+        Spelling(b"<", Terminal::Relation),
+        Spelling(b">", Terminal::Relation),
+        Spelling(b"<=", Terminal::Relation),
+        Spelling(b">=", Terminal::Relation),
+        Spelling(b"==", Terminal::Equality),
+        Spelling(b"!=", Terminal::Equality),
+        Spelling(b"^", Terminal::Caret),
+        Spelling(b"|", Terminal::Bar),
+        Spelling(b"&&", Terminal::AndAnd),
+        Spelling(b"||", Terminal::OrOr),
+        Spelling(b"=", Terminal::Assign),
+        Spelling(b"*=", Terminal::CompoundAssign),
+        Spelling(b"/=", Terminal::CompoundAssign),
+        Spelling(b"%=", Terminal::CompoundAssign),
+        Spelling(b"+=", Terminal::CompoundAssign),
+        Spelling(b"-=", Terminal::CompoundAssign),
+        Spelling(b"<<=", Terminal::CompoundAssign),
+        Spelling(b">>=", Terminal::CompoundAssign),
+        Spelling(b"&=", Terminal::CompoundAssign),
+        Spelling(b"^=", Terminal::CompoundAssign),
+        Spelling(b"|=", Terminal::CompoundAssign),
     ]
 }
 
@@ -281,8 +92,9 @@ fn found(text: &[u8], spellings: &[Spelling]) -> Terminal
     ensures { result ≡ found text.now (map plain_spelling spellings.now) }
 {
     for spelling in spellings {
-        if text == spelling.text {
-            return spelling.terminal;
+        let Spelling(written, terminal) = spelling;
+        if text == *written {
+            return *terminal;
         }
     }
     Terminal::Other
