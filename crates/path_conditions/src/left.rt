@@ -2,9 +2,11 @@
 
 ghost use Rattle.std.specs.Prelude.{◌≡◌, ℕ, ◌+◌, ◌<◌, Bool, ◌&&◌, ◌||◌, length, drop, get_or, IsTrue, IfOk};
 ghost use Rattle.cond_formula.specs.Conditions.{condition_of, conditions_of, value, all_true, any_true};
+ghost use Rattle.reduced_conditions.specs.Literals.{AreTrue};
 
-use crate::said::{follows, is_excluded};
+use crate::said::{follows, follows_from, is_excluded_by};
 use cond_formula::{Formula, NoMemory};
+use reduced_conditions::Literals;
 use std::alloc::Global;
 
 /// With the part, if the path doesn't show it to be true.
@@ -13,11 +15,13 @@ fn with_conjunct(
     left: Formula,
     part: &Formula,
     path: &[Formula],
+    literals: &Literals,
 ) -> Result<Formula, NoMemory>
+    requires { (on : ℕ → Bool) → IsTrue (all_true on (conditions_of path.now)) → AreTrue on literals.now }
     ensures { IfOk result (λ f. (on : ℕ → Bool) → IsTrue (all_true on (conditions_of path.now)) →
         value on (condition_of f) ≡ (value on (condition_of left) && value on (condition_of part.now))) }
 {
-    if follows(part, path) {
+    if follows_from(part, path, literals) {
         return Ok(left);
     }
     let both = Formula::and(alloc, left, part.try_clone(alloc)?)?;
@@ -30,11 +34,13 @@ fn with_disjunct(
     left: Formula,
     part: &Formula,
     path: &[Formula],
+    literals: &Literals,
 ) -> Result<Formula, NoMemory>
+    requires { (on : ℕ → Bool) → IsTrue (all_true on (conditions_of path.now)) → AreTrue on literals.now }
     ensures { IfOk result (λ f. (on : ℕ → Bool) → IsTrue (all_true on (conditions_of path.now)) →
         value on (condition_of f) ≡ (value on (condition_of left) || value on (condition_of part.now))) }
 {
-    if is_excluded(part, path) {
+    if is_excluded_by(part, path, literals) {
         return Ok(left);
     }
     let either = Formula::or(alloc, left, part.try_clone(alloc)?)?;
@@ -42,43 +48,70 @@ fn with_disjunct(
 }
 
 #[tactic(auto, using(cond_formula::specs::ConditionLaws::formula_kinds))]
-fn left_of_all(alloc: Global, parts: &[Formula], path: &[Formula]) -> Result<Formula, NoMemory>
+fn left_of_all(
+    alloc: Global,
+    parts: &[Formula],
+    path: &[Formula],
+    literals: &Literals,
+) -> Result<Formula, NoMemory>
+    requires { (on : ℕ → Bool) → IsTrue (all_true on (conditions_of path.now)) → AreTrue on literals.now }
     ensures { IfOk result (λ f. (on : ℕ → Bool) → IsTrue (all_true on (conditions_of path.now)) →
         value on (condition_of f) ≡ all_true on (conditions_of parts.now)) }
 {
     let mut left = Formula::True;
     for part in parts {
-        left = with_conjunct(alloc, left, part, path)?;
+        left = with_conjunct(alloc, left, part, path, literals)?;
     }
     Ok(left)
 }
 
 #[tactic(auto, using(cond_formula::specs::ConditionLaws::formula_kinds))]
-pub fn left_of_some(alloc: Global, parts: &[Formula], path: &[Formula]) -> Result<Formula, NoMemory>
+pub(crate) fn left_of_some(
+    alloc: Global,
+    parts: &[Formula],
+    path: &[Formula],
+    literals: &Literals,
+) -> Result<Formula, NoMemory>
+    requires { (on : ℕ → Bool) → IsTrue (all_true on (conditions_of path.now)) → AreTrue on literals.now }
     ensures { IfOk result (λ f. (on : ℕ → Bool) → IsTrue (all_true on (conditions_of path.now)) →
         value on (condition_of f) ≡ any_true on (conditions_of parts.now)) }
 {
     let mut left = Formula::False;
     for part in parts {
-        left = with_disjunct(alloc, left, part, path)?;
+        left = with_disjunct(alloc, left, part, path, literals)?;
     }
     Ok(left)
 }
 
-/// What of the formula the path doesn't say: a formula that is true exactly where it is, on the path.
+/// What of the formula the path, with these among its literals, doesn't say.
 #[tactic(auto, using(cond_formula::specs::ConditionLaws::formula_kinds))]
+pub(crate) fn left_on(
+    alloc: Global,
+    f: &Formula,
+    path: &[Formula],
+    literals: &Literals,
+) -> Result<Formula, NoMemory>
+    requires { (on : ℕ → Bool) → IsTrue (all_true on (conditions_of path.now)) → AreTrue on literals.now }
+    ensures { IfOk result (λ left. (on : ℕ → Bool) → IsTrue (all_true on (conditions_of path.now)) →
+        value on (condition_of left) ≡ value on (condition_of f.now)) }
+{
+    if follows_from(f, path, literals) {
+        return Ok(Formula::True);
+    }
+    match f {
+        Formula::And(parts) => left_of_all(alloc, parts, path, literals),
+        Formula::Or(parts) => left_of_some(alloc, parts, path, literals),
+        other => other.try_clone(alloc),
+    }
+}
+
+/// What of the formula the path doesn't say: a formula that is true exactly where it is, on the path.
 pub fn left_of(alloc: Global, f: &Formula, path: &[Formula]) -> Result<Formula, NoMemory>
     ensures { IfOk result (λ left. (on : ℕ → Bool) → IsTrue (all_true on (conditions_of path.now)) →
         value on (condition_of left) ≡ value on (condition_of f.now)) }
 {
-    if follows(f, path) {
-        return Ok(Formula::True);
-    }
-    match f {
-        Formula::And(parts) => left_of_all(alloc, parts, path),
-        Formula::Or(parts) => left_of_some(alloc, parts, path),
-        other => other.try_clone(alloc),
-    }
+    let literals = Literals::of_all(path);
+    left_on(alloc, f, path, &literals)
 }
 
 /// Whether what stands behind a place of the path shows what stands there.

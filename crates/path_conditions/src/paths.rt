@@ -2,10 +2,12 @@
 
 ghost use Rattle.std.specs.Prelude.{◌≡◌, ℕ, Bool, not, ◌&&◌, map, IsTrue, IfOk, OnOk};
 ghost use Rattle.cond_formula.specs.Conditions.{condition_of, conditions_of, value, all_true, any_true};
+ghost use Rattle.reduced_conditions.specs.Literals.{AreTrue};
 
-use crate::left::{left_of, left_of_some};
-use crate::said::follows;
+use crate::left::{left_of_some, left_on};
+use crate::said::follows_from;
 use cond_formula::{Formula, NoMemory};
+use reduced_conditions::Literals;
 use std::alloc::Global;
 
 /// The same path.
@@ -53,14 +55,20 @@ fn push_negations(path: &mut Vec<Formula>, alloc: Global, parts: &[Formula]) -> 
 
 /// What is true on the path since what is known there is.
 #[tactic(auto, using(cond_formula::specs::ConditionLaws::formula_kinds))]
-fn consequence(alloc: Global, known: &Formula, path: &[Formula]) -> Result<Formula, NoMemory>
+fn consequence(
+    alloc: Global,
+    known: &Formula,
+    path: &[Formula],
+    literals: &Literals,
+) -> Result<Formula, NoMemory>
+    requires { (on : ℕ → Bool) → IsTrue (all_true on (conditions_of path.now)) → AreTrue on literals.now }
     ensures { IfOk result (λ f. (on : ℕ → Bool) → IsTrue (all_true on (conditions_of path.now)) →
         IsTrue (value on (condition_of known.now)) → IsTrue (value on (condition_of f))) }
 {
     match known {
-        Formula::Or(parts) => left_of_some(alloc, parts, path),
+        Formula::Or(parts) => left_of_some(alloc, parts, path, literals),
         Formula::Not(inner) => {
-            let left = left_of(alloc, inner, path)?;
+            let left = left_on(alloc, inner, path, literals)?;
             Formula::not(alloc, left)
         }
         _ => Ok(Formula::True),
@@ -69,11 +77,17 @@ fn consequence(alloc: Global, known: &Formula, path: &[Formula]) -> Result<Formu
 
 /// One formula more, if the path doesn't say it.
 #[tactic(auto, using(crate::proofs::PathLemmas::path_steps))]
-fn push_new(more: &mut Vec<Formula>, f: Formula, path: &[Formula]) -> Result<(), NoMemory>
+fn push_new(
+    more: &mut Vec<Formula>,
+    f: Formula,
+    path: &[Formula],
+    literals: &Literals,
+) -> Result<(), NoMemory>
+    requires { (on : ℕ → Bool) → IsTrue (all_true on (conditions_of path.now)) → AreTrue on literals.now }
     ensures { OnOk result ((on : ℕ → Bool) → IsTrue (all_true on (conditions_of path.now)) → IsTrue (value on (condition_of f)) →
         all_true on (conditions_of more.new.items) ≡ all_true on (conditions_of more.old.items)) }
 {
-    if !follows(&f, path) {
+    if !follows_from(&f, path, literals) {
         more.push(f)?;
     }
     Ok(())
@@ -85,10 +99,11 @@ fn consequences(alloc: Global, path: &[Formula]) -> Result<Vec<Formula>, NoMemor
     ensures { IfOk result (λ more. (on : ℕ → Bool) → IsTrue (all_true on (conditions_of path.now)) →
         IsTrue (all_true on (conditions_of more.items))) }
 {
+    let literals = Literals::of_all(path);
     let mut more = Vec::new(alloc);
     for known in path {
-        let f = consequence(alloc, known, path)?;
-        push_new(&mut more, f, path)?;
+        let f = consequence(alloc, known, path, &literals)?;
+        push_new(&mut more, f, path, &literals)?;
     }
     Ok(more)
 }

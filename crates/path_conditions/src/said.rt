@@ -2,9 +2,10 @@
 
 ghost use Rattle.std.specs.Prelude.{◌≡◌, ℕ, Bool, false, IsTrue};
 ghost use Rattle.cond_formula.specs.Conditions.{condition_of, conditions_of, value, all_true, any_true};
+ghost use Rattle.reduced_conditions.specs.Literals.{AreTrue};
 
 use cond_formula::Formula;
-use reduced_conditions::is_same;
+use reduced_conditions::{Literals, is_same};
 
 fn has(path: &[Formula], f: &Formula) -> bool
     ensures { IsTrue result → (on : ℕ → Bool) → IsTrue (all_true on (conditions_of path.now)) → IsTrue (value on (condition_of f.now)) }
@@ -39,12 +40,16 @@ fn has_negation(path: &[Formula], f: &Formula) -> bool
     false
 }
 
-/// Whether the path shows that the formula is true.
+// Whether the path, with these among its literals, shows that the formula is true.
 #[cycle(said)]
 #[tactic(auto, using(cond_formula::specs::ConditionLaws::formula_kinds))]
-pub fn follows(f: &Formula, path: &[Formula]) -> bool
+pub(crate) fn follows_from(f: &Formula, path: &[Formula], literals: &Literals) -> bool
+    requires { (on : ℕ → Bool) → IsTrue (all_true on (conditions_of path.now)) → AreTrue on literals.now }
     ensures { IsTrue result → (on : ℕ → Bool) → IsTrue (all_true on (conditions_of path.now)) → IsTrue (value on (condition_of f.now)) }
 {
+    if let Some(is_said) = literals.say(f) {
+        return is_said;
+    }
     if has(path, f) {
         return true;
     }
@@ -52,18 +57,19 @@ pub fn follows(f: &Formula, path: &[Formula]) -> bool
         Formula::True => true,
         Formula::False => false,
         Formula::Var(_) => false,
-        Formula::Not(inner) => is_excluded(inner, path),
-        Formula::And(parts) => all_follow(parts, path),
-        Formula::Or(parts) => some_follows(parts, path),
+        Formula::Not(inner) => is_excluded_by(inner, path, literals),
+        Formula::And(parts) => all_follow(parts, path, literals),
+        Formula::Or(parts) => some_follows(parts, path, literals),
     }
 }
 
 #[cycle(said)]
-fn all_follow(parts: &[Formula], path: &[Formula]) -> bool
+fn all_follow(parts: &[Formula], path: &[Formula], literals: &Literals) -> bool
+    requires { (on : ℕ → Bool) → IsTrue (all_true on (conditions_of path.now)) → AreTrue on literals.now }
     ensures { IsTrue result → (on : ℕ → Bool) → IsTrue (all_true on (conditions_of path.now)) → IsTrue (all_true on (conditions_of parts.now)) }
 {
     for part in parts {
-        if !follows(part, path) {
+        if !follows_from(part, path, literals) {
             return false;
         }
     }
@@ -71,23 +77,28 @@ fn all_follow(parts: &[Formula], path: &[Formula]) -> bool
 }
 
 #[cycle(said)]
-fn some_follows(parts: &[Formula], path: &[Formula]) -> bool
+fn some_follows(parts: &[Formula], path: &[Formula], literals: &Literals) -> bool
+    requires { (on : ℕ → Bool) → IsTrue (all_true on (conditions_of path.now)) → AreTrue on literals.now }
     ensures { IsTrue result → (on : ℕ → Bool) → IsTrue (all_true on (conditions_of path.now)) → IsTrue (any_true on (conditions_of parts.now)) }
 {
     for part in parts {
-        if follows(part, path) {
+        if follows_from(part, path, literals) {
             return true;
         }
     }
     false
 }
 
-/// Whether the path shows that the formula is false.
+// Whether it shows that the formula is false.
 #[cycle(said)]
 #[tactic(auto, using(cond_formula::specs::ConditionLaws::formula_kinds))]
-pub fn is_excluded(f: &Formula, path: &[Formula]) -> bool
+pub(crate) fn is_excluded_by(f: &Formula, path: &[Formula], literals: &Literals) -> bool
+    requires { (on : ℕ → Bool) → IsTrue (all_true on (conditions_of path.now)) → AreTrue on literals.now }
     ensures { IsTrue result → (on : ℕ → Bool) → IsTrue (all_true on (conditions_of path.now)) → value on (condition_of f.now) ≡ false }
 {
+    if let Some(is_denied) = literals.deny(f) {
+        return is_denied;
+    }
     if has_negation(path, f) {
         return true;
     }
@@ -95,18 +106,19 @@ pub fn is_excluded(f: &Formula, path: &[Formula]) -> bool
         Formula::True => false,
         Formula::False => true,
         Formula::Var(_) => false,
-        Formula::Not(inner) => follows(inner, path),
-        Formula::And(parts) => some_is_excluded(parts, path),
-        Formula::Or(parts) => all_are_excluded(parts, path),
+        Formula::Not(inner) => follows_from(inner, path, literals),
+        Formula::And(parts) => some_is_excluded(parts, path, literals),
+        Formula::Or(parts) => all_are_excluded(parts, path, literals),
     }
 }
 
 #[cycle(said)]
-fn some_is_excluded(parts: &[Formula], path: &[Formula]) -> bool
+fn some_is_excluded(parts: &[Formula], path: &[Formula], literals: &Literals) -> bool
+    requires { (on : ℕ → Bool) → IsTrue (all_true on (conditions_of path.now)) → AreTrue on literals.now }
     ensures { IsTrue result → (on : ℕ → Bool) → IsTrue (all_true on (conditions_of path.now)) → all_true on (conditions_of parts.now) ≡ false }
 {
     for part in parts {
-        if is_excluded(part, path) {
+        if is_excluded_by(part, path, literals) {
             return true;
         }
     }
@@ -114,13 +126,30 @@ fn some_is_excluded(parts: &[Formula], path: &[Formula]) -> bool
 }
 
 #[cycle(said)]
-fn all_are_excluded(parts: &[Formula], path: &[Formula]) -> bool
+fn all_are_excluded(parts: &[Formula], path: &[Formula], literals: &Literals) -> bool
+    requires { (on : ℕ → Bool) → IsTrue (all_true on (conditions_of path.now)) → AreTrue on literals.now }
     ensures { IsTrue result → (on : ℕ → Bool) → IsTrue (all_true on (conditions_of path.now)) → any_true on (conditions_of parts.now) ≡ false }
 {
     for part in parts {
-        if !is_excluded(part, path) {
+        if !is_excluded_by(part, path, literals) {
             return false;
         }
     }
     true
+}
+
+/// Whether the path shows that the formula is true.
+pub fn follows(f: &Formula, path: &[Formula]) -> bool
+    ensures { IsTrue result → (on : ℕ → Bool) → IsTrue (all_true on (conditions_of path.now)) → IsTrue (value on (condition_of f.now)) }
+{
+    let literals = Literals::of_all(path);
+    follows_from(f, path, &literals)
+}
+
+/// Whether the path shows that the formula is false.
+pub fn is_excluded(f: &Formula, path: &[Formula]) -> bool
+    ensures { IsTrue result → (on : ℕ → Bool) → IsTrue (all_true on (conditions_of path.now)) → value on (condition_of f.now) ≡ false }
+{
+    let literals = Literals::of_all(path);
+    is_excluded_by(f, path, &literals)
 }

@@ -31,6 +31,20 @@ part_of_some on [] i part within is one = absurd (omega arith)
 part_of_some on (x ∷ parts) zero part within is one = or_left (value on (condition_of x)) (any_true on (conditions_of parts)) (let one' = rw is at one in one')
 part_of_some on (x ∷ parts) (suc i) part within is one = or_right (value on (condition_of x)) (any_true on (conditions_of parts)) (part_of_some on parts i part (omega arith) is one)
 
+none_left : (a b : Bool) → (a || b) ≡ false → a ≡ false
+none_left true b h = h
+none_left false b h = refl
+
+none_right : (a b : Bool) → (a || b) ≡ false → b ≡ false
+none_right true b h = cc
+none_right false b h = h
+
+-- each part of a disjunction is false where it is
+pub part_of_none : (on : ℕ → Bool) (parts : List Formula) (i : ℕ) (part : Formula) → i < length parts → part ≡ get_or parts i part → any_true on (conditions_of parts) ≡ false → value on (condition_of part) ≡ false
+part_of_none on [] i part within is none = absurd (omega arith)
+part_of_none on (x ∷ parts) zero part within is none = rw is (none_left (value on (condition_of x)) (any_true on (conditions_of parts)) none)
+part_of_none on (x ∷ parts) (suc i) part within is none = part_of_none on parts i part (omega arith) is (none_right (value on (condition_of x)) (any_true on (conditions_of parts)) none)
+
 -- ---- two conditions of which one says what the other says
 
 pub implied_both : (a b : Bool) → (IsTrue b → IsTrue a) → b ≡ (a && b)

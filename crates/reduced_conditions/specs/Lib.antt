@@ -1,0 +1,2 @@
+-- What the crate's contracts speak of.
+pub mod Literals

@@ -3,8 +3,7 @@
 ghost use Rattle.std.specs.Prelude.{◌≡◌, ℕ, Bool, not, ◌&&◌, ◌||◌, IfOk};
 ghost use Rattle.cond_formula.specs.Conditions.{condition_of, value};
 
-use crate::elsewhere::outside;
-use crate::inside::inside;
+use crate::known::{inside, outside};
 use crate::parts::{exclude_each_other, is_implied};
 use crate::same::{is_always, is_opposite};
 use cond_formula::{Formula, NoMemory};

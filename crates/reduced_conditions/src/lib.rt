@@ -3,12 +3,13 @@
 #![tactic(auto)]
 
 mod connectives;
-mod elsewhere;
-mod inside;
+mod known;
+mod literals;
 mod parts;
 mod same;
 
 pub use connectives::{both, either, without};
-pub use elsewhere::outside;
+pub use known::outside;
+pub use literals::Literals;
 pub use parts::is_implied;
 pub use same::{is_always, is_never, is_same};

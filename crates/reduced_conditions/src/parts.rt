@@ -2,7 +2,9 @@
 
 ghost use Rattle.std.specs.Prelude.{◌≡◌, ℕ, Bool, false, ◌&&◌, IsTrue};
 ghost use Rattle.cond_formula.specs.Conditions.{condition_of, conditions_of, value, all_true, any_true};
+ghost use Rattle.reduced_conditions.specs.Literals.{AreTrue};
 
+use crate::literals::Literals;
 use crate::same::{is_always, is_never, is_opposite, is_same};
 use cond_formula::Formula;
 
@@ -42,11 +44,24 @@ fn says(a: &Formula, b: &Formula) -> bool
     false
 }
 
+// The same, by the literals that are true where the first formula is.
+fn says_part(a: &Formula, literals: &Literals, part: &Formula) -> bool
+    requires { (on : ℕ → Bool) → IsTrue (value on (condition_of a.now)) → AreTrue on literals.now }
+    ensures { IsTrue result → (on : ℕ → Bool) → IsTrue (value on (condition_of a.now)) → IsTrue (value on (condition_of part.now)) }
+{
+    match literals.say(part) {
+        Some(true) => true,
+        Some(false) if literals.are_all => false,
+        _ => says(a, part),
+    }
+}
+
 fn says_one(a: &Formula, parts: &[Formula]) -> bool
     ensures { IsTrue result → (on : ℕ → Bool) → IsTrue (value on (condition_of a.now)) → IsTrue (any_true on (conditions_of parts.now)) }
 {
+    let literals = Literals::where_true(a);
     for part in parts {
-        if says(a, part) {
+        if says_part(a, &literals, part) {
             return true;
         }
     }
@@ -55,7 +70,7 @@ fn says_one(a: &Formula, parts: &[Formula]) -> bool
 
 // Whether a part of the first conjunction is the opposite of one of the second. The last part, which tells a branch of a chain
 // from the others, comes first.
-fn have_opposites(parts: &[Formula], others: &[Formula]) -> bool
+fn have_opposite_parts(parts: &[Formula], others: &[Formula]) -> bool
     ensures { IsTrue result → (on : ℕ → Bool) → IsTrue (all_true on (conditions_of parts.now)) → all_true on (conditions_of others.now) ≡ false }
 {
     let count = parts.len();
@@ -65,6 +80,21 @@ fn have_opposites(parts: &[Formula], others: &[Formula]) -> bool
         }
     }
     false
+}
+
+// The same, by literals first.
+fn have_opposites(parts: &[Formula], others: &[Formula]) -> bool
+    ensures { IsTrue result → (on : ℕ → Bool) → IsTrue (all_true on (conditions_of parts.now)) → all_true on (conditions_of others.now) ≡ false }
+{
+    let literals = Literals::of_all(parts);
+    let more = Literals::of_all(others);
+    if literals.contradict(&more) {
+        return true;
+    }
+    if literals.are_all && more.are_all {
+        return false;
+    }
+    have_opposite_parts(parts, others)
 }
 
 /// Whether the parts of the first formula show that the second is false wherever the first is true.
@@ -79,11 +109,18 @@ fn rules_out(a: &Formula, b: &Formula) -> bool
     }
 }
 
+fn are_conjunctions(a: &Formula, b: &Formula) -> bool {
+    matches!((a, b), (Formula::And(_), Formula::And(_)))
+}
+
 fn are_apart(a: &Formula, b: &Formula) -> bool
     ensures { IsTrue result → (on : ℕ → Bool) → (value on (condition_of a.now) && value on (condition_of b.now)) ≡ false }
 {
     if rules_out(a, b) {
         return true;
+    }
+    if are_conjunctions(a, b) {
+        return false;
     }
     rules_out(b, a)
 }

@@ -1,7 +1,7 @@
 use Rattle.std.proofs.Common.{◌-◌, length, arith}
 use Rattle.cond_formula.specs.Conditions.{condition_of, conditions_of, value, all_true}
 use Rattle.reduced_conditions.proofs.PartLemmas.{part_of_all, false_where_not}
-use Rattle.reduced_conditions.proofs.parts.have_opposites.Goals as goal
+use Rattle.reduced_conditions.proofs.parts.have_opposite_parts.Goals as goal
 
 pub returns-then-has_opposite : goal.returns-then-has_opposite
 returns-then-has_opposite c = λ t on all.

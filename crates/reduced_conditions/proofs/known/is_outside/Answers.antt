@@ -3,7 +3,7 @@ use Rattle.std.specs.Prelude.{not}
 use Rattle.cond_formula.specs.Conditions.{Condition, condition_of, value}
 use Rattle.cond_formula.specs.ConditionLaws.{condition_of-Not}
 use Rattle.cond_formula.specs.declared.formulas.Formula.{Formula}
-use Rattle.reduced_conditions.proofs.elsewhere.is_outside.Goals as goal
+use Rattle.reduced_conditions.proofs.known.is_outside.Goals as goal
 
 inverse-holds : (i o : Bool) → (IsTrue i → IsTrue o) → o ≡ false → IsTrue (not i)
 inverse-holds true o h off = sym off ∙ h refl

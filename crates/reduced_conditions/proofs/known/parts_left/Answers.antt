@@ -3,7 +3,7 @@ use Rattle.std.proofs.lemmas.List.{drop_more}
 use Rattle.cond_formula.specs.declared.formulas.Formula.{Formula}
 use Rattle.cond_formula.specs.Conditions.{condition_of, conditions_of, value, all_true}
 use Rattle.reduced_conditions.proofs.PartLemmas.{kept_same, kept_true}
-use Rattle.reduced_conditions.proofs.elsewhere.without_outside.Goals as goal
+use Rattle.reduced_conditions.proofs.known.parts_left.Goals as goal
 
 pub loop-part-preserved : goal.loop-part-preserved
 loop-part-preserved c =
