@@ -4,6 +4,7 @@ ghost use Rattle.cond_formula.specs.Features.{has};
 ghost use Rattle.cond_formula.specs.Conditions.{value};
 ghost use Rattle.c_text.specs.Token.{plain_token};
 ghost use Rattle.c_tree.specs.Terminals as terminals;
+ghost use Rattle.c_tree.specs.declared.terminals.Terminal.TheVariants.{Name};
 ghost use Rattle.conditional.specs.Judgements.{fine};
 ghost use Rattle.core_meaning.specs.Expressions.{number_operand, character_operand};
 ghost use Rattle.operand_types.specs.OperandTypes.{type_of_operand, outcome_as};
@@ -89,12 +90,24 @@ fn outcomes<K: Knowledge>(alloc: Global, known: &K, token: &Token) -> Result<Ope
     }
 }
 
+/// Whether the token is a name that stands for an object in all configurations.
+fn is_object(token: &Token, outcomes: &Operands) -> bool
+    ensures name { IsTrue result → terminals.terminal (plain_token token.now) ≡ Name }
+    ensures fine { IsTrue result → outcomes.now.refused.entries.items ≡ [] }
+{
+    Terminal::Name.is(terminal(token)) && outcomes.refused.entries.is_empty()
+}
+
 /// What a token is.
 pub fn single<K: Knowledge>(alloc: Global, known: &K, token: &Token) -> Result<CondRead, NoMemory>
     ensures { IfOk result (λ z. (c : List Bool) → IsTrue (value (has c) (K.admits known.now))
         → ShowsRead (has c) (K.callable known.now c) (spec.single (K.known known.now c) (plain_token token.now)) z) }
 {
     let outcomes = outcomes(alloc, known, token)?;
+    if is_object(token, &outcomes) {
+        let callee = CondValue::nothing(alloc);
+        return Ok(CondRead { outcomes, callee });
+    }
     let callee = known.callee(alloc, &token.text)?;
     Ok(CondRead { outcomes, callee })
 }

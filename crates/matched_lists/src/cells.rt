@@ -64,6 +64,13 @@ fn move_on<O: Oracle>(
         → MovesOn (value (has c) (condition_of here)) (value (has c) (condition_of x.now)) (value (has c) (condition_of y.now))
         (value (has c) (condition_of m.first)) (value (has c) (condition_of m.second)) (value (has c) (condition_of m.both))) }
 {
+    if is_never(&here) {
+        return Ok(Moves {
+            first: Formula::False,
+            second: Formula::False,
+            both: Formula::False,
+        });
+    }
     let first = waiting(alloc, oracle, &here, y, x)?;
     let second = waiting(alloc, oracle, &here, x, y)?;
     let rest = without(alloc, here, &first)?;
@@ -94,6 +101,9 @@ fn refuse_pair<A, B, R: Plain, M: Matching<A, B, R>, O: Oracle>(
         → (value (has c) (condition_of here.now) && (there (has c) x.now && there (has c) y.now)) ≡ false
         → first (seen (has c) (listed R.form refusals.new)) ≡ first (seen (has c) (listed R.form refusals.old))) }
 {
+    if is_never(here) {
+        return Ok(());
+    }
     let both = reduced::both(alloc, x.when.try_clone(alloc)?, y.when.try_clone(alloc)?)?;
     let together = possible(oracle, reduced::both(alloc, here.try_clone(alloc)?, both)?);
     if is_never(&together) {
