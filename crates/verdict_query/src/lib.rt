@@ -1,6 +1,7 @@
 //! Questions about all admitted configurations of a project: the least one that makes a formula true, or a refutation.
 #![tactic(auto)]
 
+mod guesses;
 mod laws;
 mod oracles;
 mod questions;
