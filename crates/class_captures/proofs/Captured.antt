@@ -106,11 +106,11 @@ module _ (changes : ChangesAreSeen) (renamings : RenamingsAreSeen) (spelled : Le
       → AreTold on units shown (names_of_units (present_trees on units shown)) after
 
   pub captured-as-found :
-      (shown again : List Forest) (told_again : List ToldUnit) → shown ≡ renamed → again ≡ renamed → told_again ≡ after → (broken told whole : Bool) → whole ≡ (broken || told)
-      → IsElaboratedIf broken shown → IsToldIf again → TellsCaptures told on before told_again class old new seen → IsTrue whole ↔ AreCaptured class new trees
-  captured-as-found shown again told_again s a u broken told whole is elaborated told_if tells =
+      (shown : List Forest) (told_again : List ToldUnit) → shown ≡ renamed → told_again ≡ after → (broken told whole : Bool) → whole ≡ (broken || told)
+      → IsElaboratedIf broken shown → IsToldIf shown → TellsCaptures told on before told_again class old new seen → IsTrue whole ↔ AreCaptured class new trees
+  captured-as-found shown told_again s u broken told whole is elaborated told_if tells =
       let found = subst (IsElaboratedIf broken) s elaborated in
-      let told_after = subst IsToldIf a told_if in
+      let told_after = subst IsToldIf s told_if in
       let captures = subst (λ (us : List ToldUnit). TellsCaptures told on before us class old new seen) u tells in
       subst (λ (b : Bool). IsTrue b ↔ AreCaptured class new trees) (sym is)
       (captured broken told (found written-after) (λ linked bindings judged. told_after linked bindings written-after judged numbers-after) captures)

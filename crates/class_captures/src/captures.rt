@@ -15,7 +15,6 @@ use c_text::FileToken;
 use changed_forests::{changes_are_seen, renamings_are_seen};
 use choice_trees::{Forest, leaves_are_spelled};
 use cond_formula::{Formula, NoMemory, Oracle};
-use cond_types::where_not_elaborated;
 use project_analysis::told_of;
 use project_file::Unit;
 use reduced_conditions::either;
@@ -88,9 +87,8 @@ pub fn where_captured<O: Oracle>(
     leaves_are_spelled();
     captures_are_told();
     let renamed = renamed_forests(alloc, numbered, class, new)?;
-    let broken = where_not_elaborated(alloc, oracle, units, &renamed)?;
     let after = told_of(alloc, oracle, units, &renamed)?;
-    let captured = where_told_captured(alloc, told, &after, names, class, old, new)?;
-    let f = either(alloc, broken, captured)?;
+    let captured = where_told_captured(alloc, told, &after.units, names, class, old, new)?;
+    let f = either(alloc, after.broken, captured)?;
     Ok(f)
 }

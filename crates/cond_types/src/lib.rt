@@ -22,7 +22,7 @@ mod units;
 mod uses;
 
 pub use definitions::define_function;
-pub use elaboration::where_not_elaborated;
+pub use elaboration::{where_not_elaborated, where_typed_not_elaborated};
 pub use items::UnitItems;
 pub use linking::{CondLinks, links};
 pub use typing::{CondTypes, types};

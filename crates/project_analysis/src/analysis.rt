@@ -3,7 +3,7 @@ ghost use Rattle.std.specs.Prelude.{◌≡◌, ◌<◌, ◌≤◌, List, Bool, l
 ghost use Rattle.std.specs.List.{AllZip};
 ghost use Rattle.text_edits.specs.Files.{plain_files};
 ghost use Rattle.cond_formula.specs.Features.{has};
-ghost use Rattle.cond_formula.specs.Conditions.{value, VarsBelow};
+ghost use Rattle.cond_formula.specs.Conditions.{condition_of, value, VarsBelow};
 ghost use Rattle.feature_model.specs.ModelView.{admitted};
 ghost use Rattle.core_meaning.specs.Checking.{Binding, fine};
 ghost use Rattle.core_meaning.specs.Linking.{Units, judged_program};
@@ -11,6 +11,7 @@ ghost use Rattle.bindings.specs.Laws.{AreWritten};
 ghost use Rattle.project_file.specs.View.{project_view};
 ghost use Rattle.project_store.specs.Reads.{names_of};
 ghost use Rattle.cond_scopes.specs.Units.{present_trees};
+ghost use Rattle.cond_types.specs.Elaborated.{TellsElaborated};
 ghost use Rattle.program_occurrences.specs.Occurrences.{names_of_units};
 ghost use Rattle.reference_classes.specs.Products.{Product};
 ghost use Rattle.project_check.specs.Parsed.{AreParsed, HaveLeaves};
@@ -22,9 +23,9 @@ ghost use Rattle.project_analysis.specs.Analysed.{IsAnalysed};
 use c_tree::tokens_spell_one_unit;
 use changed_forests::{changes_are_seen, numbered, numberings_are_seen, sites_dont_matter};
 use choice_trees::Forest;
-use cond_formula::{NoMemory, Oracle};
+use cond_formula::{Formula, NoMemory, Oracle};
 use cond_scopes::scopes;
-use cond_types::{UnitItems, types};
+use cond_types::{UnitItems, types, where_typed_not_elaborated};
 use moved_trees::units_stay_units;
 use plain_pp::outcomes_are_one;
 use project_check::{ParsedUnits, parse_units};
@@ -37,6 +38,15 @@ use told_occurrences::ToldUnit;
 use told_units::told_units;
 use unit_outcomes::tokens_are_spelt;
 use verdict_query::ModelOracle;
+
+/// What is told of units in all configurations, by their trees.
+#[derive(Drop)]
+pub struct ToldUnits {
+    /// The occurrences of each unit, and the names that it declares for all.
+    pub units: Vec<ToldUnit>,
+    /// Where the units have no core program.
+    pub broken: Formula,
+}
 
 /// What is told of the identifiers of a project's units in all configurations.
 #[derive(Drop)]
@@ -69,24 +79,31 @@ fn all_numbered(alloc: Global, forests: &[Forest]) -> Result<Vec<Forest>, NoMemo
     Ok(all)
 }
 
-/// The occurrences of units by their trees, whose tokens tell their numbers, and the names that they declare for one another.
+/// The occurrences of units by their trees, whose tokens tell their numbers, the names that they declare for one another, and where they have no
+/// core program.
 pub fn told_of<O: Oracle>(
     alloc: Global,
     oracle: &mut O,
     units: &[Unit],
     forests: &[Forest],
-) -> Result<Vec<ToldUnit>, NoMemory>
+) -> Result<ToldUnits, NoMemory>
     requires { length forests.now ≡ length units.now }
     ensures kept { O.admits oracle.new ≡ O.admits oracle.old }
     ensures told { IfOk result (λ all. (c : List Bool) (linked : Units) (js : List Binding) → IsTrue (value (has c) (O.admits oracle.old))
         → AreWritten (present_trees (has c) units.now forests.now) → judged_program (present_trees (has c) units.now forests.now) ≡ fine linked js
         → UnitsTellNumbers (has c) units.now forests.now
-        → AreTold (has c) units.now forests.now (names_of_units (present_trees (has c) units.now forests.now)) all.items) }
+        → AreTold (has c) units.now forests.now (names_of_units (present_trees (has c) units.now forests.now)) all.units.items) }
+    ensures broken { IfOk result (λ all. (c : List Bool) → IsTrue (value (has c) (O.admits oracle.old)) → AreWritten (present_trees (has c) units.now forests.now)
+        → TellsElaborated (value (has c) (condition_of all.broken)) (present_trees (has c) units.now forests.now)) }
 {
     let b = scopes(alloc, units, forests, oracle)?;
     let t = types(alloc, oracle, units, forests, &b)?;
-    let all = told_units(alloc, oracle, &UnitItems, units, forests, &b, &t)?;
-    Ok(all)
+    let broken = where_typed_not_elaborated(alloc, oracle, &t)?;
+    let told = told_units(alloc, oracle, &UnitItems, units, forests, &b, &t)?;
+    Ok(ToldUnits {
+        units: told,
+        broken,
+    })
 }
 
 /// What is told of the identifiers of a project whose units are parsed so.
@@ -116,7 +133,8 @@ fn told_project<O: Oracle>(
     sites_dont_matter();
     units_stay_units();
     let numbered = all_numbered(alloc, &parsed.forests)?;
-    let units = told_of(alloc, oracle, &project.units, &numbered)?;
+    let told = told_of(alloc, oracle, &project.units, &numbered)?;
+    let ToldUnits { units, broken: _ } = told;
     Ok(ToldProject { numbered, units })
 }
 

@@ -4,4 +4,4 @@
 
 mod analysis;
 
-pub use analysis::{Analysis, ToldProject, analysed, told_of};
+pub use analysis::{Analysis, ToldProject, ToldUnits, analysed, told_of};

@@ -18,12 +18,12 @@ returns-clause-told g c = λ n product.
     let files = plain_files c.args.files.now in
     let parsed = c.args.parsed.now in
     let numbered = c.in_ok-numbered.numbered.items in
-    let told = c.in_ok-units.units.items in
+    let told = c.in_ok-told.told.units.items in
     let filed : length files ≡ length (names_of (project_view project))
     = sym (length-map files (λ (f : PlainFile). f.name)) ∙ ap (λ (names : List (List ℕ)). length names) c.requires.named in
     let numbers_are : AllZip IsNumbered parsed.forests.items numbered = subst (λ (fs : List Forest). AllZip IsNumbered fs numbered) c.deref.ensures.value c.in_ok-numbered.ensures in
     let tells = tells_these (g.O.Oracle.admits c.args.oracle.now) project.units.items c.deref-2.result.now numbered c.deref-3.result.now told c.deref-2.ensures.value c.deref-3.ensures.value
-    c.in_ok-units.ensures.told in
+    c.in_ok-told.ensures.told in
     units_told c.programs_are_one.ensures c.outcomes_are_one.ensures c.tokens_spell_one_unit.ensures c.tokens_are_spelt.ensures c.changes_are_seen.ensures
     c.numberings_are_seen.ensures c.sites_dont_matter.ensures c.units_stay_units.ensures project files filed parsed numbered told numbers_are
     (g.O.Oracle.admits c.args.oracle.now) c.requires.model c.requires.parsed c.requires.leaves tells n product
