@@ -15,6 +15,7 @@ ghost use Rattle.cond_types.specs.Elaborated.{TellsElaborated};
 ghost use Rattle.program_occurrences.specs.Occurrences.{names_of_units};
 ghost use Rattle.reference_classes.specs.Products.{Product};
 ghost use Rattle.project_check.specs.Parsed.{AreParsed, HaveLeaves};
+ghost use Rattle.project_check.specs.Broken.{TellsTrees};
 ghost use Rattle.changed_forests.specs.Numbered.{IsNumbered};
 ghost use Rattle.told_occurrences.specs.Units.{AreTold};
 ghost use Rattle.told_units.specs.Units.{UnitsTellNumbers};
@@ -106,23 +107,26 @@ pub fn told_of<O: Oracle>(
     })
 }
 
-/// What is told of the identifiers of a project whose units are parsed so.
+/// What is told of a project whose units are parsed so, by their trees whose tokens tell their numbers.
 fn told_project<O: Oracle>(
     alloc: Global,
     oracle: &mut O,
     project: &Project,
     files: &Files,
     parsed: &ParsedUnits,
-) -> Result<ToldProject, NoMemory>
+    numbered: &[Forest],
+) -> Result<ToldUnits, NoMemory>
     requires named { map (λ f. f.name) (plain_files files.now) ≡ names_of (project_view project.now) }
     requires as_many { length parsed.now.forests.items ≡ length project.now.units.items }
     requires model { O.admits oracle.old ≡ admitted project.now.model }
     requires parsed { (c : List Bool) → IsTrue (value (has c) (O.admits oracle.old)) → AreParsed (has c) project.now (plain_files files.now) parsed.now }
     requires leaves { (c : List Bool) → IsTrue (value (has c) (O.admits oracle.old)) → HaveLeaves (has c) project.now parsed.now }
+    requires numbered { AllZip IsNumbered parsed.now.forests.items numbered.now }
     ensures kept { O.admits oracle.new ≡ O.admits oracle.old }
-    ensures numbered { IfOk result (λ t. AllZip IsNumbered parsed.now.forests.items t.numbered.items) }
     ensures told { IfOk result (λ t. (c : List Bool) → Product (project_view project.now) (plain_files files.now) c
-        → AreTold (has c) project.now.units.items t.numbered.items (names_of_units (present_trees (has c) project.now.units.items t.numbered.items)) t.units.items) }
+        → AreTold (has c) project.now.units.items numbered.now (names_of_units (present_trees (has c) project.now.units.items numbered.now)) t.units.items) }
+    ensures broken { IfOk result (λ t. (c : List Bool) → IsTrue (value (has c) (O.admits oracle.old))
+        → TellsTrees (value (has c) (condition_of t.broken)) (has c) project.now parsed.now) }
 {
     programs_are_one();
     outcomes_are_one();
@@ -132,10 +136,8 @@ fn told_project<O: Oracle>(
     numberings_are_seen();
     sites_dont_matter();
     units_stay_units();
-    let numbered = all_numbered(alloc, &parsed.forests)?;
-    let told = told_of(alloc, oracle, &project.units, &numbered)?;
-    let ToldUnits { units, broken: _ } = told;
-    Ok(ToldProject { numbered, units })
+    let told = told_of(alloc, oracle, &project.units, numbered)?;
+    Ok(told)
 }
 
 /// What is known of a project in all configurations. `files` are its headers and then its units.
@@ -148,15 +150,19 @@ pub fn analysed(alloc: Global, project: &Project, files: &Files) -> Result<Analy
 {
     let mut oracle = ModelOracle::new(alloc, &project.model);
     let parsed = parse_units(alloc, project, files, &mut oracle)?;
-    let told = told_project(alloc, &mut oracle, project, files, &parsed)?;
+    let numbered = all_numbered(alloc, &parsed.forests)?;
+    let found = told_project(alloc, &mut oracle, project, files, &parsed, &numbered)?;
+    let ToldUnits { units, broken } = found;
     let ties = ties_of_told(
         alloc,
         &mut oracle,
         project,
         files,
         &parsed,
-        &told.numbered,
-        &told.units,
+        &numbered,
+        &units,
+        broken,
     )?;
+    let told = ToldProject { numbered, units };
     Ok(Analysis { parsed, told, ties })
 }

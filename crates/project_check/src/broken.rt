@@ -6,7 +6,7 @@ ghost use Rattle.cond_formula.specs.Conditions.{condition_of, value};
 ghost use Rattle.project_file.specs.View.{project_view};
 ghost use Rattle.project_store.specs.Reads.{names_of};
 ghost use Rattle.project_check.specs.Parsed.{AreParsed};
-ghost use Rattle.project_check.specs.Broken.{TellsProgram};
+ghost use Rattle.project_check.specs.Broken.{TellsTrees, TellsProgram};
 
 use crate::{ParsedUnits, parse_units};
 use c_tree::tokens_spell_one_unit;
@@ -20,26 +20,23 @@ use std::alloc::Global;
 use text_edits::Files;
 use unit_outcomes::tokens_are_spelt;
 
-/// Where units that are parsed so have no program.
-pub fn where_parsed_broken<O: Oracle>(
+/// Where units that are parsed so have no program, by where their trees have no core program.
+pub fn where_parsed_broken(
     alloc: Global,
-    oracle: &mut O,
     project: &Project,
     files: &Files,
     parsed: &ParsedUnits,
+    badly_made: Formula,
 ) -> Result<Formula, NoMemory>
-    requires named { map (λ f. f.name) (plain_files files.now) ≡ names_of (project_view project.now) }
-    requires as_many { length parsed.now.forests.items ≡ length project.now.units.items }
-    requires parsed { (c : List Bool) → IsTrue (value (has c) (O.admits oracle.old)) → AreParsed (has c) project.now (plain_files files.now) parsed.now }
-    ensures kept { O.admits oracle.new ≡ O.admits oracle.old }
-    ensures exact { IfOk result (λ f. (c : List Bool) → IsTrue (value (has c) (O.admits oracle.old))
+    requires { map (λ f. f.name) (plain_files files.now) ≡ names_of (project_view project.now) }
+    ensures { IfOk result (λ f. (c : List Bool) → AreParsed (has c) project.now (plain_files files.now) parsed.now
+        → TellsTrees (value (has c) (condition_of badly_made)) (has c) project.now parsed.now
         → TellsProgram (value (has c) (condition_of f)) (project_view project.now) (plain_files files.now) (has c)) }
 {
     programs_are_one();
     outcomes_are_one();
     tokens_spell_one_unit();
     tokens_are_spelt();
-    let badly_made = where_not_elaborated(alloc, oracle, &project.units, &parsed.forests)?;
     let unread = parsed.unread.try_clone(alloc)?;
     let treeless = parsed.treeless.try_clone(alloc)?;
     let unparsed = either(alloc, unread, treeless)?;
@@ -62,6 +59,7 @@ pub(crate) fn where_broken<O: Oracle>(
         → TellsProgram (value (has c) (condition_of f)) (project_view project.now) (plain_files files.now) (has c)) }
 {
     let parsed = parse_units(alloc, project, files, oracle)?;
-    let f = where_parsed_broken(alloc, oracle, project, files, &parsed)?;
+    let badly_made = where_not_elaborated(alloc, oracle, &project.units, &parsed.forests)?;
+    let f = where_parsed_broken(alloc, project, files, &parsed, badly_made)?;
     Ok(f)
 }

@@ -10,7 +10,7 @@ ghost use Rattle.project_file.specs.View.{project_view};
 ghost use Rattle.project_store.specs.Reads.{names_of};
 ghost use Rattle.cond_scopes.specs.Units.{present_trees};
 ghost use Rattle.project_check.specs.Parsed.{AreParsed, HaveLeaves};
-ghost use Rattle.project_check.specs.Broken.{TellsProgram};
+ghost use Rattle.project_check.specs.Broken.{TellsTrees, TellsProgram};
 ghost use Rattle.program_occurrences.specs.Occurrences.{names_of_units};
 ghost use Rattle.reference_classes.specs.Products.{Product};
 ghost use Rattle.tied_tokens.specs.Ties.{plain_tied_tokens};
@@ -60,31 +60,32 @@ impl ProjectTies {
     }
 }
 
-/// Where units that are parsed so have a program.
+/// Where units that are parsed so have a program, by where their trees have no core program.
 fn where_accepted<O: Oracle>(
     alloc: Global,
     oracle: &mut O,
     project: &Project,
     files: &Files,
     parsed: &ParsedUnits,
+    badly_made: Formula,
 ) -> Result<Formula, NoMemory>
     requires named { map (λ f. f.name) (plain_files files.now) ≡ names_of (project_view project.now) }
-    requires as_many { length parsed.now.forests.items ≡ length project.now.units.items }
     requires parsed { (c : List Bool) → IsTrue (value (has c) (O.admits oracle.old)) → AreParsed (has c) project.now (plain_files files.now) parsed.now }
+    requires badly_made { (c : List Bool) → IsTrue (value (has c) (O.admits oracle.old)) → TellsTrees (value (has c) (condition_of badly_made)) (has c) project.now parsed.now }
     ensures kept { O.admits oracle.new ≡ O.admits oracle.old }
     ensures below { IfOk result (λ f. VarsBelow (length project.now.features.items) (condition_of f)) }
     ensures exact { IfOk result (λ f. (c : List Bool) → IsOwn (length project.now.features.items) (O.admits oracle.old) c
         → TellsProgram (not (value (has c) (condition_of f))) (project_view project.now) (plain_files files.now) (has c)) }
 {
-    let anywhere = where_parsed_broken(alloc, oracle, project, files, parsed)?;
+    let anywhere = where_parsed_broken(alloc, project, files, parsed, badly_made)?;
     let broken = without_refuted(alloc, oracle, &anywhere)?;
     let elsewhere = Formula::not(alloc, broken)?;
     let f = own_condition(alloc, oracle, project.features.len(), &elsewhere)?;
     Ok(f)
 }
 
-/// The ties of a project, whose units are parsed so: `numbered` are their trees whose tokens tell their numbers, and `told` is what is told of
-/// their identifiers in the configurations that have a program.
+/// The ties of a project, whose units are parsed so: `numbered` are their trees whose tokens tell their numbers, `told` is what is told of
+/// their identifiers in the configurations that have a program, and `badly_made` says where their trees have no core program.
 pub fn ties_of_told<O: Oracle>(
     alloc: Global,
     oracle: &mut O,
@@ -93,9 +94,9 @@ pub fn ties_of_told<O: Oracle>(
     parsed: &ParsedUnits,
     numbered: &[Forest],
     told: &[ToldUnit],
+    badly_made: Formula,
 ) -> Result<ProjectTies, NoMemory>
     requires named { map (λ f. f.name) (plain_files files.now) ≡ names_of (project_view project.now) }
-    requires as_many { length parsed.now.forests.items ≡ length project.now.units.items }
     requires model { O.admits oracle.old ≡ admitted project.now.model }
     requires below { VarsBelow (length project.now.features.items) (admitted project.now.model) }
     requires parsed { (c : List Bool) → IsTrue (value (has c) (O.admits oracle.old)) → AreParsed (has c) project.now (plain_files files.now) parsed.now }
@@ -103,6 +104,7 @@ pub fn ties_of_told<O: Oracle>(
     requires numbered { AllZip IsNumbered parsed.now.forests.items numbered.now }
     requires told { (c : List Bool) → Product (project_view project.now) (plain_files files.now) c
         → AreTold (has c) project.now.units.items numbered.now (names_of_units (present_trees (has c) project.now.units.items numbered.now)) told.now }
+    requires badly_made { (c : List Bool) → IsTrue (value (has c) (O.admits oracle.old)) → TellsTrees (value (has c) (condition_of badly_made)) (has c) project.now parsed.now }
     ensures { IfOk result (λ t. TellsProducts (project_view project.now) (plain_files files.now) (tied_tokens_of project.now t)) }
 {
     programs_are_one();
@@ -111,7 +113,7 @@ pub fn ties_of_told<O: Oracle>(
     occurrences_are_tied();
     ties_are_seen();
     let features = project.features.len();
-    let accepted = where_accepted(alloc, oracle, project, files, parsed)?;
+    let accepted = where_accepted(alloc, oracle, project, files, parsed, badly_made)?;
     let ties = ties_of_units(alloc, oracle, features, &parsed.streams, told)?;
     let names = names_of_units(alloc, oracle, features, &parsed.streams, told)?;
     Ok(ProjectTies {
