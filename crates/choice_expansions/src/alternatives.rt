@@ -13,7 +13,7 @@ use c_tree::Tree;
 use choice_trees::{Choice, Item};
 use choice_variants::may_hold;
 use cond_formula::{Formula, NoMemory, Oracle};
-use reduced_conditions::{both, without};
+use reduced_conditions::{both_of, without};
 use std::alloc::Global;
 
 /// What stands for a part where a condition is true: a tree, or nothing.
@@ -36,11 +36,7 @@ fn push_tree<O: Oracle>(
         → seen (has c) (parts_expanded all.new.items)
         ≡ seen (has c) (parts_expanded all.old.items) ++ under (value (has c) (condition_of here.now) && value (has c) (condition_of expansion.now.when)) (Some (plain_tree expansion.now.tree) ∷ [])) }
 {
-    let when = both(
-        alloc,
-        here.try_clone(alloc)?,
-        expansion.when.try_clone(alloc)?,
-    )?;
+    let when = both_of(alloc, here, &expansion.when)?;
     if !may_hold(&when, oracle) {
         return Ok(());
     }
@@ -120,7 +116,7 @@ pub fn part_expansions<O: Oracle>(
     let mut all = Vec::new(alloc);
     let mut left = Formula::True;
     for (when, item) in &part.branches {
-        let here = both(alloc, left.try_clone(alloc)?, when.try_clone(alloc)?)?;
+        let here = both_of(alloc, &left, when)?;
         push_item(alloc, oracle, &mut all, &here, item)?;
         left = without(alloc, left, when)?;
     }

@@ -9,7 +9,7 @@ ghost use Rattle.choice_expansions.specs.Expansions.{expanded, trees_before, row
 use c_tree::{Kind, Tree};
 use choice_variants::may_hold;
 use cond_formula::{Formula, NoMemory, Oracle};
-use reduced_conditions::both;
+use reduced_conditions::both_of;
 use std::alloc::Global;
 
 /// The tree of an item where a condition is true.
@@ -76,11 +76,7 @@ fn push_row<O: Oracle>(
         ≡ seen (has c) (rows_before rest rows.old.items) ++ under (value (has c) (condition_of row.now.when) && value (has c) (condition_of expansion.now.when))
         (trees_before row.now.trees.items (more (plain_tree expansion.now.tree) rest) ∷ [])) }
 {
-    let when = both(
-        alloc,
-        row.when.try_clone(alloc)?,
-        expansion.when.try_clone(alloc)?,
-    )?;
+    let when = both_of(alloc, &row.when, &expansion.when)?;
     if !may_hold(&when, oracle) {
         return Ok(());
     }

@@ -11,7 +11,7 @@ ghost use Rattle.choice_variants.specs.Variants.{before, perhaps_before, followe
 use crate::parts::{Part, Variant, longer, part_left_out};
 use choice_trees::{Choice, Item};
 use cond_formula::{Formula, May, NoMemory, Oracle};
-use reduced_conditions::{both, is_never, without};
+use reduced_conditions::{both_of, is_never, without};
 use std::alloc::Global;
 
 /// Whether there may be configurations in which the condition is true.
@@ -69,7 +69,7 @@ fn push_alternatives<'a, O: Oracle>(
 {
     let mut left = variant.when.try_clone(alloc)?;
     for (when, item) in &choice.branches {
-        let here = both(alloc, left.try_clone(alloc)?, when.try_clone(alloc)?)?;
+        let here = both_of(alloc, &left, when)?;
         let part = Some(Part::Item(item));
         push_longer(all, alloc, here, &variant.parts, part, oracle)?;
         left = without(alloc, left, when)?;

@@ -10,7 +10,7 @@ use crate::item::{Item, Site};
 use c_text::{Origin, Place, Token};
 use cond_formula::{Formula, NoMemory};
 use conditional::{CondList, Guarded};
-use reduced_conditions::{both, is_never, without};
+use reduced_conditions::{both_of, is_never, without};
 use std::alloc::{AllocError, Global};
 use text_edits::Span;
 
@@ -40,7 +40,7 @@ pub fn push_under<'t>(
 {
     for entry in items {
         let item = entry.what.try_clone(alloc)?;
-        let here = both(alloc, entry.when.try_clone(alloc)?, when.try_clone(alloc)?)?;
+        let here = both_of(alloc, &entry.when, when)?;
         push(list, here, item)?;
     }
     Ok(())
@@ -59,7 +59,7 @@ pub fn push_brought<'t>(
 {
     for entry in items {
         let item = entry.what.brought(alloc, first, last)?;
-        let here = both(alloc, entry.when.try_clone(alloc)?, when.try_clone(alloc)?)?;
+        let here = both_of(alloc, &entry.when, when)?;
         push(list, here, item)?;
     }
     Ok(())
@@ -128,7 +128,7 @@ fn push_tokens(
 {
     let mut left = when.try_clone(alloc)?;
     for other in &item.others {
-        let here = both(alloc, left.try_clone(alloc)?, other.when.try_clone(alloc)?)?;
+        let here = both_of(alloc, &left, &other.when)?;
         push_token(alloc, tokens, here, item, other.what)?;
         left = without(alloc, left, &other.when)?;
     }

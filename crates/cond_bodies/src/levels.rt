@@ -16,7 +16,7 @@ use c_text::Token;
 use cond_formula::{Formula, May, NoMemory, Oracle};
 use conditional::Guarded;
 use macro_table::Macros;
-use reduced_conditions::{both, either, is_always, is_never, without};
+use reduced_conditions::{both, both_of, either, is_always, is_never, without};
 use std::alloc::Global;
 
 /// How a list is replaced.
@@ -51,7 +51,7 @@ pub fn is_active<'t>(active: &[&'t Token], item: &Item<'t>) -> bool
 pub fn inner(alloc: Global, within: &Formula, when: &Formula) -> Result<Formula, NoMemory>
     ensures { IfOk result (λ f. (on : ℕ → Bool) → value on (condition_of f) ≡ (value on (condition_of within.now) && value on (condition_of when.now))) }
 {
-    let f = both(alloc, within.try_clone(alloc)?, when.try_clone(alloc)?)?;
+    let f = both_of(alloc, within, when)?;
     Ok(f)
 }
 

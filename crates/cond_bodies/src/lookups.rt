@@ -7,7 +7,7 @@ ghost use Rattle.cond_bodies.specs.CondMeanings.{Means};
 use crate::meanings::Meanings;
 use cond_formula::{Formula, NoMemory};
 use macro_table::Macros;
-use reduced_conditions::{both, without};
+use reduced_conditions::{both_of, without};
 use std::alloc::Global;
 
 /// What a name stands for.
@@ -26,11 +26,7 @@ pub fn meanings_of<'t>(
         functions: Vec::new(alloc),
     };
     for definition in macros.table.definitions(name) {
-        let when = both(
-            alloc,
-            definition.when.try_clone(alloc)?,
-            left.try_clone(alloc)?,
-        )?;
+        let when = both_of(alloc, &definition.when, &left)?;
         all.add(when, &definition.what.given)?;
         left = without(alloc, left, &definition.when)?;
     }

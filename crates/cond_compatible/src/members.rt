@@ -15,7 +15,7 @@ use cond_formula::{Formula, NoMemory, Oracle};
 use conditional::{CondList, when_some_hold};
 use matched_lists::{Longer, Matching, match_lists};
 use operand_rules::Refused;
-use reduced_conditions::both;
+use reduced_conditions::{both, both_of};
 use std::alloc::Global;
 use type_tables::{CondStruct, Member};
 
@@ -94,11 +94,7 @@ fn where_complete_agree<O: Oracle>(
         → value (has c) (condition_of f) ≡ tags_agree (said_alike (has c) alike.now) (tag_seen (has c) a.now) (tag_seen (has c) b.now)) }
 {
     let differ = where_members_differ(alloc, oracle, alike, &a.members, &b.members)?;
-    let complete = both(
-        alloc,
-        a.complete.try_clone(alloc)?,
-        b.complete.try_clone(alloc)?,
-    )?;
+    let complete = both_of(alloc, &a.complete, &b.complete)?;
     let apart = both(alloc, complete, differ)?;
     let agree = Formula::not(alloc, apart)?;
     Ok(agree)

@@ -28,7 +28,7 @@ use conditional::Outcomes;
 use operand_rules::Refused;
 use plain_declarators::name_in;
 use plain_scope::{arithmetic_words, has_terminal};
-use reduced_conditions::both;
+use reduced_conditions::both_of;
 use std::alloc::Global;
 use type_tables::{DeclaredType, Tables};
 
@@ -97,11 +97,7 @@ fn declare_expansion<O: Oracle>(
     ensures places { IfOk result (λ _. (c : List Bool) → IsTrue (value (has c) (O.admits oracle.old)) → IsTrue (value (has c) (condition_of when.now))
         → DeclaresNext (has c) (value (has c) (condition_of expansion.now.when)) (plain_tree expansion.now.tree) (seen_tables (has c) tables.old) (seen_tables (has c) tables.new) all.old all.new) }
 {
-    let here = both(
-        alloc,
-        when.try_clone(alloc)?,
-        expansion.when.try_clone(alloc)?,
-    )?;
+    let here = both_of(alloc, when, &expansion.when)?;
     if !may_hold(&here, oracle) {
         return Ok(());
     }

@@ -33,7 +33,7 @@ use choice_trees::{Choice, Item};
 use cond_formula::{Formula, NoMemory, Oracle};
 use conditional::Guarded;
 use plain_scope::copied;
-use reduced_conditions::{both, without};
+use reduced_conditions::{both_of, without};
 use std::alloc::Global;
 use type_tables::Tables;
 
@@ -243,7 +243,7 @@ fn push_part<K: Expressions, O: Oracle>(
 {
     let mut left = Formula::True;
     for (when, item) in &part.branches {
-        let here = both(alloc, left.try_clone(alloc)?, when.try_clone(alloc)?)?;
+        let here = both_of(alloc, &left, when)?;
         push_item(alloc, oracle, known, tables, types, &here, item, all)?;
         left = without(alloc, left, when)?;
     }

@@ -13,7 +13,7 @@ ghost use Rattle.cond_pairings.specs.Pairs.{pair_with, declared_pairs, pairs_see
 use crate::chains::visible;
 use cond_bindings::{Declaration, Identifier, Meaning, UnitBindings};
 use cond_formula::{Formula, NoMemory};
-use reduced_conditions::{both, without};
+use reduced_conditions::{both_of, without};
 use std::alloc::Global;
 
 /// An identifier of a unit, with one that declares it.
@@ -42,11 +42,7 @@ fn pair_with_first(
 {
     let mut left = when;
     for declaration in declarations {
-        let there = both(
-            alloc,
-            left.try_clone(alloc)?,
-            declaration.when.try_clone(alloc)?,
-        )?;
+        let there = both_of(alloc, &left, &declaration.when)?;
         all.push(CondPairing {
             identifier,
             declared_by: declaration.number,

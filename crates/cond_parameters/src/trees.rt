@@ -17,7 +17,7 @@ use choice_trees::{Choice, Item};
 use choice_variants::may_hold;
 use cond_formula::{Formula, NoMemory, Oracle};
 use declarator_lists::{ListEntry, entries};
-use reduced_conditions::both;
+use reduced_conditions::both_of;
 use std::alloc::Global;
 
 fn is_parameter_kind(kind: Kind) -> bool
@@ -50,11 +50,7 @@ fn push_tree<O: Oracle>(
         → seen (has c) (expanded all.new.items)
         ≡ seen (has c) (expanded all.old.items) ++ under (value (has c) (condition_of here.now) && value (has c) (condition_of expansion.now.when)) (plain_tree expansion.now.tree ∷ [])) }
 {
-    let when = both(
-        alloc,
-        here.try_clone(alloc)?,
-        expansion.when.try_clone(alloc)?,
-    )?;
+    let when = both_of(alloc, here, &expansion.when)?;
     if !may_hold(&when, oracle) {
         return Ok(());
     }
@@ -116,7 +112,7 @@ fn push_entry<O: Oracle>(
     if !is_parameter(entry.item) {
         return Ok(());
     }
-    let here = both(alloc, when.try_clone(alloc)?, entry.when.try_clone(alloc)?)?;
+    let here = both_of(alloc, when, &entry.when)?;
     push_item(alloc, oracle, all, &here, entry.item)?;
     Ok(())
 }

@@ -28,7 +28,7 @@ use choice_variants::may_hold;
 use cond_formula::{Formula, NoMemory, Oracle};
 use conditional::CondList;
 use plain_scope::copied;
-use reduced_conditions::{both, either, without};
+use reduced_conditions::{both, both_of, either, without};
 use std::alloc::Global;
 use std::mem;
 use type_tables::{DeclaredType, Tables};
@@ -141,7 +141,7 @@ fn add<O: Oracle>(
     ensures adds { IfOk result (λ _. (c : List Bool) → IsTrue (value (has c) (O.admits oracle.old))
         → state_of (has c) all.new tables.new ≡ added (value (has c) (condition_of here.now)) (found_at (has c) found.entry) (state_of (has c) all.old tables.old)) }
 {
-    let fitting = both(alloc, here.try_clone(alloc)?, found.fits.try_clone(alloc)?)?;
+    let fitting = both_of(alloc, here, &found.fits)?;
     let unfit = without(alloc, here.try_clone(alloc)?, &found.fits)?;
     refuse(alloc, oracle, all, unfit)?;
     add_fitting(alloc, oracle, tables, all, fitting, found)?;

@@ -14,7 +14,7 @@ use c_text::Token;
 use cond_bodies::{Item, push, push_brought};
 use cond_formula::{Formula, NoMemory};
 use conditional::Guarded;
-use reduced_conditions::{both, either};
+use reduced_conditions::{both_of, either};
 use std::alloc::Global;
 use std::mem;
 
@@ -89,7 +89,7 @@ impl<'t> Run<'t> {
         ensures calls { self.new.calls ≡ self.old.calls }
         ensures refused { OnOk result ((on : ℕ → Bool) → value on (condition_of self.new.refused) ≡ (value on (condition_of self.old.refused) || (value on (condition_of when.now) && value on (condition_of refused.now)))) }
     {
-        let here = both(alloc, when.try_clone(alloc)?, refused.try_clone(alloc)?)?;
+        let here = both_of(alloc, when, refused)?;
         let before = mem::replace(&mut self.refused, Formula::False);
         self.refused = either(alloc, before, here)?;
         Ok(())

@@ -17,7 +17,7 @@ use choice_variants::may_hold;
 use cond_formula::{Formula, NoMemory, Oracle};
 use conditional::{Operator, Outcomes, crossed};
 use operand_rules::Refused;
-use reduced_conditions::{both, without};
+use reduced_conditions::{both_of, without};
 use std::alloc::{AllocError, Global};
 
 /// What a part comes to.
@@ -97,7 +97,7 @@ fn part_total<M: Measure, O: Oracle>(
     let mut all = Outcomes::nothing(alloc);
     let mut left = Formula::True;
     for (when, item) in &part.branches {
-        let here = both(alloc, left.try_clone(alloc)?, when.try_clone(alloc)?)?;
+        let here = both_of(alloc, &left, when)?;
         let what = measure.of_item(alloc, item)?;
         place_possible(alloc, oracle, &mut all, here, what)?;
         left = without(alloc, left, when)?;

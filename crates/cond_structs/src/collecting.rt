@@ -16,7 +16,7 @@ use cond_sums::CondSum;
 use conditional::{CondList, Guarded, Outcomes, when_some_hold};
 use operand_rules::Refused;
 use plain_scope::copied;
-use reduced_conditions::{both, either, without};
+use reduced_conditions::{both, both_of, either, without};
 use std::alloc::Global;
 use std::mem;
 use type_tables::{DeclaredType, Member, Tables};
@@ -155,7 +155,7 @@ impl Gathering {
     {
         let mut left = here.try_clone(alloc)?;
         for entry in types {
-            let when = both(alloc, left.try_clone(alloc)?, entry.when.try_clone(alloc)?)?;
+            let when = both_of(alloc, &left, &entry.when)?;
             self.add(alloc, tables, &when, name, &entry.what.ty)?;
             left = without(alloc, left, &entry.when)?;
         }

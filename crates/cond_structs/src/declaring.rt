@@ -27,7 +27,7 @@ use conditional::Outcomes;
 use declarator_lists::StepOnDeclarator;
 use operand_rules::Refused;
 use plain_declarators::name_in;
-use reduced_conditions::both;
+use reduced_conditions::{both, both_of};
 use std::alloc::Global;
 use std::mem;
 use type_tables::{DeclaredType, Tables};
@@ -140,7 +140,7 @@ impl<'t> StepOnTree for Declaration<'t> {
         when: &Formula,
         tree: &Tree,
     ) -> Result<(), NoMemory> {
-        let here = both(alloc, self.here.try_clone(alloc)?, when.try_clone(alloc)?)?;
+        let here = both_of(alloc, &self.here, when)?;
         declare_tree(
             alloc,
             oracle,
@@ -175,7 +175,7 @@ impl<'t> StepOnDeclarator for Declaration<'t> {
         declarator: &Item,
         _initialiser: Option<&Item>,
     ) -> Result<(), NoMemory> {
-        let here = both(alloc, self.here.try_clone(alloc)?, when.try_clone(alloc)?)?;
+        let here = both_of(alloc, &self.here, when)?;
         let all = mem::replace(&mut self.all, nothing(alloc));
         let mut one = Declaration {
             tables: self.tables,

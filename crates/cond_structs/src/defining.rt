@@ -28,7 +28,7 @@ use cond_declarators::declared_base;
 use cond_formula::{Formula, NoMemory, Oracle};
 use conditional::{Guarded, Outcomes};
 use operand_rules::Refused;
-use reduced_conditions::{both, either, without};
+use reduced_conditions::{both, both_of, either, without};
 use std::alloc::{AllocError, Global};
 use type_tables::{DeclaredType, Tables};
 
@@ -100,7 +100,7 @@ fn complete_each(
 {
     let mut left = when;
     for entry in types {
-        let here = both(alloc, left.try_clone(alloc)?, entry.when.try_clone(alloc)?)?;
+        let here = both_of(alloc, &left, &entry.when)?;
         complete_one(alloc, tables, here, &entry.what.ty, all)?;
         left = without(alloc, left, &entry.when)?;
     }
@@ -151,6 +151,6 @@ pub fn define_struct<O: Oracle>(
     let all = read_all(alloc, oracle, tables, when, &list, all)?;
     let accepted = without(alloc, when.try_clone(alloc)?, &all.refused)?;
     complete_each(alloc, tables, accepted, &base.fine.alternatives, &all)?;
-    let refused = both(alloc, when.try_clone(alloc)?, all.refused.try_clone(alloc)?)?;
+    let refused = both_of(alloc, when, &all.refused)?;
     Ok(refused)
 }

@@ -15,7 +15,7 @@ use choice_trees::{Choice, Item};
 use choice_variants::{Part, Variant, variants};
 use cond_formula::{Formula, NoMemory, Oracle};
 use declarator_lists::entries;
-use reduced_conditions::both;
+use reduced_conditions::both_of;
 use std::alloc::{AllocError, Global};
 
 /// The words and the declarators of a declaration where a condition is true.
@@ -56,11 +56,7 @@ fn push_variant<'a>(
     if variant.parts.len() != 3 {
         return Ok(());
     }
-    let when = both(
-        alloc,
-        here.try_clone(alloc)?,
-        variant.when.try_clone(alloc)?,
-    )?;
+    let when = both_of(alloc, here, &variant.when)?;
     push_parts(all, when, variant.parts[0], variant.parts[1])?;
     Ok(())
 }

@@ -27,7 +27,7 @@ use conditional::Outcomes;
 use declaration_readings::members_are_read;
 use declarator_lists::for_each_declarator;
 use operand_rules::Refused;
-use reduced_conditions::both;
+use reduced_conditions::both_of;
 use std::alloc::Global;
 use type_tables::{DeclaredType, Tables};
 
@@ -108,7 +108,7 @@ pub(crate) fn read_all<O: Oracle>(
 {
     let mut members = all;
     for d in list {
-        let here = both(alloc, when.try_clone(alloc)?, d.when.try_clone(alloc)?)?;
+        let here = both_of(alloc, when, &d.when)?;
         members = read_declaration(alloc, oracle, tables, &here, d.words, d.list, members)?;
     }
     Ok(members)

@@ -6,7 +6,7 @@ ghost use Rattle.cond_sums.specs.Sums.{counted, sum_at};
 
 use crate::limits::where_within;
 use cond_formula::{Formula, NoMemory};
-use reduced_conditions::{both, is_same};
+use reduced_conditions::{both_of, is_same};
 use std::alloc::Global;
 
 /// The most scalars that an object may have.
@@ -89,7 +89,7 @@ impl CondSum {
         ensures { OnOk result ((on : ℕ → Bool) → capped (sum_at on self.new) ≡ capped (sum_at on self.old + counted (value on (condition_of when.now)) (sum_at on other.now))) }
     {
         for part in &other.parts {
-            let here = both(alloc, part.when.try_clone(alloc)?, when.try_clone(alloc)?)?;
+            let here = both_of(alloc, &part.when, when)?;
             self.add(here, part.count)?;
         }
         Ok(())

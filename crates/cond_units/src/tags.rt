@@ -12,7 +12,7 @@ use c_text::Token;
 use c_tree::{Kind, Terminal, terminal};
 use choice_trees::{Choice, Item, needs_statement};
 use cond_formula::{Formula, NoMemory};
-use reduced_conditions::{both, either, without};
+use reduced_conditions::{both_of, either, without};
 use std::alloc::Global;
 
 /// What a word is to the search for a tag.
@@ -135,7 +135,7 @@ fn after_choice(
     let mut untaken = left;
     let mut searched = with_nothing_left(found);
     for (when, item) in &choice.branches {
-        let here = both(alloc, untaken.try_clone(alloc)?, when.try_clone(alloc)?)?;
+        let here = both_of(alloc, &untaken, when)?;
         let word = word_of(item, tag);
         searched = after_word(alloc, searched, here, word)?;
         untaken = without(alloc, untaken, when)?;

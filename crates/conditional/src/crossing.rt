@@ -6,10 +6,11 @@ ghost use Rattle.cond_formula.specs.Conditions.{condition_of, value};
 ghost use Rattle.conditional.specs.Entries.{entry_of, entries_of};
 ghost use Rattle.conditional.specs.Judgements.{Checked, bind, checked, Computes, EachGives, IsCell, JudgesRow, JudgesAll, Shows};
 
-use crate::entries::{Guarded, both};
+use crate::entries::Guarded;
 use crate::outcomes::Outcomes;
 use crate::plain::{Operator, Plain};
 use cond_formula::{Formula, NoMemory, Oracle};
+use reduced_conditions::both_of;
 use std::alloc::Global;
 
 fn is_same<C: Plain, R: Plain>(a: &Result<C, R>, b: &Result<C, R>) -> bool
@@ -82,7 +83,7 @@ fn cell_condition<A: Plain, B: Plain, C: Plain, R: Plain, F: Operator<A, B, C, R
         let when = y.when.try_clone(alloc)?;
         return Ok(when);
     }
-    let when = both(alloc, &x.when, &y.when)?;
+    let when = both_of(alloc, &x.when, &y.when)?;
     Ok(when)
 }
 

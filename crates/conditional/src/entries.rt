@@ -1,6 +1,6 @@
 //! Values under conditions.
 
-ghost use Rattle.std.specs.Prelude.{◌≡◌, ℕ, Bool, ◌&&◌, IfOk};
+ghost use Rattle.std.specs.Prelude.{◌≡◌, ℕ, Bool, IfOk};
 ghost use Rattle.cond_formula.specs.Conditions.{condition_of, value};
 ghost use Rattle.conditional.specs.Entries.{entries_of, some_holds};
 
@@ -25,12 +25,4 @@ pub fn when_some_hold<T: Plain>(alloc: Global, entries: &[Guarded<T>]) -> Result
         some = either(alloc, some, entry.when.try_clone(alloc)?)?;
     }
     Ok(some)
-}
-
-/// The condition under which both hold, which stay as they are.
-pub(crate) fn both(alloc: Global, a: &Formula, b: &Formula) -> Result<Formula, NoMemory>
-    ensures { IfOk result (λ f. (on : ℕ → Bool) → value on (condition_of f) ≡ (value on (condition_of a.now) && value on (condition_of b.now))) }
-{
-    let f = reduced_conditions::both(alloc, a.try_clone(alloc)?, b.try_clone(alloc)?)?;
-    Ok(f)
 }

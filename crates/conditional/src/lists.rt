@@ -5,11 +5,11 @@ ghost use Rattle.cond_formula.specs.Features.{has};
 ghost use Rattle.cond_formula.specs.Conditions.{condition_of, value, IsDisjunction};
 ghost use Rattle.conditional.specs.Entries.{listed, alternatives, seen, under, first, or_later, Sees, Maps};
 
-use crate::entries::{Guarded, both};
+use crate::entries::Guarded;
 use crate::plain::{Function, Plain};
 use crate::values::CondValue;
 use cond_formula::{Formula, May, NoMemory, Oracle};
-use reduced_conditions::{either, without};
+use reduced_conditions::{both_of, either, without};
 use std::alloc::Global;
 
 /// A conditional list: in a configuration it is the list of the entries that hold there, in their order.
@@ -86,7 +86,7 @@ impl<T: Plain> CondList<T> {
         ensures { IfOk result (λ _. (on : ℕ → Bool) → seen on (listed T.form self.new) ≡ seen on (listed T.form self.old) ++ under (value on (condition_of when.now)) (seen on (listed T.form other.now))) }
     {
         for entry in &other.entries {
-            let here = both(alloc, &entry.when, when)?;
+            let here = both_of(alloc, &entry.when, when)?;
             self.push(here, entry.what.try_clone(alloc)?)?;
         }
         Ok(())

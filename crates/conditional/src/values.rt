@@ -5,10 +5,10 @@ ghost use Rattle.cond_formula.specs.Features.{has};
 ghost use Rattle.cond_formula.specs.Conditions.{condition_of, value};
 ghost use Rattle.conditional.specs.Entries.{entries_of, alternatives, Sees, Places, PlacesUnder, Maps};
 
-use crate::entries::{Guarded, both};
+use crate::entries::Guarded;
 use crate::plain::{Function, Plain};
 use cond_formula::{Formula, May, NoMemory, Oracle};
-use reduced_conditions::either;
+use reduced_conditions::{both_of, either};
 use std::alloc::Global;
 
 /// A conditional value: in a configuration it is the value of the alternatives that hold there, which agree, or nothing
@@ -64,7 +64,7 @@ impl<T: Plain> CondValue<T> {
         ensures { IfOk result (λ _. (on : ℕ → Bool) → PlacesUnder on (condition_of when.now) (alternatives T.form other.now) (alternatives T.form self.old) (alternatives T.form self.new)) }
     {
         for alternative in &other.alternatives {
-            let here = both(alloc, &alternative.when, when)?;
+            let here = both_of(alloc, &alternative.when, when)?;
             self.place(alloc, here, alternative.what.try_clone(alloc)?)?;
         }
         Ok(())

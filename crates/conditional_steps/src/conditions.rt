@@ -8,7 +8,6 @@ ghost use Rattle.conditional_steps.specs.Here.{is_refused};
 use choice_variants::may_hold;
 use cond_formula::{Formula, NoMemory, Oracle};
 use conditional::{Outcomes, Plain, when_some_hold};
-use reduced_conditions::both;
 use std::alloc::Global;
 
 /// A condition that is never true.
@@ -23,7 +22,7 @@ pub fn never() -> Result<Formula, NoMemory>
 pub fn both_of(alloc: Global, a: &Formula, b: &Formula) -> Result<Formula, NoMemory>
     ensures { IfOk result (λ f. (on : ℕ → Bool) → value on (condition_of f) ≡ (value on (condition_of a.now) && value on (condition_of b.now))) }
 {
-    both(alloc, a.try_clone(alloc)?, b.try_clone(alloc)?)
+    reduced_conditions::both_of(alloc, a, b)
 }
 
 /// Where both conditions are true, in the configurations that there may be.

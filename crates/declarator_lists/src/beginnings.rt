@@ -9,7 +9,7 @@ use crate::items::ListEntry;
 use choice_trees::Item;
 use choice_variants::may_hold;
 use cond_formula::{Formula, NoMemory, Oracle};
-use reduced_conditions::{both, without};
+use reduced_conditions::{both_of, without};
 use std::alloc::Global;
 
 /// The first entry that is there, and what stands behind it.
@@ -58,7 +58,7 @@ pub(crate) fn heads<'e, 'a, O: Oracle>(
     let mut all = Vec::new(alloc);
     let mut left = when.try_clone(alloc)?;
     for (place, entry) in list.iter().enumerate() {
-        let here = both(alloc, left.try_clone(alloc)?, entry.when.try_clone(alloc)?)?;
+        let here = both_of(alloc, &left, &entry.when)?;
         let (_, behind) = list.split_at(place + 1);
         let beginning = Beginning {
             first: entry.item,

@@ -12,7 +12,7 @@ ghost use Rattle.declarator_lists.specs.Entries.{entries_at};
 use choice_trees::{Choice, Item};
 use choice_variants::may_hold;
 use cond_formula::{Formula, NoMemory, Oracle};
-use reduced_conditions::{both, without};
+use reduced_conditions::{both_of, without};
 use std::alloc::Global;
 
 /// What stands in a list where a condition is true.
@@ -53,7 +53,7 @@ fn push_choice<'a, O: Oracle>(
 {
     let mut left = Formula::True;
     for (when, item) in &choice.branches {
-        let here = both(alloc, left.try_clone(alloc)?, when.try_clone(alloc)?)?;
+        let here = both_of(alloc, &left, when)?;
         push_entry(all, oracle, here, item)?;
         left = without(alloc, left, when)?;
     }

@@ -6,7 +6,7 @@ ghost use Rattle.known_tables.specs.Searches.{Finds};
 
 use cond_formula::{Formula, NoMemory};
 use conditional::{CondValue, Plain};
-use reduced_conditions::{both, is_never, without};
+use reduced_conditions::{both_of, is_never, without};
 use std::alloc::Global;
 use std::mem;
 
@@ -53,7 +53,7 @@ impl<T: Plain> Search<T> {
         ensures { OnOk result ((on : ℕ → Bool) (whole next later : Option T.Form) → Sees on next (alternatives T.form what.now)
             → Finds T.form on whole (if value on (condition_of when.now) then next else later) self.old → Finds T.form on whole later self.new) }
     {
-        let here = both(alloc, self.rest.try_clone(alloc)?, when.try_clone(alloc)?)?;
+        let here = both_of(alloc, &self.rest, when)?;
         place_there(alloc, &mut self.found, &here, what)?;
         let before = mem::replace(&mut self.rest, Formula::False);
         self.rest = without(alloc, before, when)?;

@@ -18,7 +18,7 @@ use choice_variants::may_hold;
 use cond_compatible::{AlikeStructs, where_alike_sorts_agree, where_signatures_agree};
 use cond_formula::{Formula, NoMemory, Oracle};
 use conditional::Guarded;
-use reduced_conditions::{both, either, without};
+use reduced_conditions::{both_of, either, without};
 use std::alloc::Global;
 use type_tables::{CondSignature, Sort, Tables};
 
@@ -150,7 +150,7 @@ fn where_apart<O: Oracle>(
     ensures exact { IfOk result (λ f. (c : List Bool) → IsTrue (value (has c) (O.admits oracle.old))
         → value (has c) (condition_of f) ≡ are_apart (has c) tables.now (sorts_agree (said_alike (has c) alike.now)) a.now b.now) }
 {
-    let together = both(alloc, a.when.try_clone(alloc)?, b.when.try_clone(alloc)?)?;
+    let together = both_of(alloc, &a.when, &b.when)?;
     if !may_hold(&together, oracle) {
         return Ok(Formula::False);
     }

@@ -14,7 +14,7 @@ use crate::built_in::declared_by_header;
 use crate::{LeftUnit, declared};
 use cond_formula::{Formula, NoMemory};
 use conditional::{Guarded, Plain};
-use reduced_conditions::both;
+use reduced_conditions::both_of;
 use std::alloc::Global;
 use type_tables::{CondSignature, FileName, Sort};
 
@@ -67,11 +67,7 @@ fn with_meaning(
     if entry.what.internal {
         return Ok(so_far);
     }
-    let when = both(
-        alloc,
-        present.try_clone(alloc)?,
-        entry.when.try_clone(alloc)?,
-    )?;
+    let when = both_of(alloc, present, &entry.when)?;
     let copy = entry.what.try_clone(alloc)?;
     let mut all = so_far;
     all.push(Guarded {

@@ -4,7 +4,7 @@ ghost use Rattle.cond_formula.specs.Conditions.{condition_of, value};
 ghost use Rattle.link_faults.specs.Several.{Count};
 
 use cond_formula::{Formula, NoMemory};
-use reduced_conditions::{both, either};
+use reduced_conditions::{both, both_of, either};
 use std::alloc::Global;
 
 /// Where there is at least one of something, and where there are at least two.
@@ -50,7 +50,7 @@ pub(crate) fn only(alloc: Global, when: Formula, s: Several) -> Result<Several, 
 fn two_of(alloc: Global, a: &Several, b: &Several) -> Result<Formula, NoMemory>
     ensures { IfOk result (λ f. (on : ℕ → Bool) (m n : ℕ) → Count on a.now m → Count on b.now n → value on (condition_of f) ≡ nat_le 2 (m + n)) }
 {
-    let each = both(alloc, a.one.try_clone(alloc)?, b.one.try_clone(alloc)?)?;
+    let each = both_of(alloc, &a.one, &b.one)?;
     let twice = either(alloc, a.two.try_clone(alloc)?, b.two.try_clone(alloc)?)?;
     let f = either(alloc, twice, each)?;
     Ok(f)

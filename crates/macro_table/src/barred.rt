@@ -10,19 +10,31 @@ ghost use Rattle.macro_table.specs.MacroTables.{is_barred_name, is_barred_macro}
 use c_names::is_keyword;
 use c_text::{Macro, Token};
 
+/// The names that the language defines itself (6.10.8), and those that it reads in its own way (6.10.3, 6.10.9, 6.4.2.2).
+fn predefined_names() -> &'static [&'static [u8]]
+    ensures { map (λ name. name.now) result.now ≡ spec.predefined_names }
+{
+    &[
+        b"__LINE__", b"__FILE__", b"__DATE__", b"__TIME__", b"__STDC__", b"__STDC_VERSION__", b"__STDC_HOSTED__",
+        b"__VA_ARGS__", b"__func__", b"_Pragma",
+    ]
+}
+
+fn is_listed(names: &[&[u8]], name: &[u8]) -> bool
+    ensures { result ≡ list_any (bytes_eq name.now) (map (λ other. other.now) names.now) }
+{
+    for other in names {
+        if name == *other {
+            return true;
+        }
+    }
+    false
+}
+
 fn is_predefined(name: &[u8]) -> bool
     ensures { result ≡ list_any (bytes_eq name.now) spec.predefined_names }
 {
-    name == b"__LINE__".as_slice()
-        || name == b"__FILE__".as_slice()
-        || name == b"__DATE__".as_slice()
-        || name == b"__TIME__".as_slice()
-        || name == b"__STDC__".as_slice()
-        || name == b"__STDC_VERSION__".as_slice()
-        || name == b"__STDC_HOSTED__".as_slice()
-        || name == b"__VA_ARGS__".as_slice()
-        || name == b"__func__".as_slice()
-        || name == b"_Pragma".as_slice()
+    is_listed(predefined_names(), name)
 }
 
 /// Whether no macro may have this name.

@@ -104,7 +104,7 @@ fn refuse_pair<A, B, R: Plain, M: Matching<A, B, R>, O: Oracle>(
     if is_never(here) {
         return Ok(());
     }
-    let both = reduced::both(alloc, x.when.try_clone(alloc)?, y.when.try_clone(alloc)?)?;
+    let both = reduced::both_of(alloc, &x.when, &y.when)?;
     let together = possible(oracle, reduced::both(alloc, here.try_clone(alloc)?, both)?);
     if is_never(&together) {
         return Ok(());
@@ -152,7 +152,7 @@ pub(crate) fn refuse_longer<R: Plain>(
     let Some(why) = why else {
         return Ok(());
     };
-    let when = reduced::both(alloc, here.try_clone(alloc)?, entry.try_clone(alloc)?)?;
+    let when = reduced::both_of(alloc, here, entry)?;
     refusals.push(when, why.try_clone(alloc)?)?;
     Ok(())
 }

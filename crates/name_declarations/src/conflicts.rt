@@ -10,7 +10,7 @@ ghost use Rattle.name_declarations.specs.Conflicts.{conflicting};
 use choice_variants::may_hold;
 use cond_formula::{Formula, NoMemory, Oracle};
 use conditional::Guarded;
-use reduced_conditions::{both, either, without};
+use reduced_conditions::{both, both_of, either, without};
 use std::alloc::Global;
 use type_tables::FileName;
 
@@ -42,11 +42,7 @@ fn where_one_conflicts<C: Conflict, O: Oracle>(
     ensures exact { IfOk result (λ f. (c : List Bool) → IsTrue (value (has c) (O.admits oracle.old))
         → value (has c) (condition_of f) ≡ ((value (has c) (condition_of left.now) && value (has c) (condition_of meaning.now.when)) && C.conflicts conflict.now c (file_name_form meaning.now.what))) }
 {
-    let here = both(
-        alloc,
-        left.try_clone(alloc)?,
-        meaning.when.try_clone(alloc)?,
-    )?;
+    let here = both_of(alloc, left, &meaning.when)?;
     if !may_hold(&here, oracle) {
         return Ok(Formula::False);
     }

@@ -12,7 +12,7 @@ use choice_trees::Forest;
 use cond_formula::{Formula, NoMemory, Oracle};
 use cond_tokens::CondStream;
 use project_file::Project;
-use reduced_conditions::{both, either};
+use reduced_conditions::{both_of, either};
 use std::alloc::Global;
 use text_edits::Files;
 
@@ -38,7 +38,7 @@ fn with_refusal(
 ) -> Result<Formula, NoMemory>
     ensures { IfOk result (λ f. (on : ℕ → Bool) → value on (condition_of f) ≡ (value on (condition_of so_far) || (value on (condition_of when.now) && value on (condition_of refused.now)))) }
 {
-    let here = both(alloc, when.try_clone(alloc)?, refused.try_clone(alloc)?)?;
+    let here = both_of(alloc, when, refused)?;
     either(alloc, so_far, here)
 }
 

@@ -1,5 +1,6 @@
 -- What one of several conditions says.
-use Rattle.std.proofs.Common.{◌≡◌, ℕ, zero, suc, ◌<◌, Bool, true, false, not, ◌&&◌, ◌||◌, List, [], ◌∷◌, length, get_or, IsTrue, refl, sym, ap, ◌∙◌, arith}
+use Rattle.std.proofs.Common.{◌≡◌, ℕ, zero, suc, ◌<◌, ◌+◌, Bool, true, false, not, ◌&&◌, ◌||◌, List, [], ◌∷◌, drop, length, get_or, IsTrue, refl, sym, ap, ◌∙◌, arith}
+use Rattle.std.proofs.lemmas.List.{drop_more}
 use Rattle.cond_formula.specs.declared.formulas.Formula.{Formula}
 use Rattle.cond_formula.specs.Conditions.{condition_of, conditions_of, value, all_true, any_true}
 
@@ -30,6 +31,17 @@ pub part_of_some : (on : ℕ → Bool) (parts : List Formula) (i : ℕ) (part : 
 part_of_some on [] i part within is one = absurd (omega arith)
 part_of_some on (x ∷ parts) zero part within is one = or_left (value on (condition_of x)) (any_true on (conditions_of parts)) (let one' = rw is at one in one')
 part_of_some on (x ∷ parts) (suc i) part within is one = or_right (value on (condition_of x)) (any_true on (conditions_of parts)) (part_of_some on parts i part (omega arith) is one)
+
+both_true : (a b : Bool) → IsTrue a → IsTrue b → IsTrue (a && b)
+both_true true b h g = g
+both_true false b h g = cc
+
+-- a part that is true, before others that all are
+pub all_from : (on : ℕ → Bool) (parts : List Formula) (i : ℕ) (part : Formula) → i < length parts → part ≡ get_or parts i part → IsTrue (value on (condition_of part)) → IsTrue (all_true on (conditions_of (drop (i + 1) parts))) → IsTrue (all_true on (conditions_of (drop i parts)))
+all_from on parts i part within is one rest =
+    let after = drop (i + 1) parts in
+    let next : drop i parts ≡ part ∷ after = drop_more parts i part within ∙ ap (λ (p : Formula). p ∷ after) (sym is) in
+    ap (λ (ps : List Formula). all_true on (conditions_of ps)) next ∙ both_true (value on (condition_of part)) (all_true on (conditions_of after)) one rest
 
 none_left : (a b : Bool) → (a || b) ≡ false → a ≡ false
 none_left true b h = h
@@ -95,6 +107,19 @@ pub kept_true : (k p r new : Bool) → (IsTrue (k && p) → IsTrue new) → IsTr
 kept_true true true r new e h = ap (λ (b : Bool). b && r) (e refl) ∙ h
 kept_true true false r new e h = cc
 kept_true false p r new e h = cc
+
+-- ---- what two conditions have in common that differ in a change
+
+pub one_of_both : (a b rest change : Bool) → (change ≡ true → rest ≡ a) → (IsTrue a → IsTrue rest) → (IsTrue b → IsTrue rest) → (IsTrue rest → change ≡ false → IsTrue b) → rest ≡ (a || b)
+one_of_both true b rest change there wider said back = wider refl
+one_of_both false true rest change there wider said back = said refl
+one_of_both false false rest true there wider said back = there refl
+one_of_both false false true false there wider said back = sym (back refl refl)
+one_of_both false false false false there wider said back = refl
+
+pub neither_one : (a b f g some n : Bool) → a ≡ not f → b ≡ not g → some ≡ (f || g) → n ≡ not some → n ≡ (a && b)
+neither_one a b true g some n off-a off-b joined opposite = opposite ∙ ap not joined ∙ sym (ap (λ (k : Bool). k && b) off-a)
+neither_one a b false g some n off-a off-b joined opposite = opposite ∙ ap not joined ∙ sym (ap (λ (k : Bool). k && b) off-a ∙ off-b)
 
 -- ---- what is left out
 

@@ -1,13 +1,33 @@
 //! Formulas made of formulas.
 
-ghost use Rattle.std.specs.Prelude.{◌≡◌, ℕ, Bool, not, ◌&&◌, ◌||◌, IfOk};
+ghost use Rattle.std.specs.Prelude.{◌≡◌, ℕ, Bool, not, ◌&&◌, ◌||◌, IfOk, IfSome};
 ghost use Rattle.cond_formula.specs.Conditions.{condition_of, value};
 
-use crate::known::{inside, outside};
+use crate::joined::joined;
+use crate::known::{inside, left_where, outside};
 use crate::parts::{exclude_each_other, is_implied};
 use crate::same::{is_always, is_opposite};
 use cond_formula::{Formula, NoMemory};
 use std::alloc::Global;
+
+// The formula that is true where both are, if they are negations of conjunctions of literals that differ in one alone.
+#[tactic(auto, using(cond_formula::specs::ConditionLaws::formula_kinds))]
+fn neither(
+    alloc: Global,
+    a: &Formula,
+    b: &Formula,
+) -> Result<Option<Formula>, NoMemory>
+    ensures { IfOk result (λ joined. IfSome joined (λ f. (on : ℕ → Bool) → value on (condition_of f) ≡ (value on (condition_of a.now) && value on (condition_of b.now)))) }
+{
+    let (Formula::Not(f), Formula::Not(g)) = (a, b) else {
+        return Ok(None);
+    };
+    let Some(some) = joined(alloc, f, g)? else {
+        return Ok(None);
+    };
+    let negation = Formula::not(alloc, some)?;
+    Ok(Some(negation))
+}
 
 /// The formula that is true where both are.
 pub fn both(alloc: Global, a: Formula, b: Formula) -> Result<Formula, NoMemory>
@@ -22,8 +42,32 @@ pub fn both(alloc: Global, a: Formula, b: Formula) -> Result<Formula, NoMemory>
     if exclude_each_other(&a, &b) {
         return Ok(Formula::False);
     }
+    if let Some(rest) = neither(alloc, &a, &b)? {
+        return Ok(rest);
+    }
     let here = inside(alloc, a, &b)?;
     let f = Formula::and(alloc, here, b)?;
+    Ok(f)
+}
+
+/// The formula that is true where both are. They stay, and no more of them is copied than is kept.
+pub fn both_of(alloc: Global, a: &Formula, b: &Formula) -> Result<Formula, NoMemory>
+    ensures { IfOk result (λ f. (on : ℕ → Bool) → value on (condition_of f) ≡ (value on (condition_of a.now) && value on (condition_of b.now))) }
+{
+    if exclude_each_other(a, b) {
+        return Ok(Formula::False);
+    }
+    if is_implied(a, b) {
+        return b.try_clone(alloc);
+    }
+    if is_implied(b, a) {
+        return a.try_clone(alloc);
+    }
+    if let Some(rest) = neither(alloc, a, b)? {
+        return Ok(rest);
+    }
+    let here = left_where(alloc, a, b, true)?;
+    let f = Formula::and(alloc, here, b.try_clone(alloc)?)?;
     Ok(f)
 }
 
@@ -39,6 +83,9 @@ pub fn either(alloc: Global, a: Formula, b: Formula) -> Result<Formula, NoMemory
     }
     if is_opposite(&a, &b) {
         return Ok(Formula::True);
+    }
+    if let Some(rest) = joined(alloc, &a, &b)? {
+        return Ok(rest);
     }
     let elsewhere = outside(alloc, &b, &a)?;
     if is_always(&elsewhere) {
@@ -58,7 +105,7 @@ pub fn without(alloc: Global, a: Formula, b: &Formula) -> Result<Formula, NoMemo
     if is_implied(b, &a) {
         return Ok(Formula::False);
     }
-    let more = inside(alloc, b.try_clone(alloc)?, &a)?;
+    let more = left_where(alloc, b, &a, true)?;
     let elsewhere = Formula::not(alloc, more)?;
     let here = both(alloc, a, elsewhere)?;
     Ok(here)

@@ -81,19 +81,40 @@ fn parts_left(
     Ok(kept)
 }
 
-/// A condition that says the same where the other is false. What it says of the other is left out.
+// A condition that says the same where the other has the value. What it says of the other is left out.
 #[tactic(auto, using(cond_formula::specs::ConditionLaws::formula_kinds))]
-pub fn outside(alloc: Global, when: &Formula, other: &Formula) -> Result<Formula, NoMemory>
-    ensures same { IfOk result (λ f. (on : ℕ → Bool) → value on (condition_of other.now) ≡ false → value on (condition_of f) ≡ value on (condition_of when.now)) }
+pub(crate) fn left_where(
+    alloc: Global,
+    when: &Formula,
+    other: &Formula,
+    is_true: bool,
+) -> Result<Formula, NoMemory>
+    ensures same { IfOk result (λ f. (on : ℕ → Bool) → value on (condition_of other.now) ≡ is_true → value on (condition_of f) ≡ value on (condition_of when.now)) }
     ensures wider { IfOk result (λ f. (on : ℕ → Bool) → IsTrue (value on (condition_of when.now)) → IsTrue (value on (condition_of f))) }
 {
     match when {
         Formula::And(parts) => {
-            let literals = Literals::where_false(other);
-            parts_left(alloc, parts, other, false, &literals)
+            let literals = Literals::where_has(other, is_true);
+            parts_left(alloc, parts, other, is_true, &literals)
         }
         when => when.try_clone(alloc),
     }
+}
+
+/// A condition that says the same where the other is false. What it says of the other is left out.
+pub fn outside(alloc: Global, when: &Formula, other: &Formula) -> Result<Formula, NoMemory>
+    ensures same { IfOk result (λ f. (on : ℕ → Bool) → value on (condition_of other.now) ≡ false → value on (condition_of f) ≡ value on (condition_of when.now)) }
+    ensures wider { IfOk result (λ f. (on : ℕ → Bool) → IsTrue (value on (condition_of when.now)) → IsTrue (value on (condition_of f))) }
+{
+    left_where(alloc, when, other, false)
+}
+
+// Whether some of the parts are known where the other is true. It decides on no value: where none is, nothing has to be copied.
+fn says_some(other: &Formula, parts: &[Formula]) -> bool {
+    let literals = Literals::where_true(other);
+    parts
+        .iter()
+        .any(|part| is_known(part, other, true, &literals))
 }
 
 /// A condition that says the same where the other is true. What the other says already is left out.
@@ -102,8 +123,9 @@ pub(crate) fn inside(alloc: Global, when: Formula, other: &Formula) -> Result<Fo
     ensures { IfOk result (λ f. (on : ℕ → Bool) → IsTrue (value on (condition_of other.now)) → value on (condition_of f) ≡ value on (condition_of when)) }
 {
     if let Formula::And(parts) = &when {
-        let literals = Literals::where_true(other);
-        return parts_left(alloc, parts, other, true, &literals);
+        if says_some(other, parts) {
+            return left_where(alloc, &when, other, true);
+        }
     }
     Ok(when)
 }

@@ -3,12 +3,13 @@
 #![tactic(auto)]
 
 mod connectives;
+mod joined;
 mod known;
 mod literals;
 mod parts;
 mod same;
 
-pub use connectives::{both, either, without};
+pub use connectives::{both, both_of, either, without};
 pub use known::outside;
 pub use literals::Literals;
 pub use parts::is_implied;

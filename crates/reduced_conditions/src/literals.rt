@@ -186,6 +186,25 @@ impl Literals {
         }
     }
 
+    /// Those that are true where the formula has the value.
+    pub(crate) fn where_has(f: &Formula, is_true: bool) -> Literals
+        ensures { (on : ℕ → Bool) → value on (condition_of f.now) ≡ is_true → AreTrue on result }
+    {
+        if is_true {
+            return Literals::where_true(f);
+        }
+        Literals::where_false(f)
+    }
+
+    /// Whether both are all that is said, of the same features, and one literal is the negation of one of the others.
+    pub(crate) fn differ_in_one(&self, others: &Literals) -> bool {
+        let changed = (self.on & others.off) | (self.off & others.on);
+        self.are_all
+            && others.are_all
+            && self.on | self.off == others.on | others.off
+            && changed.count_ones() == 1
+    }
+
     /// Whether one of them is the negation of one of the others.
     pub(crate) fn contradict(&self, others: &Literals) -> bool
         ensures { IsTrue result → (on : ℕ → Bool) → AreTrue on self.now → AreTrue on others.now → ⊥ }

@@ -1,5 +1,5 @@
-use Rattle.std.proofs.Common.{◌&&◌, not, ap, ◌∙◌}
-use Rattle.cond_formula.specs.Conditions.{Condition, condition_of, value}
+use Rattle.std.proofs.Common.{ap, ◌∙◌}
+use Rattle.cond_formula.specs.Conditions.{condition_of, value}
 use Rattle.cond_formula.specs.ConditionLaws.{condition_of-False}
 use Rattle.reduced_conditions.proofs.PartLemmas.{excluded_not, implied_without, without_inside}
 use Rattle.reduced_conditions.proofs.connectives.without.Goals as goal
@@ -17,5 +17,4 @@ pub returns : goal.returns
 returns c = λ on.
     let a = value on (condition_of c.args.a) in
     c.in_ok-here.ensures on
-    ∙ without_inside a (value on (condition_of c.in_ok-try_clone.field-0)) (value on (condition_of c.in_ok-more.more)) (value on (condition_of c.in_ok-elsewhere.elsewhere)) (c.in_ok-more.ensures on) (c.in_ok-elsewhere.ensures.holds on)
-    ∙ ap (λ (f : Condition). a && not (value on f)) c.in_ok-try_clone.ensures
+    ∙ without_inside a (value on (condition_of c.args.b.now)) (value on (condition_of c.in_ok-more.more)) (value on (condition_of c.in_ok-elsewhere.elsewhere)) (c.in_ok-more.ensures.same on) (c.in_ok-elsewhere.ensures.holds on)
