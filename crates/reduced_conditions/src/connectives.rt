@@ -12,11 +12,7 @@ use std::alloc::Global;
 
 // The formula that is true where both are, if they are negations of conjunctions of literals that differ in one alone.
 #[tactic(auto, using(cond_formula::specs::ConditionLaws::formula_kinds))]
-fn neither(
-    alloc: Global,
-    a: &Formula,
-    b: &Formula,
-) -> Result<Option<Formula>, NoMemory>
+fn neither(alloc: Global, a: &Formula, b: &Formula) -> Result<Option<Formula>, NoMemory>
     ensures { IfOk result (λ joined. IfSome joined (λ f. (on : ℕ → Bool) → value on (condition_of f) ≡ (value on (condition_of a.now) && value on (condition_of b.now)))) }
 {
     let (Formula::Not(f), Formula::Not(g)) = (a, b) else {

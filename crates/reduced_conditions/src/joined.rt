@@ -92,18 +92,12 @@ fn joined_without(
 
 // A part that the literals deny.
 fn denied<'f>(parts: &'f [Formula], literals: &Literals) -> Option<&'f Formula> {
-    parts
-        .iter()
-        .find(|part| literals.deny(part) == Some(true))
+    parts.iter().find(|part| literals.deny(part) == Some(true))
 }
 
 /// The formula that is true where one of them is, if they are conjunctions of literals that differ in one alone.
 #[tactic(auto, using(cond_formula::specs::ConditionLaws::formula_kinds))]
-pub(crate) fn joined(
-    alloc: Global,
-    a: &Formula,
-    b: &Formula,
-) -> Result<Option<Formula>, NoMemory>
+pub(crate) fn joined(alloc: Global, a: &Formula, b: &Formula) -> Result<Option<Formula>, NoMemory>
     ensures { IfOk result (λ joined. IfSome joined (λ f. (on : ℕ → Bool) → value on (condition_of f) ≡ (value on (condition_of a.now) || value on (condition_of b.now)))) }
 {
     let others = Literals::where_true(b);

@@ -1,5 +1,5 @@
 use Rattle.std.proofs.Common.{sym, ap, ◌∙◌}
-use Rattle.cond_formula.specs.Conditions.{condition_of, value}
+use Rattle.cond_formula.specs.Conditions.{value}
 use Rattle.cond_formula.specs.ConditionLaws.{condition_of-False}
 use Rattle.reduced_conditions.proofs.connectives.both_of.Goals as goal
 

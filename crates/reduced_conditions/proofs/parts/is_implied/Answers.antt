@@ -1,4 +1,4 @@
-use Rattle.std.proofs.Common.{◌≡◌, IsTrue, ap, ◌∙◌, sym}
+use Rattle.std.proofs.Common.{ap, ◌∙◌, sym}
 use Rattle.std.specs.Prelude.{not}
 use Rattle.cond_formula.specs.Conditions.{Condition, condition_of, value}
 use Rattle.cond_formula.specs.ConditionLaws.{condition_of-Not}
