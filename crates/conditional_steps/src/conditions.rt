@@ -8,6 +8,7 @@ ghost use Rattle.conditional_steps.specs.Here.{is_refused};
 use choice_variants::may_hold;
 use cond_formula::{Formula, NoMemory, Oracle};
 use conditional::{Outcomes, Plain, when_some_hold};
+use reduced_conditions::both_of;
 use std::alloc::Global;
 
 /// A condition that is never true.
@@ -16,13 +17,6 @@ pub fn never() -> Result<Formula, NoMemory>
     ensures { IfOk result (λ f. (on : ℕ → Bool) → value on (condition_of f) ≡ false) }
 {
     Ok(Formula::False)
-}
-
-/// Where both conditions are true, which stay as they are.
-pub fn both_of(alloc: Global, a: &Formula, b: &Formula) -> Result<Formula, NoMemory>
-    ensures { IfOk result (λ f. (on : ℕ → Bool) → value on (condition_of f) ≡ (value on (condition_of a.now) && value on (condition_of b.now))) }
-{
-    reduced_conditions::both_of(alloc, a, b)
 }
 
 /// Where both conditions are true, in the configurations that there may be.

@@ -4,4 +4,5 @@
 
 mod conditions;
 
-pub use conditions::{both_of, never, possible_both, where_refused};
+pub use conditions::{never, possible_both, where_refused};
+pub use reduced_conditions::both_of;
