@@ -1,7 +1,7 @@
-use Rattle.std.proofs.Common.{◌≡◌, ◌&&◌, [], ◌∷◌, ◌++◌, refl, ap, ap₂, ◌∙◌, subst}
+use Rattle.std.proofs.Common.{◌≡◌, [], ◌∷◌, ◌++◌, refl, ap, ◌∙◌, subst}
 use Rattle.cond_formula.specs.declared.formulas.Formula.{True}
 use Rattle.cond_formula.specs.Features.{has}
-use Rattle.cond_formula.specs.Conditions.{Condition, condition_of, value}
+use Rattle.cond_formula.specs.Conditions.{condition_of, value}
 use Rattle.cond_formula.specs.ConditionLaws.{condition_of-True}
 use Rattle.conditional.specs.Entries.{seen, under}
 use Rattle.choice_trees.specs.ChoiceTrees.{plain_branches, branch_at}
@@ -24,7 +24,7 @@ loop-when-preserved g c = record {
   chosen = λ n admitted.
       one_choice (has n) c.deref-when-items.result.now c.loop-when.when-index c.loop-when-item.result (condition_of c.loop-when.left) (condition_of c.in_ok-here.here) (condition_of c.in_ok-left.left)
       (seen (has n) (parts_expanded c.loop-when.all.items)) (seen (has n) (parts_expanded c.push_item.new.all.items)) c.loop-when-test.true c.loop-when-item.is
-      (c.in_ok-here.ensures (has n) ∙ ap₂ (λ (a b : Condition). value (has n) a && value (has n) b) c.in_ok-try_clone.ensures c.in_ok-try_clone-2.ensures)
+      (c.in_ok-here.ensures (has n))
       (c.in_ok-left.ensures (has n))
       (c.in_ok-push_item.ensures.adds n (ap (value (has n)) c.loop-when.invariant.kept ∙ admitted)) (c.loop-when.invariant.chosen n admitted);
 }

@@ -1,6 +1,6 @@
-use Rattle.std.proofs.Common.{◌≡◌, ◌≤◌, ◌&&◌, [], ◌∷◌, ◌++◌, refl, sym, ap, ap₂, ◌∙◌, subst, arith}
+use Rattle.std.proofs.Common.{◌≡◌, ◌≤◌, [], ◌∷◌, ◌++◌, refl, sym, ap, ap₂, ◌∙◌, subst, arith}
 use Rattle.cond_formula.specs.Features.{has}
-use Rattle.cond_formula.specs.Conditions.{Condition, condition_of, value}
+use Rattle.cond_formula.specs.Conditions.{condition_of, value}
 use Rattle.conditional.specs.Entries.{seen, under}
 use Rattle.c_tree.specs.Trees.{more}
 use Rattle.choice_trees.specs.ChoiceTrees.{plain_item, plain_branches, item_at}
@@ -32,7 +32,7 @@ loop-when-preserved g c =
           (seen (has n) (followed (has n) rest c.loop-when.all.items)) (seen (has n) (followed (has n) rest c.push_longer.new.all.items))
           (seen (has n) (followed (has n) rest c.args.all.now.items) ++ under (value (has n) (condition_of c.args.variant.now.when)) (ahead (has n) c.args.needed c.args.variant.now.parts.items rest (plain_branches c.deref-when-items.result.now) ∷ []))
           c.loop-when-test.true c.loop-when-item.is
-          (c.in_ok-here.ensures (has n) ∙ ap₂ (λ (a b : Condition). value (has n) a && value (has n) b) c.in_ok-try_clone.ensures c.in_ok-try_clone-2.ensures)
+          (c.in_ok-here.ensures (has n))
           (c.in_ok-left-2.ensures (has n))
           (subst (λ ps. seen (has n) (followed (has n) rest c.push_longer.new.all.items)
           ≡ seen (has n) (followed (has n) rest c.loop-when.all.items) ++ under (value (has n) (condition_of c.in_ok-here.here)) (before (has n) ps (more (item_at (has n) (plain_item c.loop-when-item.result.1)) rest) ∷ []))

@@ -16,7 +16,7 @@ loop-declaration-preserved c =
           ap (λ xs. pairs_seen on xs ++ pairs_left on c.args.identifier (value on (condition_of c.in_ok-left.left)) (map seen_as (drop (at.declaration-index + 1) c.args.declarations.now))) c.in_ok-push.ensures.items
           ∙ passed on c.args.identifier (value on (condition_of at.left)) (value on (condition_of c.in_ok-left.left)) _ (seen_as c.declaration-item.result) (map seen_as (drop (at.declaration-index + 1) c.args.declarations.now)) at.all.items _
           refl refl
-          (c.in_ok-there.ensures on ∙ (ap (λ f. value on f && value on (condition_of c.in_ok-try_clone-2.field-0)) c.in_ok-try_clone.ensures ∙ ap (λ f. value on (condition_of at.left) && value on f) c.in_ok-try_clone-2.ensures))
+          (c.in_ok-there.ensures on)
           (c.in_ok-left.ensures on)
           (ap (λ ds. pairs_seen on at.all.items ++ pairs_left on c.args.identifier (value on (condition_of at.left)) (map seen_as ds)) (sym next) ∙ at.invariant.pairs on);
       left = λ on.

@@ -1,6 +1,6 @@
 use Rattle.std.proofs.Common.{◌&&◌, ◌++◌, sym, ap₂, ◌∙◌}
 use Rattle.cond_formula.specs.Features.{has}
-use Rattle.cond_formula.specs.Conditions.{Condition, condition_of, value}
+use Rattle.cond_formula.specs.Conditions.{condition_of, value}
 use Rattle.conditional.specs.Entries.{seen, under}
 use Rattle.choice_trees.specs.ChoiceTrees.{plain_item, item_at}
 use Rattle.choice_expansions.specs.Expansions.{expanded}
@@ -16,5 +16,5 @@ pub returns-clause-adds : goal.returns-clause-adds
 returns-clause-adds g c = λ n admitted.
     c.in_ok-push_item.ensures.adds n admitted
     ∙ ap₂ (λ t list. seen (has n) (expanded c.args.all.now.items) ++ under t list)
-    (c.in_ok-here.ensures (has n) ∙ ap₂ (λ (a b : Condition). value (has n) a && value (has n) b) c.in_ok-try_clone.ensures c.in_ok-try_clone-2.ensures)
+    (c.in_ok-here.ensures (has n))
     (sym (alone_among (item_at (has n) (plain_item c.args.entry.now.item.now)) (sym (c.is_parameter.ensures (has n)) ∙ c.if-not-is_parameter.false)))

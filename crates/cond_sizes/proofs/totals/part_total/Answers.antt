@@ -1,7 +1,7 @@
-use Rattle.std.proofs.Common.{◌&&◌, refl, ap, ap₂, ◌∙◌, subst}
+use Rattle.std.proofs.Common.{refl, ap, ◌∙◌, subst}
 use Rattle.cond_formula.specs.declared.formulas.Formula.{True}
 use Rattle.cond_formula.specs.Features.{has}
-use Rattle.cond_formula.specs.Conditions.{Condition, condition_of, value}
+use Rattle.cond_formula.specs.Conditions.{condition_of, value}
 use Rattle.cond_formula.specs.ConditionLaws.{condition_of-True}
 use Rattle.conditional.specs.Judgements.{checked}
 use Rattle.choice_trees.specs.ChoiceTrees.{plain_branches, branch_at}
@@ -26,7 +26,7 @@ loop-when-preserved g c = record {
       part_step (g.M.Measure.measure c.args.measure.now) c.args.needed (has n) c.deref-when-items.result.now c.loop-when.when-index c.loop-when-item.result
       (condition_of c.loop-when.left) (condition_of c.in_ok-here.here) (condition_of c.in_ok-left.left) (checked plain_count reason c.in_ok-what.what)
       c.loop-when.all c.place_possible.new.all c.loop-when-test.true c.loop-when-item.is
-      (c.in_ok-here.ensures (has n) ∙ ap₂ (λ (a b : Condition). value (has n) a && value (has n) b) c.in_ok-try_clone.ensures c.in_ok-try_clone-2.ensures)
+      (c.in_ok-here.ensures (has n))
       (c.in_ok-left.ensures (has n)) (c.in_ok-what.ensures (has n))
       (c.in_ok-place_possible.ensures.judges n (ap (value (has n)) c.loop-when.invariant.kept ∙ admitted)) (c.loop-when.invariant.so_far n admitted);
 }

@@ -1,5 +1,5 @@
-use Rattle.std.proofs.Common.{◌≡◌, ℕ, Bool, ◌&&◌, not, refl, ap₂, ◌∙◌}
-use Rattle.cond_formula.specs.Conditions.{Condition, condition_of, value}
+use Rattle.std.proofs.Common.{◌≡◌, ℕ, Bool, ◌&&◌, not, refl, ◌∙◌}
+use Rattle.cond_formula.specs.Conditions.{condition_of, value}
 use Rattle.c_types.specs.Types.{structure}
 use Rattle.type_tables.specs.Seen.{seen_tables}
 use Rattle.type_tables.specs.Steps.{with_completed}
@@ -16,7 +16,7 @@ pub loop-entry-preserved : goal.loop-entry-preserved
 loop-entry-preserved c =
     let x = c.entry-item.result in
     let here_is : (on : ℕ → Bool) → value on (condition_of c.in_ok-here.here) ≡ (value on (condition_of c.loop-entry.left) && value on (condition_of x.when)) =
-    λ on. c.in_ok-here.ensures on ∙ ap₂ (λ (a b : Condition). value on a && value on b) c.in_ok-try_clone.ensures c.in_ok-try_clone-2.ensures in
+    λ on. c.in_ok-here.ensures on in
     record {
       less = λ on e. less_by (value on (condition_of c.loop-entry.left)) (not (value on (condition_of x.when))) (value on (condition_of c.in_ok-left.left)) (c.in_ok-left.ensures on) (c.loop-entry.invariant.less on e);
       elsewhere = λ on e.

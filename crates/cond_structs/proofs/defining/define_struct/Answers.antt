@@ -1,4 +1,4 @@
-use Rattle.std.proofs.Common.{◌≡◌, not, ◌&&◌, ◌||◌, List, refl, sym, ap, ap₂, ◌∙◌, subst}
+use Rattle.std.proofs.Common.{◌≡◌, not, ◌&&◌, ◌||◌, List, refl, sym, ap, ◌∙◌, subst}
 use Rattle.cond_formula.specs.Features.{has}
 use Rattle.cond_formula.specs.Conditions.{Condition, condition_of, value}
 use Rattle.c_types.specs.Types.{structure}
@@ -46,4 +46,4 @@ returns-clause-defined g c = λ n admitted here unit follows tag each.
     (c.in_ok-complete_each.ensures.completes (has n) m (subst (λ (l : List (Guarded DeclaredType)). Carry (has n) (structure m) (entries_of declared_type_form l)) (sym c.deref-2.ensures.value) carry))
     ∙ ap (λ b. where_true (b && some_holds (has n) (entries_of declared_type_form c.in_ok-base.base.fine.alternatives.items)) (with_completed m (gathered (has n) all).members (gathered (has n) all).scalars) (seen_tables (has n) c.read_all.new.tables))
     (c.in_ok-accepted.ensures (has n) ∙ ap (λ (k : Condition). value (has n) k && not (gathered (has n) all).refused) c.in_ok-try_clone.ensures ∙ ap (λ b. b && not (gathered (has n) all).refused) here))
-    (c.in_ok-refused.ensures (has n) ∙ ap₂ (λ (a b : Condition). value (has n) a && value (has n) b) c.in_ok-try_clone-2.ensures c.in_ok-try_clone-3.ensures ∙ ap (λ b. b && (gathered (has n) all).refused) here)
+    (c.in_ok-refused.ensures (has n) ∙ ap (λ b. b && (gathered (has n) all).refused) here)

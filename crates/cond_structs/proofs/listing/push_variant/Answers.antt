@@ -1,5 +1,5 @@
 use Rattle.std.proofs.Common.{arith, rules, ◌≡◌, ◌&&◌, ◌++◌, length, sym, ap, ap₂, ◌∙◌}
-use Rattle.cond_formula.specs.Conditions.{Condition, condition_of, value}
+use Rattle.cond_formula.specs.Conditions.{condition_of, value}
 use Rattle.conditional.specs.Entries.{seen, under}
 use Rattle.cond_structs.specs.Listing.{declarations_at}
 use Rattle.cond_structs.proofs.Listed.{nothing_more, three_parts, other_parts}
@@ -17,5 +17,5 @@ returns c = λ on.
     let three : length c.args.variant.now.parts.items ≡ 3 = omega (arith, c.len.ensures, c.if-len-ne3.false, c.args.variant.now.parts.ok.0) in
     c.in_ok-push_parts.ensures on
     ∙ ap₂ (λ b l. seen on (declarations_at on c.args.all.now.items) ++ under b l)
-    (c.in_ok-when.ensures on ∙ ap₂ (λ (a b : Condition). value on a && value on b) c.in_ok-try_clone.ensures c.in_ok-try_clone-2.ensures)
+    (c.in_ok-when.ensures on)
     (sym (three_parts on c.args.variant.now.parts.items c.index.result.now c.index-2.result.now three (search rules) (search rules)))

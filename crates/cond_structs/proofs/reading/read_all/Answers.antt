@@ -1,6 +1,6 @@
-use Rattle.std.proofs.Common.{◌&&◌, refl, ap, ap₂, ◌∙◌}
+use Rattle.std.proofs.Common.{◌&&◌, refl, ap, ◌∙◌}
 use Rattle.cond_formula.specs.Features.{has}
-use Rattle.cond_formula.specs.Conditions.{Condition, condition_of, value}
+use Rattle.cond_formula.specs.Conditions.{condition_of, value}
 use Rattle.conditional.specs.Entries.{seen}
 use Rattle.type_tables.specs.Seen.{seen_tables}
 use Rattle.cond_structs.specs.Gathered.{gathered}
@@ -24,12 +24,12 @@ loop-d-preserved g c =
       elsewhere = λ on off.
           c.in_ok-members.ensures.elsewhere on
           (less_by (value on (condition_of c.args.when.now)) (value on (condition_of d.when)) (value on (condition_of c.in_ok-here.here))
-          (c.in_ok-here.ensures on ∙ ap₂ (λ (a b : Condition). value on a && value on b) c.in_ok-try_clone.ensures c.in_ok-try_clone-2.ensures) off)
+          (c.in_ok-here.ensures on) off)
           ∙ c.loop-d.invariant.elsewhere on off;
       reaches = λ n by before number k admitted here derived s.
           reaches_next by before number k (seen (has n) (declarations_at (has n) c.args.list.now)) (has n) c.args.list.now c.loop-d.d-index d (value (has n) (condition_of c.in_ok-here.here))
           (seen_tables (has n) c.loop-d.tables) (seen_tables (has n) c.read_declaration.new.tables) (gathered (has n) c.loop-d.members) (gathered (has n) c.in_ok-members.members) c.loop-d-test.true c.d-item.is
-          (c.in_ok-here.ensures (has n) ∙ ap₂ (λ (a b : Condition). value (has n) a && value (has n) b) c.in_ok-try_clone.ensures c.in_ok-try_clone-2.ensures ∙ ap (λ b. b && value (has n) (condition_of d.when)) here)
+          (c.in_ok-here.ensures (has n) ∙ ap (λ b. b && value (has n) (condition_of d.when)) here)
           (λ state derived_ stands. c.in_ok-members.ensures.stands n by before number state (ap (value (has n)) c.loop-d.invariant.kept ∙ admitted) derived_ stands)
           (c.loop-d.invariant.reaches n by before number k admitted here derived s);
     }

@@ -1,5 +1,5 @@
-use Rattle.std.proofs.Common.{◌≡◌, ◌&&◌, ◌||◌, ap, ap₂, ◌∙◌, subst, Bool}
-use Rattle.cond_formula.specs.Conditions.{Condition, condition_of, value}
+use Rattle.std.proofs.Common.{◌≡◌, ◌&&◌, ◌||◌, ap, subst, Bool}
+use Rattle.cond_formula.specs.Conditions.{condition_of, value}
 use Rattle.choice_trees.specs.ChoiceTrees.{plain_branches, with_part, branch_at}
 use Rattle.cond_units.specs.Tags.{has_tag, ends}
 use Rattle.cond_units.proofs.Searching.{one_word, no_word}
@@ -18,7 +18,7 @@ loop-when-preserved c = record {
       (condition_of c.loop-when.untaken) (condition_of c.in_ok-here.here) (condition_of c.in_ok-untaken.untaken) c.word_of-word.result
       (ends on c.loop-when.searched (has_tag c.args.tag.now rest)) _ _
       c.loop-when-test.true c.loop-when-item.is
-      (c.in_ok-here.ensures on ∙ ap₂ (λ (a b : Condition). value on a && value on b) c.in_ok-try_clone.ensures c.in_ok-try_clone-2.ensures)
+      (c.in_ok-here.ensures on)
       (c.in_ok-untaken.ensures on)
       (c.word_of-word.ensures on rest)
       (c.in_ok-searched.ensures on (has_tag c.args.tag.now rest))

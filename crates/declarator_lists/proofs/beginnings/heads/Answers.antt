@@ -1,6 +1,6 @@
-use Rattle.std.proofs.Common.{◌≡◌, ◌&&◌, List, [], ◌∷◌, ◌++◌, refl, ap, ap₂, ◌∙◌, subst}
+use Rattle.std.proofs.Common.{◌≡◌, List, [], ◌∷◌, ◌++◌, refl, ap, ap₂, ◌∙◌, subst}
 use Rattle.cond_formula.specs.Features.{has}
-use Rattle.cond_formula.specs.Conditions.{Condition, condition_of, value}
+use Rattle.cond_formula.specs.Conditions.{condition_of, value}
 use Rattle.conditional.specs.Entries.{seen, under}
 use Rattle.choice_trees.specs.ChoiceTrees.{plain_item, item_at}
 use Rattle.declarator_lists.specs.Entries.{entries_at, heads_at}
@@ -23,7 +23,7 @@ loop-place-preserved g c = record {
       (condition_of c.loop-place.left) (condition_of c.in_ok-here.here) (condition_of c.in_ok-left-2.left)
       (seen (has n) (heads_at (has n) c.loop-place.all.items)) (seen (has n) (heads_at (has n) c.push_head.new.all.items)) _
       c.loop-place-test.true c.index-list-place.is
-      (c.in_ok-here.ensures (has n) ∙ ap₂ (λ (a b : Condition). value (has n) a && value (has n) b) c.in_ok-try_clone.ensures c.in_ok-try_clone-2.ensures)
+      (c.in_ok-here.ensures (has n))
       (c.in_ok-left-2.ensures (has n))
       (subst (λ (behind : List ListEntry). seen (has n) (heads_at (has n) c.push_head.new.all.items)
       ≡ seen (has n) (heads_at (has n) c.loop-place.all.items) ++ under (value (has n) (condition_of c.in_ok-here.here)) ((item_at (has n) (plain_item c.index-list-place.result.item.now) ∷ seen (has n) (entries_at (has n) behind)) ∷ []))

@@ -1,6 +1,6 @@
-use Rattle.std.proofs.Common.{◌≡◌, ◌&&◌, ◌++◌, refl, ap, ap₂, ◌∙◌, subst}
+use Rattle.std.proofs.Common.{◌≡◌, ◌++◌, refl, ap, ◌∙◌, subst}
 use Rattle.cond_formula.specs.Features.{has}
-use Rattle.cond_formula.specs.Conditions.{Condition, condition_of, value}
+use Rattle.cond_formula.specs.Conditions.{condition_of, value}
 use Rattle.cond_formula.specs.ConditionLaws.{condition_of-True}
 use Rattle.conditional.specs.Entries.{seen, under}
 use Rattle.choice_trees.specs.ChoiceTrees.{plain_branches}
@@ -23,7 +23,7 @@ loop-when-preserved g c = record {
       (condition_of c.loop-when.left) (condition_of c.in_ok-here.here) (condition_of c.in_ok-left.left)
       (seen (has n) (entries_at (has n) c.loop-when.all.items)) (seen (has n) (entries_at (has n) c.push_entry.new.all.items)) _
       c.loop-when-test.true c.loop-when-item.is
-      (c.in_ok-here.ensures (has n) ∙ ap₂ (λ (a b : Condition). value (has n) a && value (has n) b) c.in_ok-try_clone.ensures c.in_ok-try_clone-2.ensures)
+      (c.in_ok-here.ensures (has n))
       (c.in_ok-left.ensures (has n))
       (c.in_ok-push_entry.ensures.adds n (ap (value (has n)) c.loop-when.invariant.kept ∙ admitted))
       (c.loop-when.invariant.chosen n admitted);

@@ -1,6 +1,6 @@
-use Rattle.std.proofs.Common.{◌&&◌, ap, ap₂, ◌∙◌, sym}
+use Rattle.std.proofs.Common.{ap, ◌∙◌, sym}
 use Rattle.cond_formula.specs.Features.{has}
-use Rattle.cond_formula.specs.Conditions.{Condition, condition_of, value}
+use Rattle.cond_formula.specs.Conditions.{condition_of, value}
 use Rattle.cond_formula.specs.ConditionLaws.{condition_of-False}
 use Rattle.type_tables.specs.Forms.{file_name_form}
 use Rattle.name_declarations.proofs.Conflicting.{not_here}
@@ -10,4 +10,4 @@ pub returns-then-not-may_hold-clause-exact : goal.returns-then-not-may_hold-clau
 returns-then-not-may_hold-clause-exact g c = λ n admitted.
     ap (value (has n)) condition_of-False
     ∙ not_here (value (has n) (condition_of c.args.left.now)) (value (has n) (condition_of c.args.meaning.now.when)) (g.C.Conflict.conflicts c.args.conflict.now n (file_name_form c.args.meaning.now.what))
-    (ap₂ (λ (a b : Condition). value (has n) a && value (has n) b) (sym c.in_ok-try_clone.ensures) (sym c.in_ok-try_clone-2.ensures) ∙ sym (c.in_ok-here.ensures (has n)) ∙ c.may_hold.ensures.no c.if-not-may_hold.true n admitted)
+    (sym (c.in_ok-here.ensures (has n)) ∙ c.may_hold.ensures.no c.if-not-may_hold.true n admitted)

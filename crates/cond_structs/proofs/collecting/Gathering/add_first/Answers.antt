@@ -1,4 +1,4 @@
-use Rattle.std.proofs.Common.{◌≡◌, ℕ, Bool, ◌&&◌, not, ap, ap₂, ◌∙◌}
+use Rattle.std.proofs.Common.{◌≡◌, ℕ, Bool, ◌&&◌, not, ap, ◌∙◌}
 use Rattle.std.specs.Prelude.{if◌then◌else◌}
 use Rattle.cond_formula.specs.Conditions.{Condition, condition_of, value}
 use Rattle.conditional.specs.Entries.{some_holds, entries_of}
@@ -24,7 +24,7 @@ pub loop-entry-preserved : goal.loop-entry-preserved
 loop-entry-preserved c =
     let x = c.entry-item.result in
     let when_is : (on : ℕ → Bool) → value on (condition_of c.in_ok-when.when) ≡ (value on (condition_of c.loop-entry.left) && value on (condition_of x.when)) =
-    λ on. c.in_ok-when.ensures on ∙ ap₂ (λ (a b : Condition). value on a && value on b) c.in_ok-try_clone.ensures c.in_ok-try_clone-2.ensures in
+    λ on. c.in_ok-when.ensures on in
     record {
       less = λ on e. less_by (value on (condition_of c.loop-entry.left)) (not (value on (condition_of x.when))) (value on (condition_of c.in_ok-left-2.left)) (c.in_ok-left-2.ensures on) (c.loop-entry.invariant.less on e);
       keeps = λ on.
