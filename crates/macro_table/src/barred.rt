@@ -15,8 +15,16 @@ fn predefined_names() -> &'static [&'static [u8]]
     ensures { map (λ name. name.now) result.now ≡ spec.predefined_names }
 {
     &[
-        b"__LINE__", b"__FILE__", b"__DATE__", b"__TIME__", b"__STDC__", b"__STDC_VERSION__", b"__STDC_HOSTED__",
-        b"__VA_ARGS__", b"__func__", b"_Pragma",
+        b"__LINE__",
+        b"__FILE__",
+        b"__DATE__",
+        b"__TIME__",
+        b"__STDC__",
+        b"__STDC_VERSION__",
+        b"__STDC_HOSTED__",
+        b"__VA_ARGS__",
+        b"__func__",
+        b"_Pragma",
     ]
 }
 
