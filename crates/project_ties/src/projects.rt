@@ -105,7 +105,8 @@ pub fn ties_of_told<O: Oracle>(
     requires told { (c : List Bool) → Product (project_view project.now) (plain_files files.now) c
         → AreTold (has c) project.now.units.items numbered.now (names_of_units (present_trees (has c) project.now.units.items numbered.now)) told.now }
     requires badly_made { (c : List Bool) → IsTrue (value (has c) (O.admits oracle.old)) → TellsTrees (value (has c) (condition_of badly_made)) (has c) project.now parsed.now }
-    ensures { IfOk result (λ t. TellsProducts (project_view project.now) (plain_files files.now) (tied_tokens_of project.now t)) }
+    ensures kept { O.admits oracle.new ≡ O.admits oracle.old }
+    ensures tells { IfOk result (λ t. TellsProducts (project_view project.now) (plain_files files.now) (tied_tokens_of project.now t)) }
 {
     programs_are_one();
     outcomes_are_one();

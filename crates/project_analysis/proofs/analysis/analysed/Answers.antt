@@ -52,5 +52,5 @@ returns c =
             have_leaves = c.in_ok-parsed.ensures.leaves n admitted;
             units = told_so (has n) c.args.project.now.units.items c.deref-2.result.now numbered told told c.deref-2.ensures.value refl (c.in_ok-found.ensures.told n product);
           };
-      ties = c.in_ok-ties.ensures;
+      ties = c.in_ok-ties.ensures.tells;
     }

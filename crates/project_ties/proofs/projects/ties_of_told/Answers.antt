@@ -9,8 +9,8 @@ use Rattle.project_ties.proofs.Pushed.{still_own}
 use Rattle.project_ties.proofs.Products.{tells_products}
 use Rattle.project_ties.proofs.projects.ties_of_told.Goals as goal
 
-pub returns : goal.returns
-returns g c =
+pub returns-clause-tells : goal.returns-clause-tells
+returns-clause-tells g c =
     let project = c.args.project.now in
     let features = c.len-features.result in
     let many : features ≡ length project.features.items = search rules in
