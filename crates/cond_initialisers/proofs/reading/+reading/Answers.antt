@@ -1,9 +1,9 @@
-use Rattle.std.proofs.Common.{◌≡◌, ◌≤◌, ◌&&◌, false, [], ◌∷◌, ◌++◌, refl, sym, ap, ap₂, ◌∙◌, subst, arith, map}
+use Rattle.std.proofs.Common.{◌≡◌, ◌≤◌, false, [], ◌∷◌, ◌++◌, refl, sym, ap, ap₂, ◌∙◌, subst, arith, map}
 use Rattle.std.proofs.lemmas.List.{map-append}
 use Rattle.std.proofs.lemmas.Result.{IfOk-weaker}
 use Rattle.cond_formula.specs.declared.formulas.Formula.{True}
 use Rattle.cond_formula.specs.Features.{has}
-use Rattle.cond_formula.specs.Conditions.{Condition, condition_of, value}
+use Rattle.cond_formula.specs.Conditions.{condition_of, value}
 use Rattle.cond_formula.specs.ConditionLaws.{condition_of-True}
 use Rattle.c_tree.specs.declared.kinds.Kind.TheVariants as k
 use Rattle.c_tree.specs.Trees.{none}
@@ -78,7 +78,7 @@ push_part-loop-when-preserved g t c = record {
       part_step (g.K.Expressions.asked c.args.known.now n) (members_in (seen_tables (has n) c.args.tables.now)) (plain_types c.args.types.now) (has n) c.deref-when-items.result.now c.loop-when-item.result c.loop-when.when-index
       (value (has n) (condition_of c.loop-when.left)) (value (has n) (condition_of c.in_ok-here.here)) (value (has n) (condition_of c.in_ok-left.left))
       (rows (has n) c.args.all.now.items) (rows (has n) c.loop-when.all.items) (rows (has n) c.push_item.new.all.items) c.loop-when-test.true c.loop-when-item.is
-      (c.in_ok-here.ensures (has n) ∙ ap₂ (λ (a b : Condition). value (has n) a && value (has n) b) c.in_ok-try_clone.ensures c.in_ok-try_clone-2.ensures)
+      (c.in_ok-here.ensures (has n))
       (c.in_ok-left.ensures (has n)) (c.in_ok-push_item.ensures.pushes n right (ap (value (has n)) c.loop-when.invariant.kept ∙ admitted)) (c.loop-when.invariant.so_far n right admitted);
 }
 
