@@ -86,10 +86,12 @@ first_begins s is numbers =
 
 -- what is known where the next unit begins
 pub begun_so :
-    (on : ℕ → Bool) (old now next : code.Tables) (before after : CondList Definition) → seen_tables on next ≡ unit_begun (seen_tables on now) → seen_tables on now ≡ without_functions (seen_tables on old)
+    (on : ℕ → Bool) (old taken now next : code.Tables) (before after : CondList Definition) → taken ≡ record old { names = taken.names }
+    → seen_tables on next ≡ unit_begun (seen_tables on now) → seen_tables on now ≡ without_functions (seen_tables on taken)
     → seen on (listed definition_form after) ≡ [] → seen_unit on (record { tables = next; defined = after }) ≡ begun (seen_unit on (record { tables = old; defined = before }))
-begun_so on old now next before after begins emptied none =
-    ap₂ (λ (t : Tables) (d : List PlainDefinition). record { tables = t; defined = d }) (begins ∙ ap unit_begun emptied) none
+begun_so on old taken now next before after rest begins emptied none =
+    ap₂ (λ (t : Tables) (d : List PlainDefinition). record { tables = t; defined = d })
+    (begins ∙ (ap unit_begun emptied ∙ ap (λ (t : code.Tables). unit_begun (without_functions (seen_tables on t))) rest)) none
 
 -- ---- declarations of functions behind others
 
@@ -160,8 +162,8 @@ module _ (on : ℕ → Bool) where
 
   -- a unit has left this, whose functions are among these
   pub record IsKept (signatures : List CondSignature) (by : ℕ → ℕ) (structs : List Struct) (unit : linking.Unit) (left : TypedUnit) : Type 0 where
-    pub names : (name : List ℕ) → NameFollows by (signatures_at signatures) (unit.names name) (name_seen on left.names.items name)
-    pub numbered : (name : List ℕ) (n : FileName) → name_seen on left.names.items name ≡ Some n → IsNumbered (length signatures) n.sort
+    pub names : (name : List ℕ) → NameFollows by (signatures_at signatures) (unit.names name) (name_seen on left.names name)
+    pub numbered : (name : List ℕ) (n : FileName) → name_seen on left.names name ≡ Some n → IsNumbered (length signatures) n.sort
     pub there : (name : List ℕ) (n : scopes.FileName) → unit.names name ≡ Some n → SortIsThere structs n.sort
     pub defined : plain_definitions unit.defined ≡ seen on (listed definition_form left.defined)
 
@@ -169,8 +171,8 @@ module _ (on : ℕ → Bool) where
     one_still : (unit : linking.Unit) (left : TypedUnit) → IsKept signatures by structs unit left → IsKept all other more unit left
     one_still unit left h = record {
       names = λ name.
-          name_follows structs by other kept (signatures_at all) (unit.names name) (name_seen on left.names.items name) (h.there name)
-          (name_still signatures given all are by (unit.names name) (name_seen on left.names.items name) (h.numbered name) (h.names name));
+          name_follows structs by other kept (signatures_at all) (unit.names name) (name_seen on left.names name) (h.there name)
+          (name_still signatures given all are by (unit.names name) (name_seen on left.names name) (h.numbered name) (h.names name));
       numbered = λ name n e. still_numbered signatures given all are n.sort (h.numbered name n e);
       there = λ name n e. sort_still_there structs more has n.sort (h.there name n e);
       defined = h.defined;
@@ -185,7 +187,7 @@ module _ (on : ℕ → Bool) where
   pub now_kept :
       (signatures all : List CondSignature) (tables : code.Tables) (by : ℕ → ℕ) (scope : Scope) (unit : linking.Unit) (left : TypedUnit)
       → all ≡ signatures ++ tables.signatures.items → FollowsBy by (seen_tables on tables) scope
-      → ((name : List ℕ) → name_seen on left.names.items name ≡ option_map (name_behind (length signatures)) ((seen_tables on tables).names name))
+      → ((name : List ℕ) → name_seen on left.names name ≡ option_map (name_behind (length signatures)) ((seen_tables on tables).names name))
       → unit.names ≡ scope.file_names → plain_definitions unit.defined ≡ seen on (listed definition_form left.defined) → IsKept all by scope.structs unit left
   now_kept signatures all tables by scope unit left are h names same defined =
       let t = seen_tables on tables in
@@ -193,7 +195,7 @@ module _ (on : ℕ → Bool) where
       subst (λ by. IsKept all by scope.structs unit left) h.numbers
       (record {
         names = λ name.
-            subst (λ n. NameFollows f.by (signatures_at all) n (name_seen on left.names.items name)) (ap (λ (table : List ℕ → Option scopes.FileName). table name) (sym same))
+            subst (λ n. NameFollows f.by (signatures_at all) n (name_seen on left.names name)) (ap (λ (table : List ℕ → Option scopes.FileName). table name) (sym same))
             (subst (NameFollows f.by (signatures_at all) (scope.file_names name)) (sym (names name))
             (name_follows_behind signatures tables.signatures.items all are f.by (scope.file_names name) (t.names name) (f.names name)));
         numbered = λ name n e. name_numbered_behind signatures tables.signatures.items all are (t.names name) (f.names_numbered name) n (sym (names name) ∙ e);

@@ -1,5 +1,8 @@
 -- What is known where a unit ends and the next one begins, as a configuration sees it.
-use Rattle.std.specs.Prelude.{ℕ, ◌+◌, []}
+use Rattle.std.specs.Prelude.{◌≡◌, ℕ, ◌+◌, Bool, [], option_map}
+use Rattle.conditional.specs.Entries.{seen, first, listed}
+use Rattle.type_tables.specs.Forms.{file_name_form}
+use Rattle.type_tables.specs.declared.entries.CondName.{CondName}
 use Rattle.type_tables.specs.Tables.{Tables, Sort, object, declared_function, FileName, no_signature}
 use Rattle.type_tables.specs.Steps.{no_tables, unit_begun}
 use Rattle.cond_units.specs.Seen.{SeenUnit}
@@ -11,6 +14,11 @@ sort_behind earlier (declared_function number) = declared_function (earlier + nu
 
 abbrev pub name_behind : ℕ → FileName → FileName
 name_behind earlier n = record { sort = sort_behind earlier n.sort; internal = n.internal }
+
+-- an entry of the tables, its functions by their numbers behind so many others
+pub record IsLeftAs (earlier : ℕ) (n left : CondName) : Type 0 where
+  pub name : left.name.items ≡ n.name.items
+  pub meanings : (on : ℕ → Bool) → first (seen on (listed file_name_form left.meanings)) ≡ option_map (name_behind earlier) (first (seen on (listed file_name_form n.meanings)))
 
 -- no declaration of a function
 abbrev pub without_functions : Tables → Tables

@@ -36,5 +36,5 @@ pub record TakesUnit (on : ℕ → Bool) (here : Bool) (parts : PlainTrees) (old
   pub signatures_are : new.signatures.items ≡ old.signatures.items ++ at_end.tables.signatures.items
   pub next_is : seen_unit on new.next ≡ begun (seen_unit on at_end)
   pub when_is : value on (condition_of left.when) ≡ here
-  pub names_are : (name : List ℕ) → name_seen on left.names.items name ≡ option_map (name_behind (length old.signatures.items)) ((seen_tables on at_end.tables).names name)
+  pub names_are : (name : List ℕ) → name_seen on left.names name ≡ option_map (name_behind (length old.signatures.items)) ((seen_tables on at_end.tables).names name)
   pub defined_are : seen on (listed definition_form left.defined) ≡ seen on (listed definition_form at_end.defined)

@@ -22,7 +22,7 @@ use Rattle.cond_types.specs.declared.units.TypedUnits.{TypedUnits}
 
 -- What is seen of a unit says what it leaves, but for what its expressions use, where structs have other numbers.
 pub record IsLeft (on : ℕ → Bool) (tables : Tables) (by : ℕ → ℕ) (structs : List Struct) (unit : linking.Unit) (left : TypedUnit) : Type 0 where
-  pub names : (name : List ℕ) → NameFollows by (seen_tables on tables).signatures (unit.names name) (name_seen on left.names.items name)
+  pub names : (name : List ℕ) → NameFollows by (seen_tables on tables).signatures (unit.names name) (name_seen on left.names name)
   pub there : (name : List ℕ) (n : scopes.FileName) → unit.names name ≡ Some n → SortIsThere structs n.sort
   pub defined : plain_definitions unit.defined ≡ seen on (listed definition_form left.defined)
 

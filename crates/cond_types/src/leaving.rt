@@ -8,7 +8,7 @@ ghost use Rattle.cond_units.specs.Seen.{seen_unit};
 ghost use Rattle.type_tables.specs.Definitions.{definition_form};
 ghost use Rattle.cond_types.specs.Leaving.{name_behind, without_functions, begun};
 
-use crate::left_names::left_names;
+use crate::left_names::take_names;
 use crate::units::TypedUnit;
 use cond_formula::{Formula, NoMemory};
 use cond_units::UnitTables;
@@ -51,13 +51,13 @@ pub(crate) fn leave(
     when: &Formula,
 ) -> Result<TypedUnit, NoMemory>
     ensures when { IfOk result (λ left. condition_of left.when ≡ condition_of when.now) }
-    ensures names { IfOk result (λ left. (on : ℕ → Bool) (name : List ℕ) → name_seen on left.names.items name ≡ option_map (name_behind (length signatures.old.items)) ((seen_tables on unit.old.tables).names name)) }
+    ensures names { IfOk result (λ left. (on : ℕ → Bool) (name : List ℕ) → name_seen on left.names name ≡ option_map (name_behind (length signatures.old.items)) ((seen_tables on unit.old.tables).names name)) }
     ensures defined { IfOk result (λ left. (on : ℕ → Bool) → seen on (listed definition_form left.defined) ≡ seen on (listed definition_form unit.old.defined)) }
     ensures signatures { OnOk result (signatures.new.items ≡ signatures.old.items ++ unit.old.tables.signatures.items) }
     ensures begun { OnOk result ((on : ℕ → Bool) → seen_unit on unit.new ≡ begun (seen_unit on unit.old)) }
 {
     let earlier = count(signatures)?;
-    let names = left_names(alloc, &unit.tables, earlier)?;
+    let names = take_names(alloc, &mut unit.tables, earlier)?;
     take_signatures(&mut unit.tables, signatures)?;
     let _names_again = unit.tables.begin_unit(alloc);
     let defined = take_definitions(alloc, &mut unit.defined);

@@ -1,15 +1,19 @@
 //! The names that a unit leaves.
-ghost use Rattle.std.specs.Prelude.{◌≡◌, ℕ, ◌+◌, Bool, List, option_map, IfOk};
+ghost use Rattle.std.specs.Prelude.{◌≡◌, ℕ, ◌+◌, Bool, List, option_map, IfOk, OnOk};
+ghost use Rattle.std.specs.List.{AllZip};
 ghost use Rattle.conditional.specs.Entries.{seen, first, listed};
 ghost use Rattle.type_tables.specs.Forms.{sort_form, file_name_form};
 ghost use Rattle.type_tables.specs.Seen.{seen_tables};
 ghost use Rattle.link_faults.specs.SeenUnits.{name_seen};
-ghost use Rattle.cond_types.specs.Leaving.{sort_behind, name_behind};
+ghost use Rattle.cond_types.specs.Leaving.{sort_behind, name_behind, IsLeftAs};
 
 use cond_formula::NoMemory;
 use conditional::{CondList, Function};
+use link_faults::LeftNames;
 use plain_scope::copied;
 use std::alloc::{AllocError, Global};
+use std::collections::HashMap;
+use std::mem;
 use type_tables::{CondName, FileName, Sort, Tables};
 
 /// Behind so many declarations of functions, those of earlier units.
@@ -58,47 +62,49 @@ fn meanings_behind(
     Ok(l)
 }
 
-/// What a name is left as, which stands for something where it is declared.
-fn left_meanings(
-    alloc: Global,
-    tables: &Tables,
-    earlier: u32,
-    name: &[u8],
-) -> Result<CondList<FileName>, NoMemory>
-    ensures { IfOk result (λ l. (on : ℕ → Bool) → first (seen on (listed file_name_form l)) ≡ option_map (name_behind earlier) ((seen_tables on tables.now).names name.now)) }
+/// An entry of the tables, its functions by their numbers behind so many declarations.
+fn left_entry(alloc: Global, n: &CondName, earlier: u32) -> Result<CondName, NoMemory>
+    ensures { IfOk result (λ left. IsLeftAs earlier n.now left) }
 {
-    match tables.named(name) {
-        None => Ok(CondList::empty(alloc)),
-        Some(n) => meanings_behind(alloc, &n.meanings, earlier),
-    }
-}
-
-fn left_name(
-    alloc: Global,
-    tables: &Tables,
-    earlier: u32,
-    name: &[u8],
-) -> Result<CondName, NoMemory>
-    ensures name { IfOk result (λ n. n.name.items ≡ name.now) }
-    ensures meanings { IfOk result (λ n. (on : ℕ → Bool) → first (seen on (listed file_name_form n.meanings)) ≡ option_map (name_behind earlier) ((seen_tables on tables.now).names name.now)) }
-{
-    let meanings = left_meanings(alloc, tables, earlier, name)?;
-    let name = Vec::from_slice(alloc, name)?;
+    let meanings = meanings_behind(alloc, &n.meanings, earlier)?;
+    let name = Vec::from_slice(alloc, &n.name)?;
     Ok(CondName { name, meanings })
 }
 
-/// The names of a unit, the functions among them by their numbers behind so many declarations of earlier units.
-pub(crate) fn left_names(
+fn left_entries(
     alloc: Global,
-    tables: &Tables,
+    declared: &[CondName],
     earlier: u32,
 ) -> Result<Vec<CondName>, NoMemory>
-    ensures { IfOk result (λ names. (on : ℕ → Bool) (name : List ℕ) → name_seen on names.items name ≡ option_map (name_behind earlier) ((seen_tables on tables.now).names name)) }
+    ensures { IfOk result (λ left. AllZip (IsLeftAs earlier) declared.now left.items) }
 {
-    let mut names = Vec::with_capacity(alloc, tables.declared.len())?;
-    for n in &tables.declared {
-        let left = left_name(alloc, tables, earlier, &n.name)?;
-        names.push(left)?;
+    let mut left = Vec::with_capacity(alloc, declared.len())?;
+    for n in declared {
+        let entry = left_entry(alloc, n, earlier)?;
+        left.push(entry)?;
     }
-    Ok(names)
+    Ok(left)
+}
+
+/// The places of the names are taken out of the tables.
+fn take_places(alloc: Global, tables: &mut Tables) -> HashMap<Vec<u8>, u32>
+    ensures places { result ≡ tables.old.names }
+    ensures rest { tables.new ≡ record tables.old { names = tables.new.names } }
+{
+    mem::replace(&mut tables.names, HashMap::new(alloc))
+}
+
+/// The names of a unit, the functions among them by their numbers behind so many declarations of earlier units. Their places are taken out of the
+/// tables.
+pub(crate) fn take_names(
+    alloc: Global,
+    tables: &mut Tables,
+    earlier: u32,
+) -> Result<LeftNames, NoMemory>
+    ensures names { IfOk result (λ left. (on : ℕ → Bool) (name : List ℕ) → name_seen on left name ≡ option_map (name_behind earlier) ((seen_tables on tables.old).names name)) }
+    ensures rest { OnOk result (tables.new ≡ record tables.old { names = tables.new.names }) }
+{
+    let declared = left_entries(alloc, &tables.declared, earlier)?;
+    let places = take_places(alloc, tables);
+    Ok(LeftNames { places, declared })
 }

@@ -12,16 +12,17 @@ use choice_trees::Forest;
 use cond_formula::{Formula, NoMemory, Oracle};
 use cond_units::{FileItems, UnitTables};
 use conditional::CondList;
+use link_faults::LeftNames;
 use project_file::Unit;
 use std::alloc::Global;
 use tree_derivations::units_are_derived;
-use type_tables::{CondName, Definition, Tables};
+use type_tables::{Definition, Tables};
 
 /// What a unit leaves by its types, where it is present.
 #[derive(Drop)]
 pub struct TypedUnit {
     pub when: Formula,
-    pub names: Vec<CondName>,
+    pub names: LeftNames,
     pub defined: CondList<Definition>,
 }
 

@@ -112,7 +112,7 @@ module _ (on : ℕ → Bool) (tables : Tables) (structs : List Struct) (numbers 
   units_correspond name [] (left ∷ lefts) h = absurd h
   units_correspond name (unit ∷ units) [] h = absurd h
   units_correspond name (unit ∷ units) (left ∷ lefts) h = (
-    name_corresponds (unit.names name) (name_seen on left.names.items name) (h.0.names name) (h.0.there name),
+    name_corresponds (unit.names name) (name_seen on left.names name) (h.0.names name) (h.0.there name),
     units_correspond name units lefts h.1,
   )
 

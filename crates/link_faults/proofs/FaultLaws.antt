@@ -1,6 +1,6 @@
 -- Units that don't link, and names that they don't mention.
-use Rattle.std.proofs.Common.{◌≡◌, inl, inr, ℕ, Bool, true, false, not, ◌&&◌, ◌||◌, List, [], ◌∷◌, refl, sym, ap, ap₂, ◌∙◌, subst, codes}
-use Rattle.std.specs.Prelude.{◌⊎◌, ◌↔◌, Option, Some, None, is_some, filter, IsTrue, if◌then◌else◌}
+use Rattle.std.proofs.Common.{◌≡◌, inl, inr, ℕ, zero, suc, Bool, true, false, not, ◌&&◌, ◌||◌, List, [], ◌∷◌, refl, sym, ap, ap₂, ◌∙◌, subst, codes}
+use Rattle.std.specs.Prelude.{◌⊎◌, ◌↔◌, Option, Some, None, is_some, filter, IsTrue, if◌then◌else◌, slice_get}
 use Rattle.std.specs.List.{list_any, AllZip}
 use Rattle.std.specs.Str.{bytes_eq}
 use Rattle.std.proofs.lemmas.Bool.{false≢true}
@@ -15,7 +15,8 @@ use Rattle.core_meaning.specs.declared.refusals.LinkKind.{LinkKind}
 use Rattle.core_meaning.specs.declared.refusals.LinkKind.TheVariants as link_kind
 use Rattle.type_tables.specs.Tables.{FileName}
 use Rattle.type_tables.specs.Forms.{file_name_form}
-use Rattle.type_tables.specs.Seen.{seen_tables}
+use Rattle.name_places.specs.Places.{place_of}
+use Rattle.type_tables.specs.Seen.{seen_tables, meaning_of, name_in}
 use Rattle.type_tables.specs.declared.entries.CondName.{CondName}
 use Rattle.type_tables.specs.declared.tables.Tables.{Tables}
 use Rattle.type_tables.specs.Follows.{NameFollows}
@@ -140,11 +141,16 @@ module _ (on : ℕ → Bool) (name : List ℕ) where
       by true one rest = ap₂ (λ (a b : Bool). a || b) one rest
       by false one rest = rest
 
-  not_declared : (names : List CondName) → is_declared name names ≡ false → name_seen on names name ≡ None
-  not_declared [] h = refl
-  not_declared (n ∷ names) h =
-      let parts = either_not (bytes_eq name n.name.items) (is_declared name names) h in
-      ap (λ (b : Bool). if b then first (seen on (listed file_name_form n.meanings)) else name_seen on names name) parts.0 ∙ not_declared names parts.1
+  not_declared_at : (declared : List CondName) (place : ℕ) → is_declared name declared ≡ false → meaning_of on name (slice_get declared place) ≡ None
+  not_declared_at [] place h = refl
+  not_declared_at (n ∷ declared) zero h =
+      let parts = either_not (bytes_eq name n.name.items) (is_declared name declared) h in
+      ap (λ (b : Bool). if b then first (seen on (listed file_name_form n.meanings)) else None) parts.0
+  not_declared_at (n ∷ declared) (suc place) h = not_declared_at declared place (either_not (bytes_eq name n.name.items) (is_declared name declared) h).1
+
+  not_declared : (declared : List CondName) (place : Option ℕ) → is_declared name declared ≡ false → name_in on declared name place ≡ None
+  not_declared declared None h = refl
+  not_declared declared (Some place) h = not_declared_at declared place h
 
   module _ (tables : Tables) (numbers : ℕ → ℕ) (structs : List Struct) where
     follows_none : (n : Option scopes.FileName) (m : Option FileName) → NameFollows numbers (seen_tables on tables).signatures n m → m ≡ None → is_some n ≡ false
@@ -154,14 +160,14 @@ module _ (on : ℕ → Bool) (name : List ℕ) where
 
     unit_unmentioned : (unit : Unit) (left : LeftUnit) → LeavesAlike on tables numbers structs unit left → is_mentioned name left ≡ false → names_it name unit ≡ false
     unit_unmentioned unit left a h =
-        let one = either_not (is_declared name left.names.items) (is_defined name left.defined.entries.items || is_used name left.uses.items) h in
+        let one = either_not (is_declared name left.names.declared.items) (is_defined name left.defined.entries.items || is_used name left.uses.items) h in
         let two = either_not (is_defined name left.defined.entries.items) (is_used name left.uses.items) one.1 in
         let used : unit.uses name ≡ false = a.uses name ∙ not_used left.uses.items two.1 in
         let defined : defines unit name ≡ false =
         sym (any_map (λ (d : PlainDefinition). bytes_eq d.name name) plain_definition unit.defined)
         ∙ ap (λ (ds : List PlainDefinition). list_any (λ (d : PlainDefinition). bytes_eq d.name name) ds) a.defined ∙ not_defined left.defined.entries.items two.0 in
         let declared : is_some (unit.names name) ≡ false =
-        follows_none (unit.names name) (name_seen on left.names.items name) (a.names name) (not_declared left.names.items one.0) in
+        follows_none (unit.names name) (name_seen on left.names name) (a.names name) (not_declared left.names.declared.items (place_of left.names.places name) one.0) in
         ap₂ (λ (x y : Bool). x || (y || is_some (unit.names name))) used defined ∙ declared
 
     present_unmentioned : (units : List Unit) (lefts : List LeftUnit) → AllZip (LeavesAlike on tables numbers structs) units (filter (is_present on) lefts)

@@ -33,15 +33,15 @@ external_is signatures test (Some n) = by n.internal
 module _ (on : ℕ → Bool) (tables : Tables) (test : Sort → Bool) (name : List ℕ) where
   -- the declarations of one unit
   pub unit_is : (present : Bool) (left : LeftUnit) (meanings : List (Guarded code.FileName))
-      → Sees on (name_seen on left.names.items name) (entries_of file_name_form meanings)
+      → Sees on (name_seen on left.names name) (entries_of file_name_form meanings)
       → list_any (λ e. present && meaning_so on tables test e) meanings ≡ (present && is_sort_so test (external_sort name (unit_seen on tables left)))
   unit_is present left meanings sees =
       let so = is_external_so (seen_tables on tables).signatures test in
       any_both present (meaning_so on tables test) meanings
       ∙ ap (λ b. present && b)
       (sym (any_map (λ e. value on e.when && so e.what) (entry_of file_name_form) meanings)
-      ∙ some_is so on (name_seen on left.names.items name) (entries_of file_name_form meanings) sees
-      ∙ external_is (seen_tables on tables).signatures test (name_seen on left.names.items name))
+      ∙ some_is so on (name_seen on left.names name) (entries_of file_name_form meanings) sees
+      ∙ external_is (seen_tables on tables).signatures test (name_seen on left.names name))
 
   -- a unit that is present has a declaration that is so
   abbrev pub unit_so : LeftUnit → Bool

@@ -81,7 +81,7 @@ module _ (by : ℕ → ℕ) (signatures : ℕ → Signature) where
 
 module _ (on : ℕ → Bool) (tables : Tables) (by : ℕ → ℕ) (structs : List Struct) where
   internal_seen : (unit : Unit) (left : LeftUnit) → LeavesAlike on tables by structs unit left → (name : List ℕ) → is_internal unit name ≡ is_internal (unit_seen on tables left) name
-  internal_seen unit left h name = internal_of by (seen_tables on tables).signatures (unit.names name) (name_seen on left.names.items name) (h.names name)
+  internal_seen unit left h name = internal_of by (seen_tables on tables).signatures (unit.names name) (name_seen on left.names name) (h.names name)
 
   unit_defines : (unit : Unit) (left : LeftUnit) → LeavesAlike on tables by structs unit left → (name : List ℕ) → defines unit name ≡ defines (unit_seen on tables left) name
   unit_defines unit left h name = defines_seen unit.defined name ∙ ap (λ ds. list_any (λ d. bytes_eq d.name name) (map definition_of ds)) h.defined
@@ -93,7 +93,7 @@ module _ (on : ℕ → Bool) (tables : Tables) (by : ℕ → ℕ) (structs : Lis
 
   unit_main : (unit : Unit) (left : LeftUnit) → LeavesAlike on tables by structs unit left → defines_main unit ≡ defines_main (unit_seen on tables left)
   unit_main unit left h =
-      main_of by (seen_tables on tables).signatures (unit.names (codes "main")) (name_seen on left.names.items (codes "main"))
+      main_of by (seen_tables on tables).signatures (unit.names (codes "main")) (name_seen on left.names (codes "main"))
       (defines unit (codes "main")) (defines (unit_seen on tables left) (codes "main")) (h.names (codes "main")) (unit_defines unit left h (codes "main"))
 
   unit_twice : (name : List ℕ) (unit : Unit) (left : LeftUnit) → LeavesAlike on tables by structs unit left → nat_le 2 (count_in_unit unit name) ≡ nat_le 2 (count_in_unit (unit_seen on tables left) name)

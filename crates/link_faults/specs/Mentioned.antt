@@ -24,7 +24,7 @@ is_used name uses = list_any (λ (u : FileUse). bytes_eq name u.name.items) uses
 
 -- a unit declares, defines or uses a name somewhere
 abbrev pub is_mentioned : List ℕ → LeftUnit → Bool
-is_mentioned name left = is_declared name left.names.items || (is_defined name left.defined.entries.items || is_used name left.uses.items)
+is_mentioned name left = is_declared name left.names.declared.items || (is_defined name left.defined.entries.items || is_used name left.uses.items)
 
 -- a unit of one configuration declares, defines or uses a name
 abbrev pub names_it : List ℕ → Unit → Bool

@@ -1,28 +1,28 @@
 -- What a configuration sees of what units leave for linking, and when that says what units do.
-use Rattle.std.specs.Prelude.{◌≡◌, ℕ, Bool, true, false, not, ◌&&◌, List, [], ◌∷◌, map, filter, Option, Some, None, option_map, if◌then◌else◌}
+use Rattle.std.specs.Prelude.{◌≡◌, ℕ, Bool, true, false, not, ◌&&◌, List, [], map, filter, Option, Some, option_map}
 use Rattle.std.specs.List.{list_any, AllZip}
 use Rattle.std.specs.Str.{bytes_eq}
 use Rattle.cond_formula.specs.Conditions.{condition_of, value}
-use Rattle.conditional.specs.Entries.{seen, listed, first}
+use Rattle.conditional.specs.Entries.{seen, listed}
 use Rattle.core_meaning.specs.Entities.{Table, Struct, Signature}
 use Rattle.core_meaning.specs.Entities as scopes
 use Rattle.core_meaning.specs.UnitNames.{Body, object_body, tentative_body, Defined}
 use Rattle.core_meaning.specs.Linking.{Unit, Units, is_available}
 use Rattle.type_tables.specs.Tables.{FileName, sort_in}
-use Rattle.type_tables.specs.Forms.{file_name_form}
 use Rattle.type_tables.specs.Seen.{seen_tables}
-use Rattle.type_tables.specs.declared.entries.CondName.{CondName}
+use Rattle.type_tables.specs.Seen as in_tables
+use Rattle.name_places.specs.Places.{place_of}
 use Rattle.type_tables.specs.declared.tables.Tables.{Tables}
 use Rattle.type_tables.specs.Follows.{NameFollows, SortIsThere}
 use Rattle.type_tables.specs.Definitions.{PlainDefinition, definition_form, plain_definitions}
+use Rattle.link_faults.specs.declared.left.LeftNames.{LeftNames}
 use Rattle.link_faults.specs.declared.left.LeftUnit.{LeftUnit}
 use Rattle.cond_bindings.specs.declared.unit_bindings.FileUse.{FileUse}
 
 module _ (on : ℕ → Bool) where
-  -- what a unit declares a name as
-  abbrev pub name_seen : List CondName → List ℕ → Option FileName
-  name_seen [] name = None
-  name_seen (n ∷ rest) name = if bytes_eq name n.name.items then first (seen on (listed file_name_form n.meanings)) else name_seen rest name
+  -- what a unit declares a name as, by its place among those that it declares somewhere
+  abbrev pub name_seen : LeftNames → List ℕ → Option FileName
+  name_seen names name = in_tables.name_in on names.declared.items name (place_of names.places name)
 
   -- an expression uses a name
   abbrev pub is_used : List FileUse → List ℕ → Bool
@@ -47,7 +47,7 @@ definition_of d = record { name = d.name; body = body_of d.tentative }
 -- what is seen of a unit, its structs by their numbers in all configurations
 abbrev pub unit_seen : (ℕ → Bool) → Tables → LeftUnit → Unit
 unit_seen on tables left = record {
-  names = λ name. option_map (name_in (seen_tables on tables).signatures) (name_seen on left.names.items name);
+  names = λ name. option_map (name_in (seen_tables on tables).signatures) (name_seen on left.names name);
   order = [];
   defined = map definition_of (seen on (listed definition_form left.defined));
   uses = is_used on left.uses.items;
@@ -61,7 +61,7 @@ units_seen on tables units = map (unit_seen on tables) (filter (is_present on) u
 
 -- What is seen of a unit says what a unit leaves, where structs have other numbers.
 pub record LeavesAlike (on : ℕ → Bool) (tables : Tables) (by : ℕ → ℕ) (structs : List Struct) (unit : Unit) (left : LeftUnit) : Type 0 where
-  pub names : (name : List ℕ) → NameFollows by (seen_tables on tables).signatures (unit.names name) (name_seen on left.names.items name)
+  pub names : (name : List ℕ) → NameFollows by (seen_tables on tables).signatures (unit.names name) (name_seen on left.names name)
   pub there : (name : List ℕ) (n : scopes.FileName) → unit.names name ≡ Some n → SortIsThere structs n.sort
   pub defined : plain_definitions unit.defined ≡ seen on (listed definition_form left.defined)
   pub uses : (name : List ℕ) → unit.uses name ≡ is_used on left.uses.items name

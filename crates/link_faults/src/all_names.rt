@@ -90,7 +90,7 @@ impl Names {
     fn note_unit(&mut self, left: &LeftUnit) -> Result<(), NoMemory>
         ensures { OnOk result ((name : List ℕ) → list_any (bytes_eq name) self.new ≡ (list_any (bytes_eq name) self.old || is_mentioned name left.now)) }
     {
-        self.note_declared(&left.names)?;
+        self.note_declared(&left.names.declared)?;
         self.note_defined(&left.defined.entries)?;
         self.note_used(&left.uses)?;
         Ok(())

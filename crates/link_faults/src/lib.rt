@@ -25,6 +25,6 @@ pub use comparing::where_incompatible;
 pub use duplicates::where_duplicate;
 pub use failing::where_links_fail;
 pub use laws::{faults_are_those_of_what_is_seen, other_names_have_no_fault};
-pub use left::LeftUnit;
+pub use left::{LeftNames, LeftUnit};
 pub use mains::where_no_main;
 pub use names::{declared, where_external};

@@ -9,23 +9,23 @@ ghost use Rattle.type_tables.specs.declared.tables.Tables.{Tables};
 ghost use Rattle.link_faults.specs.SeenUnits.{unit_seen, name_seen};
 ghost use Rattle.link_faults.specs.Measures.{some_so, is_so};
 
-use crate::left::LeftUnit;
+use crate::left::{LeftNames, LeftUnit};
 use cond_formula::{Formula, NoMemory};
 use conditional::{CondValue, Guarded};
+use name_places::place_in;
 use reduced_conditions::{both, either};
 use std::alloc::Global;
 use type_tables::{CondName, FileName};
 
-fn named<'a>(names: &'a [CondName], name: &[u8]) -> Option<&'a CondName>
+fn named<'a>(names: &'a LeftNames, name: &[u8]) -> Option<&'a CondName>
     ensures some { IfSome result (λ n. (on : ℕ → Bool) → name_seen on names.now name.now ≡ first (seen on (listed file_name_form n.now.meanings))) }
     ensures none { IfNone result ((on : ℕ → Bool) → name_seen on names.now name.now ≡ None) }
 {
-    for n in names {
-        if name == n.name.as_slice() {
-            return Some(n);
-        }
+    let place = place_in(&names.places, name)?;
+    match names.declared.get(place as usize) {
+        Some(n) if name == n.name.as_slice() => Some(n),
+        _ => None,
     }
-    None
 }
 
 /// What a unit declares a name as.
@@ -34,7 +34,7 @@ pub fn declared(
     left: &LeftUnit,
     name: &[u8],
 ) -> Result<CondValue<FileName>, NoMemory>
-    ensures { IfOk result (λ x. (on : ℕ → Bool) → Sees on (name_seen on left.now.names.items name.now) (alternatives file_name_form x)) }
+    ensures { IfOk result (λ x. (on : ℕ → Bool) → Sees on (name_seen on left.now.names name.now) (alternatives file_name_form x)) }
 {
     match named(&left.names, name) {
         None => Ok(CondValue::nothing(alloc)),
@@ -86,7 +86,7 @@ pub(crate) fn where_declared<A: Asked>(
     left: &LeftUnit,
     name: &[u8],
 ) -> Result<Formula, NoMemory>
-    ensures { IfOk result (λ f. (on : ℕ → Bool) → value on (condition_of f) ≡ is_so (A.holds asked.now on) (name_seen on left.now.names.items name.now)) }
+    ensures { IfOk result (λ f. (on : ℕ → Bool) → value on (condition_of f) ≡ is_so (A.holds asked.now on) (name_seen on left.now.names name.now)) }
 {
     let x = declared(alloc, left, name)?;
     let f = where_some_so(alloc, asked, &x.alternatives)?;
@@ -137,7 +137,7 @@ impl Asked for External {
 
 /// Where a unit declares a name with external linkage (6.2.2).
 pub fn where_external(alloc: Global, left: &LeftUnit, name: &[u8]) -> Result<Formula, NoMemory>
-    ensures { IfOk result (λ f. (on : ℕ → Bool) → value on (condition_of f) ≡ is_so (λ n. not n.internal) (name_seen on left.now.names.items name.now)) }
+    ensures { IfOk result (λ f. (on : ℕ → Bool) → value on (condition_of f) ≡ is_so (λ n. not n.internal) (name_seen on left.now.names name.now)) }
 {
     let f = where_declared(alloc, &External, left, name)?;
     Ok(f)

@@ -2,8 +2,10 @@ use crate::fixtures::{A, NONE, tables, where_a};
 use cond_bindings::FileUse;
 use cond_formula::{Config, Formula, NoMemory};
 use conditional::CondList;
-use link_faults::{LeftUnit, where_duplicate, where_no_main, where_undefined};
+use link_faults::{LeftNames, LeftUnit, where_duplicate, where_no_main, where_undefined};
 use std::alloc::Global;
+use std::collections::HashMap;
+use std::mem;
 use std::test::Fail;
 use type_tables::{Definition, Tables};
 
@@ -14,6 +16,15 @@ fn definition(alloc: Global) -> Result<Definition, NoMemory> {
         name,
         tentative: true,
     })
+}
+
+/// The names of the tables, which are taken out of them.
+fn taken_names(alloc: Global, tables: &mut Tables) -> LeftNames {
+    let places = mem::replace(&mut tables.names, HashMap::new(alloc));
+    LeftNames {
+        places,
+        declared: tables.begin_unit(alloc),
+    }
 }
 
 /// A unit with the names of the tables, which defines `x` and, with A, uses `f`.
@@ -28,7 +39,7 @@ fn unit(alloc: Global, tables: &mut Tables) -> Result<LeftUnit, NoMemory> {
     })?;
     Ok(LeftUnit {
         when: Formula::True,
-        names: tables.begin_unit(alloc),
+        names: taken_names(alloc, tables),
         defined,
         uses,
     })
@@ -40,7 +51,10 @@ fn other_unit(alloc: Global) -> Result<LeftUnit, NoMemory> {
     defined.push(Formula::True, definition(alloc)?)?;
     Ok(LeftUnit {
         when: where_a(),
-        names: Vec::new(alloc),
+        names: LeftNames {
+            places: HashMap::new(alloc),
+            declared: Vec::new(alloc),
+        },
         defined,
         uses: Vec::new(alloc),
     })

@@ -146,7 +146,7 @@ module _ (on : ℕ → Bool) (no_need : BindingsNeedNoNumbers) (spelled_alike : 
   tells_external tree structs state js unit left judged names leaves name =
       ap (λ (c : Checked UnitState). has_external c name) judged
       ∙ ap (λ (t : List ℕ → _). is_external_name (t name)) (sym names)
-      ∙ external_alike left_by _ (unit.names name) (name_seen on left.names.items name) (leaves.names name)
+      ∙ external_alike left_by _ (unit.names name) (name_seen on left.names name) (leaves.names name)
 
   module _ (structs : List Struct) (index : ℕ) (unit : Unit) (units : List Unit) (forest : Forest) (forests : List Forest) (b : UnitBindings) (l : LeftUnit) (left : List LeftUnit) (u : CondList Selection)
       (uses : List (CondList Selection)) (told : ToldUnit) (all : List ToldUnit) (scoped : IsScoped on (condition_of unit.when) forest b) (telling : value on (condition_of unit.when) ≡ true → TellNumbers (forest_leaves on forest)) (tells : IsToldBy on (condition_of unit.when) forest b l tables u told)
@@ -219,7 +219,7 @@ module _ (on : ℕ → Bool) (no_need : BindingsNeedNoNumbers) (spelled_alike : 
         → uses_at on u ∷ map (uses_at on) uses ≡ of_units on (unit ∷ units) (uses_ahead structs index rest) → AreTold on (unit ∷ units) (forest ∷ forests) (names_behind structs rest) (told ∷ all)
     unit_absent off at used =
         let uses_are = same_heads (uses_at on u) [] (map (uses_at on) uses) (of_units on units (uses_ahead structs index rest)) (used ∙ of_none off (uses_ahead structs index rest)) in
-        let some : UnitNames = record { identified = []; is_external = λ name. is_so (λ n. not n.internal) (name_seen on l.names.items name) } in
+        let some : UnitNames = record { identified = []; is_external = λ name. is_so (λ n. not n.internal) (name_seen on l.names name) } in
         let silent : IsSilent on told = record {
           no_pairs =
               tells.pairs

@@ -24,7 +24,7 @@ use Rattle.read_occurrences.specs.Read.{names_read}
 module _ (on : ℕ → Bool) where
   -- what a unit leaves tells which names have external linkage (6.2.2)
   abbrev pub TellsExternal : LeftUnit → UnitNames → Type 0
-  TellsExternal left unit = (name : List ℕ) → unit.is_external name ≡ is_so (λ n. not n.internal) (name_seen on left.names.items name)
+  TellsExternal left unit = (name : List ℕ) → unit.is_external name ≡ is_so (λ n. not n.internal) (name_seen on left.names name)
 
   -- identifiers with those to which they are bound
   abbrev pub bound_pairs : UnitBindings → List Pair

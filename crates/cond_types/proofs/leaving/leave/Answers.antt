@@ -8,10 +8,10 @@ use Rattle.cond_types.proofs.leaving.leave.Goals as goal
 
 pub returns-clause-names : goal.returns-clause-names
 returns-clause-names c = λ on name.
-    c.in_ok-names.ensures on name
+    c.in_ok-names.ensures.names on name
     ∙ ap (λ (n : ℕ). option_map (name_behind n) ((seen_tables on c.args.unit.now.tables).names name)) (c.in_ok-earlier.ensures ∙ ap (λ (l : List CondSignature). length l) c.deref.ensures.value)
 
 pub returns-clause-begun : goal.returns-clause-begun
 returns-clause-begun c = λ on.
-    begun_so on c.args.unit.now.tables c.take_signatures.new.tables c.begin_unit-names_again.new.self c.args.unit.now.defined c.take_definitions-defined.new.defined
-    (c.begin_unit-names_again.ensures.seen on) (c.in_ok-take_signatures.ensures.seen on) (c.take_definitions-defined.ensures.none on)
+    begun_so on c.args.unit.now.tables c.take_names.new.tables c.take_signatures.new.tables c.begin_unit-names_again.new.self c.args.unit.now.defined c.take_definitions-defined.new.defined
+    c.in_ok-names.ensures.rest (c.begin_unit-names_again.ensures.seen on) (c.in_ok-take_signatures.ensures.seen on) (c.take_definitions-defined.ensures.none on)

@@ -12,4 +12,4 @@ returns c = λ on.
     let name = c.args.name.now in
     c.in_ok-f.ensures on
     ∙ ap₂ (λ (a b : Bool). a && b) (c.in_ok-declared.ensures on) (c.in_ok-defined.ensures on tables)
-    ∙ main_is (seen_tables on tables).signatures (name_seen on left.names.items name) (defines (unit_seen on tables left) name)
+    ∙ main_is (seen_tables on tables).signatures (name_seen on left.names name) (defines (unit_seen on tables left) name)

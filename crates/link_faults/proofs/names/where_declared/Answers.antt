@@ -13,4 +13,4 @@ returns g c = λ on.
     let test = g.A.Asked.holds c.args.asked.now on in
     c.in_ok-f.ensures on
     ∙ ap (λ (xs : List (Guarded FileName)). some_so test on (entries_of file_name_form xs)) c.deref.ensures.value
-    ∙ some_is test on (name_seen on c.args.left.now.names.items c.args.name.now) (alternatives file_name_form c.in_ok-x.x) (c.in_ok-x.ensures on)
+    ∙ some_is test on (name_seen on c.args.left.now.names c.args.name.now) (alternatives file_name_form c.in_ok-x.x) (c.in_ok-x.ensures on)

@@ -6,4 +6,4 @@ use Rattle.link_faults.proofs.names.where_internal.Goals as goal
 
 pub returns : goal.returns
 returns c = λ on tables.
-    c.in_ok-f.ensures on ∙ internal_is (seen_tables on tables).signatures (name_seen on c.args.left.now.names.items c.args.name.now)
+    c.in_ok-f.ensures on ∙ internal_is (seen_tables on tables).signatures (name_seen on c.args.left.now.names c.args.name.now)
