@@ -3,4 +3,3 @@ pub mod Products
 pub mod Faults
 pub mod Projects
 pub mod Least
-pub mod Refactorings
