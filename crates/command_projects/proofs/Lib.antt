@@ -3,4 +3,3 @@ pub mod Reading
 pub mod Decided
 pub mod NameLists
 pub mod Least
-pub mod Refactored
