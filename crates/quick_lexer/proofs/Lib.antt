@@ -1,3 +1,4 @@
 pub mod WordLemmas
 pub mod PieceLemmas
+pub mod ReservedLemmas
 mod RenamingLemmas

@@ -1,3 +1,4 @@
 pub mod View
 pub mod Lines
 pub mod Output
+pub mod Reserved

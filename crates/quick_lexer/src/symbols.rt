@@ -1,6 +1,9 @@
 //! What the words of a file are.
-ghost use Rattle.std.specs.Prelude.{◌≡◌};
+ghost use Rattle.std.specs.Prelude.{◌≡◌, option_map};
+ghost use Rattle.std.specs.Map.{lookup};
+ghost use Rattle.std.specs.Str.{bytes_eq};
 ghost use Rattle.quick_form.specs.Symbols as spec;
+ghost use Rattle.quick_lexer.specs.Reserved.{reserved};
 ghost use Rattle.quick_lexer.specs.View.{symbol_view};
 
 use crate::words::{is_name, is_number};
@@ -28,22 +31,34 @@ pub enum Symbol<'a> {
     Malformed,
 }
 
+/// The words with a meaning of their own.
+const RESERVED: [(&[u8], Symbol<'static>); 6] = [
+    (b"int", Symbol::Int),
+    (b"void", Symbol::Void),
+    (b"while", Symbol::While),
+    (b"return", Symbol::Return),
+    (b"putchar", Symbol::Putchar),
+    (b"main", Symbol::Main),
+];
+
+/// The symbol of a word with a meaning of its own.
+fn reserved_symbol(word: &[u8]) -> Option<Symbol<'static>>
+    ensures { option_map symbol_view result ≡ lookup (bytes_eq word.now) reserved }
+{
+    for (spelling, symbol) in &RESERVED {
+        if word == *spelling {
+            return Some(*symbol);
+        }
+    }
+    None
+}
+
 /// The symbol of a word outside directive lines.
 pub fn word_symbol<'a>(word: &'a [u8]) -> Symbol<'a>
     ensures { symbol_view result ≡ spec.word_symbol word.now }
 {
-    if word == b"int".as_slice() {
-        Symbol::Int
-    } else if word == b"void".as_slice() {
-        Symbol::Void
-    } else if word == b"while".as_slice() {
-        Symbol::While
-    } else if word == b"return".as_slice() {
-        Symbol::Return
-    } else if word == b"putchar".as_slice() {
-        Symbol::Putchar
-    } else if word == b"main".as_slice() {
-        Symbol::Main
+    if let Some(symbol) = reserved_symbol(word) {
+        symbol
     } else if is_name(word) {
         Symbol::Name(word)
     } else if is_number(word) {

@@ -1,5 +1,4 @@
-use Rattle.std.proofs.Common.{List, Bool, ℕ, ap, ap₂, ◌∙◌, subst}
-use Rattle.std.specs.Prelude.{Option, option_map}
+use Rattle.std.proofs.Common.{List, ap, ◌∙◌, subst}
 use Rattle.std.specs.List.{AllZip}
 use Rattle.name_places.specs.Places.{place_of}
 use Rattle.type_tables.specs.Seen.{name_in}
