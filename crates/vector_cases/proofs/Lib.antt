@@ -1,2 +1,4 @@
 mod Copies
+mod FieldLemmas
+mod LineLemmas
 mod Lookups

@@ -1,7 +1,9 @@
 //! Cases: a command over files, and the answer that is wanted.
-ghost use Rattle.std.specs.Prelude.{◌≡◌, ◌++◌, IfOk, option_map};
+ghost use Rattle.std.specs.Prelude.{◌≡◌, ◌++◌, ◌∷◌, [], List, ℕ, IfOk, map, option_map, slice_get};
 ghost use Rattle.std.specs.String.{string_bytes};
 ghost use Rattle.text_edits.specs.Files.{plain_file, plain_files, lookup_of};
+ghost use Rattle.vector_cases.specs.Fields.{Value, Reads, bytes};
+ghost use Rattle.vector_cases.specs.Lines.{files_values, words_values, named, target_of, target_files, SaysWritten, IsLineOf};
 
 use crate::fields::{Fields, LineError};
 use std::alloc::{AllocError, Global};
@@ -34,23 +36,16 @@ pub struct Case {
 
 impl Case {
     /// The case that a line holds.
-    pub fn read(alloc: Global, output: Output, line: &str) -> Result<Case, LineError> {
+    pub fn read(alloc: Global, output: Output, line: &str) -> Result<Case, LineError>
+        ensures { IfOk result (IsLineOf line.now output) }
+    {
         let mut fields = Fields::new(line);
         let files = read_files(alloc, &mut fields)?;
         let words = read_words(alloc, &mut fields)?;
-        let status = fields.number()?;
+        let status = fields.number(alloc)?;
         let printed = fields.bytes(alloc)?;
-        let target = match output {
-            Output::Written => target_name(alloc, &words)?,
-            Output::Files | Output::Nothing => None,
-        };
-        let written = match output {
-            Output::Written => read_target(alloc, &mut fields, &target, status)?,
-            Output::Files => read_files(alloc, &mut fields)?,
-            Output::Nothing => Files {
-                list: Vec::new(alloc),
-            },
-        };
+        let target = target_for(alloc, output, &words)?;
+        let written = read_written(alloc, output, &mut fields, &target, status)?;
         let label = fields.text(alloc)?;
         fields.end()?;
         Ok(Case {
@@ -88,8 +83,10 @@ fn content<'f>(files: &'f Files, name: &str) -> Option<&'f [u8]>
 }
 
 /// The number of files, and their names and bytes.
-fn read_files(alloc: Global, fields: &mut Fields<'_>) -> Result<Files, LineError> {
-    let count = fields.number()?;
+fn read_files(alloc: Global, fields: &mut Fields<'_>) -> Result<Files, LineError>
+    ensures { IfOk result (λ files. Reads fields.old fields.new (files_values (plain_files files))) }
+{
+    let count = fields.number(alloc)?;
     let mut list = Vec::new(alloc);
     for _ in 0..count {
         let name = fields.text(alloc)?;
@@ -100,8 +97,10 @@ fn read_files(alloc: Global, fields: &mut Fields<'_>) -> Result<Files, LineError
 }
 
 /// The number of words, and the words.
-fn read_words(alloc: Global, fields: &mut Fields<'_>) -> Result<Vec<String>, LineError> {
-    let count = fields.number()?;
+fn read_words(alloc: Global, fields: &mut Fields<'_>) -> Result<Vec<String>, LineError>
+    ensures { IfOk result (λ words. Reads fields.old fields.new (words_values (map string_bytes words.items))) }
+{
+    let count = fields.number(alloc)?;
     let mut words = Vec::new(alloc);
     for _ in 0..count {
         words.push(fields.text(alloc)?)?;
@@ -110,10 +109,42 @@ fn read_words(alloc: Global, fields: &mut Fields<'_>) -> Result<Vec<String>, Lin
 }
 
 /// `OUT/FILE`, where the words are `quick FILE OLD NEW OUT`.
-fn target_name(alloc: Global, words: &[String]) -> Result<Option<String>, AllocError> {
+fn target_name(alloc: Global, words: &[String]) -> Result<Option<String>, AllocError>
+    ensures { IfOk result (λ target. option_map string_bytes target ≡ named (slice_get (map string_bytes words.now) 1) (slice_get (map string_bytes words.now) 4)) }
+{
     match (words.get(1), words.get(4)) {
         (Some(file), Some(out)) => Ok(Some(format!(in alloc; "{out}/{file}")?)),
         _ => Ok(None),
+    }
+}
+
+/// The name under which `quick` may write.
+fn target_for(alloc: Global, output: Output, words: &[String]) -> Result<Option<String>, AllocError>
+    ensures { IfOk result (λ target. option_map string_bytes target ≡ target_of output (map string_bytes words.now)) }
+{
+    match output {
+        Output::Written => target_name(alloc, words),
+        Output::Files => Ok(None),
+        Output::Nothing => Ok(None),
+    }
+}
+
+/// What is written.
+fn read_written(
+    alloc: Global,
+    output: Output,
+    fields: &mut Fields<'_>,
+    target: &Option<String>,
+    status: u8,
+) -> Result<Files, LineError>
+    ensures { IfOk result (λ files. (values : List Value) × Reads fields.old fields.new values × SaysWritten output status (option_map string_bytes target.now) (plain_files files) values) }
+{
+    match output {
+        Output::Written => read_target(alloc, fields, target, status),
+        Output::Files => read_files(alloc, fields),
+        Output::Nothing => Ok(Files {
+            list: Vec::new(alloc),
+        }),
     }
 }
 
@@ -123,7 +154,9 @@ fn read_target(
     fields: &mut Fields<'_>,
     target: &Option<String>,
     status: u8,
-) -> Result<Files, LineError> {
+) -> Result<Files, LineError>
+    ensures { IfOk result (λ files. (said : List ℕ) × Reads fields.old fields.new (bytes said ∷ []) × (plain_files files ≡ target_files status (option_map string_bytes target.now) said)) }
+{
     let bytes = fields.bytes(alloc)?;
     let mut list = Vec::new(alloc);
     if let Some(name) = target
