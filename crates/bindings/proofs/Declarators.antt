@@ -22,7 +22,7 @@ use Rattle.tree_derivations.specs.Derivations.{Derivation, single, made_of, Row,
 use Rattle.bindings.specs.Visible.{Reading, passed, occurs, bound_to, leave, used}
 use Rattle.bindings.specs.Bindings.{is_name, Where, declaring, declared, read_expression, read_expressions, read_declarator, read_suffix}
 use Rattle.bindings.specs.Judged.{Identified}
-use Rattle.bindings.proofs.Follows.{Adds, adds_none, adds_both, quietly_before, Yields, yields, yields_both, yields_if}
+use Rattle.bindings.proofs.Follows.{quietly_before, Yields, yields, yields_both}
 use Rattle.bindings.proofs.Spellings.{Told, AllHold, no_name, a_name}
 use Rattle.bindings.proofs.Types.{Made}
 use Rattle.bindings.proofs.Operators.{Anything, yields_unless}

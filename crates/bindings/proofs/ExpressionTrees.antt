@@ -12,7 +12,7 @@ use Rattle.c_tree.specs.declared.terminals.Terminal.TheVariants as t
 use Rattle.c_tree.specs.Terminals.{terminal, same, is_one_of}
 use Rattle.c_tree.specs.Trees.{PlainTree, PlainTrees, leaf, node, none, more}
 use Rattle.c_tree.specs.Grammar.{expression, arguments, cast_type, cast_types, are_texts, any_part, are_words_of}
-use Rattle.c_tree.proofs.TerminalCases.{one_of, same-true}
+use Rattle.c_tree.proofs.TerminalCases.{one_of}
 use Rattle.core_meaning.specs.Program.{PlainArguments, no_argument, argument, literal, update, update_after}
 use Rattle.core_meaning.specs.Checking.{Entity, file_entity, Checked, refused, ◌>>=◌, give, or_broken, uses}
 use Rattle.core_meaning.specs.Entities.{Local, Signature, Sort, variable, function, FileName, Scope, local_in, entity_number}

@@ -7,7 +7,7 @@ use Rattle.std.specs.Cmp.Lexicographic.{bytes_decides}
 use Rattle.std.proofs.lemmas.Bool.{and_parts, and_from, false≢true}
 use Rattle.c_text.specs.Token.{PlainToken}
 use Rattle.c_text.specs.Constants.{quoted_values}
-use Rattle.c_types.specs.Types.{PlainType, char, array_of, structure, pointer_to}
+use Rattle.c_types.specs.Types.{PlainType, structure, pointer_to}
 use Rattle.c_tree.specs.declared.kinds.Kind.TheVariants as k
 use Rattle.c_tree.specs.declared.terminals.Terminal.{Terminal}
 use Rattle.c_tree.specs.declared.terminals.Terminal.TheVariants as t
@@ -15,15 +15,15 @@ use Rattle.c_tree.specs.Terminals.{terminal, same, is_one_of}
 use Rattle.c_tree.specs.Trees.{PlainTree, PlainTrees, leaf, node, none, more}
 use Rattle.c_tree.specs.Grammar.{are_texts, any_part, are_words, are_words_of, is_word}
 use Rattle.c_tree.proofs.TerminalCases.{one_of, same-true}
-use Rattle.core_meaning.specs.Program.{PlainExpression, PlainPlace, PlainArguments, no_argument, argument, literal, update, update_after, constant}
+use Rattle.core_meaning.specs.Program.{PlainPlace, constant}
 use Rattle.core_meaning.specs.Checking.{Entity, local_entity, file_entity, struct_entity, member_entity, Checked, ◌>>=◌, give, unless_so, found_or, or_broken, uses}
 use Rattle.core_meaning.specs.Entities.{Local, Sort, variable, function, FileName, Scope, local_in, entity_number}
-use Rattle.core_meaning.specs.Typing.{Operand, Typed, of_object, loaded, Designation}
-use Rattle.core_meaning.specs.Expressions.{judged, judged_arguments, single_operand, name_operand, file_name_operand, file_operand, number_operand, character_operand, character_value, text_bytes, joined_bytes, first_text, first_token, stepped, prefixed, cast_to, arithmetic_words, selected, member_of, member_in, member_operand, member_of_target, struct_place, is_free, indexed, Callee, callee, callee_unless_local, callee_of_name, callee_of_sort, count_entries, may_be_called, result_of_call, passed as passed_argument, condition_value, chosen, combined_by, combined, operator_named, written_place, assignment, valued}
+use Rattle.core_meaning.specs.Typing.{Operand, Typed, of_object, loaded}
+use Rattle.core_meaning.specs.Expressions.{single_operand, name_operand, file_name_operand, file_operand, number_operand, character_operand, character_value, text_bytes, joined_bytes, first_text, selected, member_of, member_in, member_operand, member_of_target, struct_place, is_free}
 use Rattle.core_meaning.specs.declared.refusals.TypeKind.TheVariants.{Incomplete, NoMember}
 use Rattle.bindings.specs.Visible.{ordinary, members_of, look_up, Binding, bound_to, undeclared, member_use, Occurrence, Reading, passed, binding_found, visible_name, is_of_file, used, member_used}
 use Rattle.bindings.specs.Bindings.{is_name, read_expression, read_expressions}
-use Rattle.bindings.specs.Judged.{Identified, first_with, identified, IsMember, struct_of}
+use Rattle.bindings.specs.Judged.{Identified, first_with, identified}
 use Rattle.bindings.proofs.Histories.{first_again}
 use Rattle.bindings.proofs.Follows.{is_plain, used_alike, Adds, adds_none, adds_both, renamed_one, Follows, follows_both, quietly_follows, quietly_before, Yields, yields, yields_both}
 use Rattle.bindings.proofs.Types.{Made, MadeSort, made_number}

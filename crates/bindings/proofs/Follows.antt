@@ -6,7 +6,7 @@ use Rattle.std.proofs.lemmas.List.{append_assoc, append-nil, map-append}
 use Rattle.c_text.specs.Token.{PlainToken}
 use Rattle.core_meaning.specs.declared.refusals.TypeKind.{TypeKind}
 use Rattle.core_meaning.specs.declared.refusals.TypeKind.TheVariants.{Undeclared, Redeclared, BadOperand, NotAssignable, Incomplete, ArgumentCount, NoMember, BadConstant, Misplaced}
-use Rattle.core_meaning.specs.Checking.{Entity, Binding as JudgedBinding, Checked, fine, refused, broken, with_bindings, ◌>>=◌, give, unless_so, found_or, or_broken}
+use Rattle.core_meaning.specs.Checking.{Entity, Binding as JudgedBinding, Checked, fine, refused, broken, with_bindings, ◌>>=◌, give}
 use Rattle.bindings.specs.Visible.{Occurrence}
 use Rattle.core_meaning.specs.Linking.{is_use_of}
 use Rattle.bindings.specs.Judged.{Identified, AreAlike, is_file_entity, IsFirstUndeclared}

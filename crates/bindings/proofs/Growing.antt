@@ -1,7 +1,7 @@
 -- How what is visible grows: by locals, names of file scope, tags and members.
 use Rattle.std.proofs.Common.{◌≡◌, ℕ, ◌≤◌, ◌<◌, true, false, List, [], ◌∷◌, ◌++◌, refl, sym, ◌∙◌, length, arith}
 use Rattle.std.specs.Prelude.{None, ◌==◌}
-use Rattle.std.proofs.lemmas.Bool.{cases_Bool, and_parts, false≢true, eq-eqb, ne_eqb, and_right}
+use Rattle.std.proofs.lemmas.Bool.{eq-eqb, ne_eqb, and_right}
 use Rattle.core_meaning.specs.Checking.{Entity, local_entity, local_of_function, file_entity, struct_entity, member_entity}
 use Rattle.core_meaning.specs.Entities.{Table, Scope}
 use Rattle.bindings.specs.Visible.{NameSpace, ordinary, tags as tag_space, members_of, Entry}

@@ -12,7 +12,7 @@ use Rattle.c_tree.specs.Trees.{PlainTree, PlainTrees, leaf, node, none, more}
 use Rattle.c_tree.specs.Grammar.{expression, initialiser, initialisers, belongs, agree, shape, are_texts}
 use Rattle.core_meaning.specs.declared.refusals.TypeKind.TheVariants.{BadOperand, BadConstant}
 use Rattle.core_meaning.specs.Program.{PlainConstantPart}
-use Rattle.core_meaning.specs.Values.{Path, part, number}
+use Rattle.core_meaning.specs.Values.{Path}
 use Rattle.core_meaning.specs.Checking.{Entity, Checked, fine, refused, broken, ◌>>=◌, give, unless_so, found_or, or_broken}
 use Rattle.core_meaning.specs.Entities.{Scope}
 use Rattle.core_meaning.specs.Typing.{Typed, loaded, fits_into}

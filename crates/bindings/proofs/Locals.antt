@@ -22,7 +22,7 @@ use Rattle.bindings.specs.Visible.{Entry, bound_to, Occurrence, Reading, passed,
 use Rattle.bindings.specs.Bindings.{is_name, Where, in_block, read_expression, read_words, read_declarator, read_declared, read_declarators, read_suffix, read_closed_suffix, read_declaration}
 use Rattle.bindings.specs.Judged.{Identified, first_with, identified, number_or}
 use Rattle.bindings.proofs.Histories.{first_new}
-use Rattle.bindings.proofs.Follows.{Adds, adds_none, adds_both, renamed_one, Follows, follows_both, follows_as, follows_growing, quietly_before, quietly_follows, Yields, yields}
+use Rattle.bindings.proofs.Follows.{Adds, adds_none, adds_both, renamed_one, Follows, follows_both, follows_as, follows_growing, quietly_before, yields}
 use Rattle.bindings.proofs.Spellings.{Holds, AllHold, no_name}
 use Rattle.bindings.proofs.Types.{Made}
 use Rattle.bindings.proofs.Operators.{Anything, yields_unless}

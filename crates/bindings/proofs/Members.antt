@@ -3,7 +3,7 @@ use Rattle.std.proofs.Common.{◌≡◌, ℕ, ◌+◌, ◌≤◌, ◌<◌, Bool,
 use Rattle.std.specs.Prelude.{Some, None, is_some, slice_get, not, ◌&&◌, ◌==◌, if◌then◌else◌}
 use Rattle.std.specs.Str.{bytes_eq}
 use Rattle.std.specs.Cmp.Lexicographic.{bytes_decides}
-use Rattle.std.proofs.lemmas.Bool.{false≢true, eq-eqb, eqb-true, ne_eqb, and_left, and_right}
+use Rattle.std.proofs.lemmas.Bool.{false≢true, eq-eqb, ne_eqb, and_left, and_right}
 use Rattle.std.proofs.lemmas.List.{length-append, append-nil}
 use Rattle.std.proofs.lemmas.Option.{same_Some, none-some, slice_get_within}
 use Rattle.c_text.specs.Token.{PlainToken}
@@ -20,7 +20,7 @@ use Rattle.bindings.specs.Visible.{members_of, Entry, look_up, bound_to, Occurre
 use Rattle.bindings.specs.Bindings.{among_members, read_declarator, read_suffix, read_closed_suffix}
 use Rattle.bindings.specs.Judged.{same_entity, Identified, first_with, identified, number_or}
 use Rattle.bindings.proofs.Histories.{first_kept, first_new, Grows}
-use Rattle.bindings.proofs.Follows.{renamed_one, Follows, follows_both, follows_growing, quietly_before, Yields, yields}
+use Rattle.bindings.proofs.Follows.{renamed_one, Follows, follows_both, follows_growing, quietly_before}
 use Rattle.bindings.proofs.Spellings.{AllHold}
 use Rattle.bindings.proofs.Types.{Made}
 use Rattle.bindings.proofs.Operators.{yields_unless}

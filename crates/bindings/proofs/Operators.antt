@@ -15,7 +15,7 @@ use Rattle.core_meaning.specs.Checking.{refused, ◌>>=◌, give, unless_so, fou
 use Rattle.core_meaning.specs.Entities.{Table, Struct, Signature, Scope}
 use Rattle.core_meaning.specs.Typing.{same_type, is_complete, is_struct, is_pointer, is_scalar_type, promoted, common, Designation, value, object, Operand, Typed, typed, of_value, of_object, loaded, loaded_from, fits_into}
 use Rattle.core_meaning.specs.Expressions.{operator_named, compound_operator, may_be_assigned, place_in, assigned_place, is_plain_assignment, written_place, left_value, updated, one, stepped, assignment, operation_on, change_by, combined, operation_type, operand_core, pointed_at, dereferenced, signed, signed_core, negated, prefixed, cast_to, unused, element_target, indexed, logical, is_void, chosen, chosen_core, converted_to, combined_by, may_be_called, passed, condition_value}
-use Rattle.bindings.proofs.Follows.{Yields, yields, yields_both, yields_as, yields_if, Quiet}
+use Rattle.bindings.proofs.Follows.{Yields, yields, yields_both, yields_as, yields_if}
 use Rattle.bindings.proofs.Types.{Made, made_promoted, made_common, made_operation}
 
 abbrev pub Anything : {A : Type 0} → A → Type 0

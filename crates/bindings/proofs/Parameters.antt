@@ -22,7 +22,7 @@ use Rattle.core_meaning.specs.Expressions.{first_token_in}
 use Rattle.core_meaning.specs.Declarations.{name_in, behind_word, starred, Based, based, Parameter, size_of_parameter, parameter_type, token_of, is_new_parameter, parameter_entity, declares_name, may_be_parameter, judged_parameter, declared_parameter, one_parameter, with_parameter, with_local_in, with_block, parameters_from, parameters_in, parameters_of}
 use Rattle.core_meaning.specs.declared.refusals.TypeKind.TheVariants.{Redeclared, Incomplete, BadConstant}
 use Rattle.tree_derivations.specs.Derivations.{Derivation, single, made_of, a_row, Row, at_end, a_word, perhaps_there, not_there, a_star, no_star, a_part, left_out, given, with_commas, Separated, last_one, next_one, IsWord}
-use Rattle.bindings.specs.Visible.{ordinary, Entry, bound_to, Occurrence, Reading, passed, occurs, with_block_entry, leave}
+use Rattle.bindings.specs.Visible.{Entry, bound_to, Occurrence, Reading, passed, occurs, with_block_entry, leave}
 use Rattle.bindings.specs.Bindings.{is_name, Where, in_block, declaring, declared, read_expressions, read_words, read_declarator, read_declared, read_parameter, read_parameters, read_suffix}
 use Rattle.bindings.specs.Judged.{same_entity, Identified, first_with, identified, number_or}
 use Rattle.bindings.proofs.Histories.{first_new}

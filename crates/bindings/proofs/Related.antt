@@ -9,7 +9,7 @@ use Rattle.core_meaning.specs.Checking.{Entity, local_entity, file_entity, struc
 use Rattle.core_meaning.specs.Constancy.{same_place}
 use Rattle.core_meaning.specs.Entities.{Table, Struct, Local, FileName, Scope, local_in, or_else}
 use Rattle.bindings.specs.Visible.{NameSpace, ordinary, tags as tag_space, members_of, Entry, look_up, Binding, bound_to, undeclared, Occurrence}
-use Rattle.bindings.specs.Judged.{Identified, first_with, number_or, identified, IsAlike, IsBoundAlike, IsMember}
+use Rattle.bindings.specs.Judged.{Identified, first_with, number_or, identified, IsBoundAlike}
 use Rattle.bindings.proofs.Histories.{SameFirsts, alike_bound}
 use Rattle.bindings.proofs.Follows.{is_plain, used_alike, Fine, Unbound, renamed_one}
 use Rattle.bindings.proofs.Types.{Made, MadeSort}

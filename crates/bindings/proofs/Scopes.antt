@@ -3,7 +3,7 @@ use Rattle.std.proofs.Common.{◌≡◌, ℕ, ◌≤◌, Bool, true, false, List
 use Rattle.std.specs.Prelude.{Some, None, if◌then◌else◌}
 use Rattle.std.specs.Str.{bytes_eq}
 use Rattle.std.specs.Cmp.Lexicographic.{bytes_decides}
-use Rattle.std.proofs.lemmas.Bool.{cases_Bool, and_parts, false≢true, eq-eqb, eqb-true, false_from_ne_true}
+use Rattle.std.proofs.lemmas.Bool.{false≢true, false_from_ne_true}
 use Rattle.std.proofs.lemmas.Option.{same_Some, none-some}
 use Rattle.c_names.specs.Names.{is_identifier}
 use Rattle.c_types.specs.Types.{PlainType}
@@ -11,7 +11,7 @@ use Rattle.core_meaning.specs.Checking.{Entity, file_entity}
 use Rattle.core_meaning.specs.Entities.{Table, Struct, Local, FileName, Scope, local_in, or_else}
 use Rattle.core_meaning.specs.Declarations.{with_local, with_local_in, with_block}
 use Rattle.core_meaning.specs.UnitNames.{with_file_name}
-use Rattle.bindings.specs.Visible.{NameSpace, ordinary, tags as tag_space, members_of, Entry, look_up}
+use Rattle.bindings.specs.Visible.{NameSpace, ordinary, Entry, look_up}
 use Rattle.bindings.specs.Judged.{Identified, first_with}
 use Rattle.bindings.proofs.Histories.{Grows}
 use Rattle.bindings.proofs.Types.{Made, MadeSort}

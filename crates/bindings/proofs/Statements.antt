@@ -1,6 +1,6 @@
 -- Statements are read as they are judged.
 use Rattle.std.proofs.Common.{◌≡◌, ℕ, Bool, true, false, List, [], ◌∷◌, refl, sym, subst, ◌∙◌, length}
-use Rattle.std.specs.Prelude.{Option, Some, None, not, pos, if◌then◌else◌}
+use Rattle.std.specs.Prelude.{Some, not, pos, if◌then◌else◌}
 use Rattle.std.proofs.lemmas.Bool.{false≢true}
 use Rattle.c_text.specs.Token.{PlainToken}
 use Rattle.c_types.specs.Types.{PlainType}
@@ -8,7 +8,7 @@ use Rattle.c_tree.specs.declared.kinds.Kind.{Kind}
 use Rattle.c_tree.specs.declared.kinds.Kind.TheVariants as k
 use Rattle.c_tree.specs.declared.terminals.Terminal.TheVariants as t
 use Rattle.c_tree.specs.Trees.{PlainTree, PlainTrees, leaf, node, none, more, absent}
-use Rattle.c_tree.specs.Grammar.{Category, expression, statement, else_part, block, items, item, for_start, local, belongs, agree, shape}
+use Rattle.c_tree.specs.Grammar.{Category, expression, statement, else_part, block, items, item, for_start, belongs}
 use Rattle.core_meaning.specs.Program.{PlainExpression, PlainStatement, constant, evaluate, break_loop, continue_loop, return_nothing, return_value}
 use Rattle.core_meaning.specs.Program as core
 use Rattle.core_meaning.specs.Checking.{Entity, Checked, ◌>>=◌, give, unless_so, found_or}
@@ -20,7 +20,7 @@ use Rattle.core_meaning.specs.Statements.{Around, Judged, JudgedItems, judged_as
 use Rattle.core_meaning.specs.declared.refusals.TypeKind.TheVariants.{Misplaced}
 use Rattle.tree_derivations.specs.Derivations.{Derivation, single, made_of, a_row, at_end, a_word, a_part, left_out, given, one_or_more, Each, no_more, one_more}
 use Rattle.bindings.specs.Visible.{Entry, Occurrence, Reading, passed, leave}
-use Rattle.bindings.specs.Bindings.{is_name, Where, read_expression, read_expressions, read_declaration, read_statement, read_statements}
+use Rattle.bindings.specs.Bindings.{is_name, read_expression, read_declaration, read_statement, read_statements}
 use Rattle.bindings.specs.Bindings as bindings
 use Rattle.bindings.specs.Judged.{Identified}
 use Rattle.bindings.proofs.Histories.{Grows}

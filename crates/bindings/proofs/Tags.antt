@@ -17,7 +17,7 @@ use Rattle.bindings.specs.Visible.{tags as tag_space, Entry, look_up, bound_to, 
 use Rattle.bindings.specs.Bindings.{read_words}
 use Rattle.bindings.specs.Judged.{same_entity, Identified, identified, number_or}
 use Rattle.bindings.proofs.Histories.{first_kept, first_new, first_other, first_again}
-use Rattle.bindings.proofs.Follows.{Adds, adds_none, renamed_one, Follows, follows_both, quietly_before, Yields, yields}
+use Rattle.bindings.proofs.Follows.{renamed_one, Follows, quietly_before, yields}
 use Rattle.bindings.proofs.Types.{Made, AllMade, MadeSort, made_words}
 use Rattle.bindings.proofs.Related.{Room, numbering, TagFound, Related, related_same, one_occurrence, bound_first}
 use Rattle.bindings.proofs.Growing.{IsSlots}

@@ -19,7 +19,7 @@ use Rattle.bindings.specs.Visible.{tags as tag_space, look_up, bound_to, undecla
 use Rattle.bindings.specs.Bindings.{is_name, read_words}
 use Rattle.bindings.specs.Judged.{Identified, identified}
 use Rattle.bindings.proofs.Histories.{first_again}
-use Rattle.bindings.proofs.Follows.{Adds, adds_none, adds_both, renamed_one, Follows, follows_both, Yields, yields}
+use Rattle.bindings.proofs.Follows.{Adds, adds_none, adds_both, renamed_one, Follows, yields}
 use Rattle.bindings.proofs.Types.{Made, made_words}
 use Rattle.bindings.proofs.Related.{Room, numbering, related_same, one_occurrence, bound_first, one_undeclared}
 use Rattle.bindings.proofs.Expressions.{nameless, turned, Rel, After, Goal, then_quietly, quietly}

@@ -6,7 +6,7 @@ use Rattle.std.proofs.lemmas.Bool.{and_parts, false≢true}
 use Rattle.c_text.specs.Token.{PlainToken}
 use Rattle.c_types.specs.declared.arithmetic.BinaryOp.{BinaryOp}
 use Rattle.c_types.specs.declared.arithmetic.BinaryOp.TheVariants.{Sub, BitXor}
-use Rattle.c_types.specs.Types.{PlainType, void, char, pointer_to, array_of, structure}
+use Rattle.c_types.specs.Types.{PlainType, void, pointer_to, array_of}
 use Rattle.c_types.specs.Integers.{is_integer}
 use Rattle.c_tree.specs.declared.kinds.Kind.{Kind}
 use Rattle.c_tree.specs.declared.kinds.Kind.TheVariants as k
@@ -19,7 +19,6 @@ use Rattle.core_meaning.specs.Checking.{Binding, Checked, fine, refused, broken,
 use Rattle.core_meaning.specs.Entities.{Struct, Scope}
 use Rattle.core_meaning.specs.Typing.{promoted, integer_type, Designation, value, object, Operand, Typed, typed, of_value, loaded_from, loaded, is_complete, is_pointer, is_struct, is_scalar_type, same_type}
 use Rattle.core_meaning.specs.Expressions as spec
-use Rattle.core_meaning.specs.Expressions.{Callee, callee, judged, judged_arguments, valued, count_entries, text_bytes, first_text, first_token, arithmetic_words}
 use Rattle.core_meaning.specs.Constancy.{is_constant}
 
 -- ---- what holds where what comes of a judgement passes a test: this, and nothing is bound

@@ -3,7 +3,7 @@ use Rattle.std.proofs.Common.{◌≡◌, ℕ, ◌+◌, ℤ, Bool, true, false, L
 use Rattle.std.specs.Prelude.{Option, Some, None, if◌then◌else◌}
 use Rattle.std.proofs.lemmas.Bool.{false≢true}
 use Rattle.c_text.specs.Token.{PlainToken}
-use Rattle.c_types.specs.Types.{PlainType, char, pointer_to, array_of, structure}
+use Rattle.c_types.specs.Types.{char, array_of}
 use Rattle.c_types.specs.Integers.{is_integer}
 use Rattle.c_tree.specs.declared.kinds.Kind.TheVariants as k
 use Rattle.c_tree.specs.declared.terminals.Terminal.{Terminal}
@@ -11,12 +11,12 @@ use Rattle.c_tree.specs.declared.terminals.Terminal.TheVariants as t
 use Rattle.c_tree.specs.Terminals.{terminal}
 use Rattle.c_tree.specs.Trees.{PlainTree, leaf, node, none, more}
 use Rattle.core_meaning.specs.declared.refusals.TypeKind.TheVariants.{BadConstant}
-use Rattle.core_meaning.specs.Program.{PlainExpression, PlainPlace, binary, literal, target, update, update_after, assign, no_argument}
+use Rattle.core_meaning.specs.Program.{literal, update, update_after}
 use Rattle.core_meaning.specs.Checking.{Checked, ◌>>=◌, give, found_or, or_broken}
 use Rattle.core_meaning.specs.Entities.{Local, Sort, variable, function, FileName, Scope, local_in, entity_number}
 use Rattle.core_meaning.specs.Typing.{Operand, Typed, of_value, of_object, loaded}
 use Rattle.core_meaning.specs.Expressions as spec
-use Rattle.core_meaning.specs.Expressions.{Callee, callee, judged, judged_arguments, valued, count_entries, text_bytes, first_text, first_token, arithmetic_words}
+use Rattle.core_meaning.specs.Expressions.{callee, judged, valued, text_bytes, first_text, first_token, arithmetic_words}
 use Rattle.core_meaning.specs.Constancy.{is_constant, constant_value, count_of_value, value_if_constant, judged_count}
 use Rattle.bound_slots.specs.Laws.{SizesBindNothing}
 use Rattle.bound_slots.proofs.Shapes.{PassNot, stepped_never, assignment_never, subscript_never, selected_never, called_never, called_without_never}

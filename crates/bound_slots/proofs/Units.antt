@@ -12,7 +12,7 @@ use Rattle.c_tree.specs.Trees.{PlainTree, PlainTrees, leaf, node, none, more}
 use Rattle.c_tree.specs.Grammar.{is_word, is_lone_void}
 use Rattle.core_meaning.specs.declared.refusals.TypeKind.TheVariants.{Redeclared, Incomplete, BadConstant}
 use Rattle.core_meaning.specs.Checking.{Entity, local_entity, local_of_function, file_entity, struct_entity, member_entity, own_entity, Binding, Checked, fine, refused, broken, ◌>>=◌, give, unless_so, declares, or_broken, numbered, numbered_binding, in_function}
-use Rattle.core_meaning.specs.Entities.{Table, Struct, Sort, variable, function, FileName, Numbers, Scope, local_in}
+use Rattle.core_meaning.specs.Entities.{Struct, Sort, variable, function, FileName, Numbers, Scope, local_in}
 use Rattle.core_meaning.specs.Typing.{is_complete}
 use Rattle.core_meaning.specs.Expressions.{first_token_in, has_terminal}
 use Rattle.core_meaning.specs.Constancy.{is_small, judged_count, initial}

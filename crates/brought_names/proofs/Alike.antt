@@ -12,7 +12,7 @@ use Rattle.core_meaning.specs.Linking.{Units, judged_program}
 use Rattle.core_meaning.specs.UnitNames.{UnitState}
 use Rattle.bindings.specs.Judged.{Identified, first_with}
 use Rattle.bindings.specs.Laws.{IsWritten, AreWritten}
-use Rattle.program_occurrences.specs.Occurrences.{identifiers_from, UnitNames, judged_bindings, names_of_unit, structs_behind, judged_behind, names_behind, names_of_units, Occurrence, occurrence_among, occurrences_of, declares_itself, OccursIn, CommonName, external_name, tag, member_of, member_by, common_name_by, common_name}
+use Rattle.program_occurrences.specs.Occurrences.{identifiers_from, UnitNames, judged_bindings, names_of_unit, structs_behind, judged_behind, names_behind, names_of_units, Occurrence, occurrence_among, occurrences_of, OccursIn, CommonName, external_name, tag, member_of, member_by, common_name_by, common_name}
 use Rattle.program_occurrences.specs.Classes.{PlainFileToken, copied_by, file_token, declaring_token, Brings, by_declaration, by_occurrence, by_name}
 use Rattle.program_occurrences.specs.Laws.{DeclarationsAreOccurrences, AreJudged, no_more, one_more, UnitsOfProgramsAreJudged}
 use Rattle.occurrence_names.specs.Laws.{KeepsName, OccurrencesKeepNames, IsTextOf, FileNamesAreWritten}

@@ -6,7 +6,7 @@ use Rattle.c_tree.specs.declared.terminals.Terminal.{Terminal}
 use Rattle.c_tree.specs.Grammar.{Role, file_first, file_inline, file_later, inline_parameter, Slot, word, at_file_scope}
 use Rattle.c_tree.specs.Places.{Place, inside, operand, in_words, specifying, declaring, declared, declarator_at, declarator_read, declarator_next, initialiser_next, initialiser_read, before_name, behind_name, in_brackets, parameters_next, parameters_read, behind_parameters, parameter_at, parameter_read, parameter_next, parameter_begins, parameter_typed, parameter_declared, wordings, goes_on, Naming, named, may_be_declared_so, may_be_defined_so, flavour_at, naming_at, back, Beginning, no_beginning, begins, Move, shifts, enters, takes, skips, finishes, passes, fails, move}
 use Rattle.c_tree.specs.Machine as machine
-use Rattle.c_tree.specs.Machine.{Making, Frame, frame, Outcome, is_whole, is_wrong, nested, begun, alone, moved, arrives, outcome, going_on, read_on}
+use Rattle.c_tree.specs.Machine.{Making, Frame, frame, Outcome, is_whole, is_wrong, nested, begun, alone, moved, arrives, outcome}
 
 -- what a node is to become, as far as not every end is fit
 pub data Want : Type 0 where

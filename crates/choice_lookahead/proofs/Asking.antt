@@ -8,7 +8,7 @@ use Rattle.c_text.specs.Token.{plain_token}
 use Rattle.c_tree.specs.declared.terminals.Terminal.{Terminal}
 use Rattle.c_tree.specs.declared.terminals.Terminal.TheVariants.{Other}
 use Rattle.c_tree.specs.Terminals.{terminal}
-use Rattle.c_tree.specs.Places.{Place, Move, enters, skips, move}
+use Rattle.c_tree.specs.Places.{Place, Move, enters, move}
 use Rattle.cond_tokens.specs.declared.tokens.CondToken.{CondToken}
 use Rattle.grammar_moves.specs.PlainMoves.{skipping}
 use Rattle.choice_lookahead.specs.declared.ahead.Ending.{Ending}

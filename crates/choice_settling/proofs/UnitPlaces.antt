@@ -1,5 +1,5 @@
 -- Places in the list of a unit's items: what the table of moves does there, and which places there are in no other node.
-use Rattle.std.proofs.Common.{◌≡◌, ℕ, zero, suc, Bool, true, false, not, ◌&&◌, [], ◌∷◌, Option, Some, None, IsTrue, refl, subst, sym}
+use Rattle.std.proofs.Common.{◌≡◌, ℕ, zero, suc, Bool, true, false, not, ◌&&◌, [], ◌∷◌, Option, Some, None, IsTrue, refl, subst}
 use Rattle.c_tree.specs.declared.kinds.Kind.{Kind}
 use Rattle.c_tree.specs.declared.terminals.Terminal.{Terminal}
 use Rattle.c_tree.specs.Grammar.{Category}

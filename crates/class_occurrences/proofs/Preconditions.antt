@@ -1,6 +1,6 @@
 -- The tests of occurrences ask what the preconditions say.
-use Rattle.std.proofs.Common.{◌≡◌, ℕ, Bool, true, false, List, [], ◌∷◌, refl, sym, ap, ◌∙◌, subst, inl, inr}
-use Rattle.std.specs.Prelude.{◌⊎◌, ◌==◌, ◌&&◌, ◌||◌, codes, Contains}
+use Rattle.std.proofs.Common.{◌≡◌, Bool, true, false, List, [], ◌∷◌, refl, sym, ap, subst, inl, inr}
+use Rattle.std.specs.Prelude.{◌⊎◌, ◌==◌, ◌||◌, codes, Contains}
 use Rattle.std.specs.List.{list_any}
 use Rattle.std.specs.Str.{bytes_eq}
 use Rattle.std.proofs.lemmas.Bool.{and_parts, and_from, or_cases, or_left, or_right, eqb-true, eq-eqb}
@@ -13,14 +13,14 @@ use Rattle.c_text.specs.Token.{PlainToken}
 use Rattle.c_text.specs.Preprocessing.{built_in_file}
 use Rattle.renamings.specs.Renamings.{same_span}
 use Rattle.program_occurrences.specs.Occurrences.{Occurrence}
-use Rattle.program_occurrences.specs.Classes.{PlainFileToken, copied_by, file_token, declaring_token}
+use Rattle.program_occurrences.specs.Classes.{PlainFileToken, copied_by}
 use Rattle.tied_tokens.specs.Tokens.{plain_file_token, plain_file_tokens}
 use Rattle.tied_tokens.proofs.Members.{in_none, in_head, in_tail, in_cases}
 use Rattle.tied_tokens.proofs.Order.{one_token}
 use Rattle.changed_forests.specs.Renamed.{copies}
-use Rattle.reference_classes.specs.Preconditions.{ComesFromMacroBody, IsFixed, is_main, is_built_in, declared_built_in}
-use Rattle.class_occurrences.specs.Occurring.{Occurring, is_of_class, is_macro_body, comes_from_macro_body, is_fixed, is_fixed_of}
-use Rattle.class_occurrences.specs.Laws.{tokens_of, IsOfClassAnd, TestsAreOfPreconditions}
+use Rattle.reference_classes.specs.Preconditions.{IsFixed, is_main, is_built_in, declared_built_in}
+use Rattle.class_occurrences.specs.Occurring.{is_of_class, is_macro_body, is_fixed}
+use Rattle.class_occurrences.specs.Laws.{tokens_of, TestsAreOfPreconditions}
 
 -- ---- copies of tokens of a class
 

@@ -1,5 +1,5 @@
 -- The command `admit PROJECT`: the features that are on in the least configuration that the project admits.
-use Rattle.std.specs.Prelude.{◌≡◌, ◌⊎◌, ℕ, Bool, true, false, List, [], ◌∷◌, ◌++◌, length, codes}
+use Rattle.std.specs.Prelude.{◌≡◌, ◌⊎◌, ℕ, Bool, false, List, [], ◌∷◌, ◌++◌, length, codes}
 use Rattle.cond_formula.specs.Features.{has}
 use Rattle.sat_core.specs.Models.{IsLeastModel, HasNoModel}
 use Rattle.project_file.specs.Projects.{PlainProject, names_on}

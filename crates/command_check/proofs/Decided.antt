@@ -1,5 +1,5 @@
 -- One outcome, and one thing that is said of it.
-use Rattle.std.proofs.Common.{◌≡◌, ℕ, Bool, List, [], ◌∷◌, refl, sym, ◌∙◌, ap, subst, inl, inr, arith}
+use Rattle.std.proofs.Common.{◌≡◌, ℕ, Bool, List, [], refl, sym, ◌∙◌, ap, subst, inl, inr, arith}
 use Rattle.text_edits.specs.Files.{PlainFile}
 use Rattle.cond_formula.specs.Features.{has}
 use Rattle.project_file.specs.Projects.{PlainProject, names_on}

@@ -1,12 +1,11 @@
 -- A command on a project does one thing at most, where it does so with each project.
-use Rattle.std.proofs.Common.{◌≡◌, inl, inr, ℕ, ◌<◌, ◌≤◌, Bool, true, false, List, [], ◌∷◌, ◌++◌, map, length, refl, sym, ◌∙◌, ap, subst, arith}
+use Rattle.std.proofs.Common.{◌≡◌, inl, inr, ℕ, Bool, true, false, List, [], ◌∷◌, ◌++◌, map, refl, sym, ◌∙◌, ap, subst, arith}
 use Rattle.text_edits.specs.Files.{PlainFile}
-use Rattle.project_file.specs.Contents.{longest_file}
-use Rattle.project_file.specs.Projects.{PlainUnit, PlainProject, IsProject}
-use Rattle.project_file.specs.Faults.{Fault, size, FirstFault}
+use Rattle.project_file.specs.Projects.{PlainUnit, PlainProject}
+use Rattle.project_file.specs.Faults.{Fault, size}
 use Rattle.project_file.specs.Laws.{Alike, AreAlike, ProjectsHaveNoFault, FirstFaultIsOne, ProjectsAreAlike}
 use Rattle.project_store.specs.Reads.{names_of}
-use Rattle.command_promises.specs.Courses.{Saying, Deed, reads, says, Course, Agree, IsDecided}
+use Rattle.command_promises.specs.Courses.{Saying, reads, says, Course, Agree, IsDecided}
 use Rattle.command_promises.specs.Sayings.{usage}
 use Rattle.command_projects.specs.Names.{AsksProject}
 use Rattle.command_projects.specs.Faults.{bad_project}

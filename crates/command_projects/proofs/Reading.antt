@@ -1,21 +1,21 @@
 -- What is read of a project and its files, and where the course comes to by that.
-use Rattle.std.proofs.Common.{◌≡◌, inl, inr, ℕ, zero, suc, ◌<◌, ◌≤◌, List, [], ◌∷◌, ◌++◌, map, length, All, Result, Ok, Err, slice_index_or, refl, sym, ◌∙◌, ap, subst, arith}
+use Rattle.std.proofs.Common.{◌≡◌, inl, inr, ℕ, zero, suc, ◌≤◌, List, [], ◌∷◌, ◌++◌, map, length, All, Result, Ok, Err, slice_index_or, refl, sym, ◌∙◌, ap, subst, arith}
 use Rattle.std.specs.String.{string_bytes}
 use Rattle.text_edits.specs.Files.{PlainFile}
 use Rattle.project_file.specs.Contents.{longest_file}
-use Rattle.project_file.specs.Projects.{PlainProject, IsProject}
-use Rattle.project_file.specs.Faults.{Fault, size, not_toml, shape, feature, duplicate, constraint, FirstFault}
+use Rattle.project_file.specs.Projects.{PlainProject}
+use Rattle.project_file.specs.Faults.{Fault, size, not_toml, shape, feature, duplicate, constraint}
 use Rattle.project_file.specs.View.{Why}
 use Rattle.project_file.specs.declared.errors.ProjectError.{ProjectError}
 use Rattle.project_file.specs.declared.errors.ProjectError.TheVariants as error
-use Rattle.project_store.specs.States.{StoreState, Stands, IsAbsent, IsReadAlone}
+use Rattle.project_store.specs.States.{StoreState, IsAbsent, IsReadAlone}
 use Rattle.project_store.specs.Reads.{SaysProject, HasFault, IsRead, AreFilesOf, IsNext, IsTooLong, HasAbsent, IsSource, IsLong}
 use Rattle.command_promises.specs.declared.said.Said.{Said}
 use Rattle.command_promises.specs.declared.said.Stop.{Stop}
 use Rattle.command_promises.specs.declared.said.Stop.TheVariants.{ReadFault, WantOfMemory}
 use Rattle.command_promises.specs.Courses.{Deed, reads, says, Course, Leads, IsThere, Comes}
 use Rattle.command_promises.specs.Sayings.{saying, ComesToUnread, CameTo}
-use Rattle.command_promises.proofs.Leading.{Follows, leads_by, comes_by, all_tail, all_head}
+use Rattle.command_promises.proofs.Leading.{leads_by, comes_by, all_tail, all_head}
 use Rattle.command_projects.specs.Faults.{bad_project, SaysFault, Refuses}
 use Rattle.command_projects.specs.Projects.{WithProject, WithFit, WithFiles}
 

@@ -2,7 +2,6 @@
 use Rattle.std.specs.Prelude.{◌≡◌, ℕ, Bool, true, not, ◌&&◌, ◌==◌, List, [], ◌∷◌, codes, if◌then◌else◌}
 use Rattle.std.specs.List.{join_by, list_any, slice_split}
 use Rattle.std.specs.Str.{bytes_eq}
-use Rattle.c_names.specs.Names.{is_new_name}
 use Rattle.c_names.specs.FileNames.{is_file_name}
 
 -- the name of a project file: a file name of one component, and not that of the proof file

@@ -1,5 +1,5 @@
 -- A renaming that was written keeps the products of the project that was read.
-use Rattle.std.proofs.Common.{◌≡◌, ◌≢◌, ℕ, zero, suc, ◌≤◌, Bool, List, [], ◌∷◌, ◌++◌, map, length, All, Some, Option, refl, sym, ◌∙◌, ap, subst, arith}
+use Rattle.std.proofs.Common.{◌≡◌, ℕ, suc, List, [], ◌∷◌, ◌++◌, map, length, All, Some, Option, refl, sym, ◌∙◌, ap, subst, arith}
 use Rattle.std.proofs.lemmas.List.{map-append, length-map}
 use Rattle.std.proofs.lemmas.List.Elements.{All-nil, All-cons, All-head, All-tail}
 use Rattle.text_edits.specs.Files.{PlainFile, Lookup}
@@ -10,18 +10,16 @@ use Rattle.project_sizes.specs.Laws.{ProjectsHaveFewFiles}
 use Rattle.project_store.specs.Reads.{names_of}
 use Rattle.command_promises.specs.Courses.{Saying, says}
 use Rattle.command_promises.specs.Writing.{PutsAll}
-use Rattle.command_outcomes.specs.Concluding.{ComesOver}
-use Rattle.command_projects.specs.Least.{Nowhere, Somewhere}
-use Rattle.command_projects.proofs.Least.{admitted_back}
+use Rattle.command_projects.specs.Least.{Nowhere}
 use Rattle.command_projects.proofs.Decided.{names_alike}
-use Rattle.project_refactorings.specs.Refactorings.{files_in, refactored}
+use Rattle.project_refactorings.specs.Refactorings.{files_in}
 use Rattle.renamings.specs.Renamings.{Renaming, renamed_files}
 use Rattle.renamed_sources.specs.Projects.{HasItsFiles}
-use Rattle.reference_classes.specs.Preconditions.{Precondition, broken, in_macro_body, macro_name, fixed, capture, precondition_name, preconditions, IsFound, Breaks, BreaksNamed}
+use Rattle.reference_classes.specs.Preconditions.{broken, in_macro_body, macro_name, fixed, capture, precondition_name, preconditions, IsFound, Breaks, BreaksNamed}
 use Rattle.reference_classes.specs.Renamed.{RenamesClass}
 use Rattle.class_edits.specs.Listed.{StandApart}
 use Rattle.class_edits.specs.Laws.{ListedStandApart, ListedClassesAreRenamed}
-use Rattle.named_classes.specs.Classes.{NamedClass, IsNamedClass}
+use Rattle.named_classes.specs.Classes.{NamedClass}
 use Rattle.renamed_classes.specs.Renaming.{NothingStandsInTheWay, MayBeMade}
 use Rattle.renamed_classes.specs.Laws.{ClassesStandOnTextLines, ClassesFitFiles}
 use Rattle.renamed_classes.proofs.Told.{on-text-lines}
@@ -32,7 +30,7 @@ use Rattle.alike_classes.proofs.Projects.{nowhere-alike, somewhere-alike}
 use Rattle.rename_op.proofs.Named.{tokens-apart}
 use Rattle.rename_words.specs.Words.{RenameQuery, IsGood}
 use Rattle.rename_words.specs.Laws.{FitsAreAlike}
-use Rattle.command_rename.specs.Rename.{renaming, rename, renaming_for}
+use Rattle.command_rename.specs.Rename.{renaming, renaming_for}
 use Rattle.command_rename.specs.Products.{HoldsProject, KeepsProducts, ProductsAreKept}
 use Rattle.command_rename.specs.Laws.{RenamingsThatAreWrittenKeepProducts}
 use Rattle.command_rename.proofs.Concluding.{its-files}

@@ -1,7 +1,6 @@
 -- Models of what the code holds: no part of what the command means.
-use Rattle.std.specs.Prelude.{ℕ, List, [], length}
+use Rattle.std.specs.Prelude.{ℕ, List, []}
 use Rattle.text_edits.specs.Files.{PlainFile}
-use Rattle.project_file.specs.Projects.{PlainProject}
 use Rattle.project_file.specs.View.{project_view}
 use Rattle.project_texts.specs.declared.texts.ProjectText.{ProjectText}
 use Rattle.command_promises.specs.Courses.{Course}

@@ -1,16 +1,16 @@
 -- One unit and configuration, and one thing that is said of it.
-use Rattle.std.proofs.Common.{◌≡◌, inl, inr, ℕ, ◌+◌, Bool, List, [], ◌∷◌, length, refl, sym, ◌∙◌, ap, subst, arith, codes}
+use Rattle.std.proofs.Common.{◌≡◌, inl, inr, ℕ, ◌+◌, List, [], ◌∷◌, length, refl, sym, ◌∙◌, ap, subst, arith}
 use Rattle.text_edits.specs.Files.{PlainFile}
 use Rattle.cond_formula.specs.Conditions.{value}
 use Rattle.c_text.specs.Token.{PlainToken}
-use Rattle.c_text.specs.Preprocessing.{Refusal, Sources, gives, is_refused, IsPreprocessed}
+use Rattle.c_text.specs.Preprocessing.{Refusal, Sources, gives, is_refused}
 use Rattle.plain_pp.specs.Units.{sources_of, file_of}
 use Rattle.plain_pp.specs.Laws.{OutcomesAreOne}
 use Rattle.project_file.specs.Projects.{PlainProject}
 use Rattle.project_file.specs.Faults.{Fault}
 use Rattle.project_file.specs.Laws.{Alike}
 use Rattle.project_store.specs.Reads.{names_of}
-use Rattle.command_promises.specs.Courses.{Saying, Deed, says, Course, Agree, IsDecided}
+use Rattle.command_promises.specs.Courses.{Saying, says, Agree, IsDecided}
 use Rattle.command_promises.specs.Sayings.{tells, usage}
 use Rattle.command_promises.specs.Commands.{IsFit, IsDecidedCommand}
 use Rattle.command_promises.proofs.Leading.{one_saying}
@@ -22,7 +22,7 @@ use Rattle.command_projects.specs.Projects.{WithFiles, Unless}
 use Rattle.command_projects.proofs.Decided.{ProjectLaws, alike_back, names_alike, project_decided, fits_agree, files_agree, unless_agree, project_says, fit_says, files_say, unless_says}
 use Rattle.command_tokens.specs.Words.{UnitQuery, Asks}
 use Rattle.command_tokens.specs.Tokens.{NumberedUnit, FitsProject, not_present, not_preprocessed, prints, OfSources, OfUnit, OfProject, tokens}
-use Rattle.command_tokens.proofs.Units.{SameUnit, fit_alike, same_unit, same_sources_of}
+use Rattle.command_tokens.proofs.Units.{fit_alike, same_unit, same_sources_of}
 
 one_query : (further : List (List ℕ)) (p q : UnitQuery) → Asks further p → Asks further q → p ≡ q
 one_query further p q a b =

@@ -1,5 +1,5 @@
 -- Models of what the code holds: no part of what the command means.
-use Rattle.std.specs.Prelude.{◌≡◌, ℕ, ◌<◌, List, length, map}
+use Rattle.std.specs.Prelude.{◌≡◌, ℕ, ◌<◌, length, map}
 use Rattle.cond_formula.specs.Features.{has}
 use Rattle.project_file.specs.Projects.{PlainProject}
 use Rattle.project_file.specs.View.{unit_view}

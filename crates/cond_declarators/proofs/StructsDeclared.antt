@@ -14,7 +14,7 @@ use Rattle.conditional.specs.Judgements.{Checked, fine, refused, Shows, Judges}
 use Rattle.conditional.specs.declared.outcomes.Outcomes.{Outcomes}
 use Rattle.conditional.proofs.JudgementLaws.{weaken}
 use Rattle.core_meaning.specs.Checking as judging
-use Rattle.core_meaning.specs.Checking.{with_bindings, ◌>>=◌, or_broken, give}
+use Rattle.core_meaning.specs.Checking.{◌>>=◌, or_broken, give}
 use Rattle.core_meaning.specs.Entities.{with_entry, Scope}
 use Rattle.core_meaning.specs.Entities as entities
 use Rattle.core_meaning.specs.Expressions.{has_terminal, arithmetic_words}

@@ -5,7 +5,7 @@ use Rattle.std.specs.declared.alloc.Global.{Global}
 use Rattle.std.proofs.Math.Bool.{and_assoc, or_assoc, or_comm, and-true}
 use Rattle.cond_formula.specs.declared.formulas.Formula.{Formula, And}
 use Rattle.cond_formula.specs.Conditions.{Condition, condition_of, conditions, conditions_of, value, all_true, any_true}
-use Rattle.cond_formula.specs.ConditionLaws.{formula_kinds, condition_of-True, condition_of-And, condition_of-Or}
+use Rattle.cond_formula.specs.ConditionLaws.{formula_kinds, condition_of-And}
 
 pub all_one : (on : ℕ → Bool) (f : Formula) (fs : List Formula) → fs ≡ f ∷ [] → all_true on (conditions_of fs) ≡ value on (condition_of f)
 all_one on f fs is = ap (λ (l : List Formula). all_true on (conditions_of l)) is ∙ and-true (value on (condition_of f))

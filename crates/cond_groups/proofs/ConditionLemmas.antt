@@ -9,7 +9,7 @@ use Rattle.c_text.specs.Directives.{PlainDirective, ifdef_line, ifndef_line, els
 use Rattle.c_text.specs.Macros.{Table, Replaced, fine, bad_call, replaced}
 use Rattle.c_text.specs.Expressions.{HasValue}
 use Rattle.c_text.specs.Preprocessing as spec
-use Rattle.c_text.specs.Preprocessing.{Refusal, holds, fails, by_value, by_replaced, by_tests, unless_fails, refused_token, refused_ignored, tests_replaced}
+use Rattle.c_text.specs.Preprocessing.{Refusal, by_value, by_replaced, by_tests, unless_fails, refused_token, refused_ignored, tests_replaced}
 use Rattle.pp_lines.specs.declared.expressions.Value.{Value}
 use Rattle.pp_lines.specs.declared.expressions.Value.TheVariants.{Number, Refused}
 use Rattle.cond_macros.specs.Outcomes.{is_bad_call, tokens_of}

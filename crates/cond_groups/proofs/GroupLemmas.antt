@@ -1,5 +1,5 @@
 -- The open groups of a configuration, and what lines make of them.
-use Rattle.std.proofs.Common.{◌≡◌, ℕ, Bool, true, false, List, [], ◌∷◌, map, drop, IsTrue, Option, Some, None, refl, sym, ap, ◌∙◌, subst}
+use Rattle.std.proofs.Common.{◌≡◌, ℕ, Bool, true, false, List, [], ◌∷◌, map, drop, IsTrue, Option, Some, None, refl, sym, ap, ◌∙◌}
 use Rattle.std.specs.Prelude.{if◌then◌else◌, ◌&&◌, not, is_some}
 use Rattle.std.proofs.lemmas.Bool.{false≢true}
 use Rattle.std.proofs.lemmas.List.Elements.{All-cons}
@@ -8,7 +8,7 @@ use Rattle.c_text.specs.Token.{PlainToken}
 use Rattle.c_text.specs.Lines.{PlainLine}
 use Rattle.c_text.specs.Macros.{Table}
 use Rattle.c_text.specs.Preprocessing as spec
-use Rattle.c_text.specs.Preprocessing.{Reading, Flow, Setting, on, refused, Refusal, holds, fails, by_condition, unless, then_read, refused_ignored}
+use Rattle.c_text.specs.Preprocessing.{Reading, Flow, Setting, on, Refusal, holds, fails, by_condition, unless, refused_ignored}
 use Rattle.file_walks.specs.Walk.{Walk, Open, reads, waits, passed, skipped, are_read, group_read, branch_read}
 use Rattle.cond_readings.specs.Readings.{unless_refused, came_to, taken}
 use Rattle.cond_groups.specs.Truths.{came_out}

@@ -11,7 +11,7 @@ use Rattle.core_meaning.specs.Checking.{refused, give}
 use Rattle.core_meaning.specs.Entities.{Struct}
 use Rattle.core_meaning.specs.Typing.{Designation, value, object, Operand, Typed, typed, loaded_from, is_complete, is_struct, is_pointer, same_type, integer_type, number_in_type, fits_into}
 use Rattle.core_meaning.specs.Constancy as constancy
-use Rattle.core_meaning.specs.Constancy.{constant_value, value_if_constant, address_scalar, first_scalar, is_allowed, Initial}
+use Rattle.core_meaning.specs.Constancy.{constant_value, value_if_constant, address_scalar, first_scalar}
 use Rattle.cond_initialisers.specs.declared.forms.Form.{Form}
 use Rattle.cond_initialisers.specs.declared.forms.Form.TheVariants.{Address, Other}
 use Rattle.cond_initialisers.specs.Constants.{is_array, gives_address}

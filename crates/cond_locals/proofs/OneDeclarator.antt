@@ -1,5 +1,5 @@
 -- What comes of one declarator: by its types, and by its name.
-use Rattle.std.proofs.Common.{◌≡◌, ℕ, Bool, true, false, not, ◌&&◌, ◌||◌, List, refl, sym, ap, ap₂, ◌∙◌, subst}
+use Rattle.std.proofs.Common.{◌≡◌, ℕ, Bool, true, false, not, ◌&&◌, ◌||◌, List, refl, sym, ap, ◌∙◌, subst}
 use Rattle.std.specs.Prelude.{Option, Some, is_some}
 use Rattle.conditional.specs.Entries.{alternatives, Stands}
 use Rattle.conditional.specs.Judgements as judgements

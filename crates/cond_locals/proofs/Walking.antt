@@ -1,18 +1,14 @@
 -- A list of declarators is gone through as it is judged.
-use Rattle.std.proofs.Common.{◌≡◌, ℕ, ◌+◌, ◌<◌, ◌≤◌, Bool, true, false, ◌||◌, List, [], ◌∷◌, drop, length, get_or, map, refl, sym, ap, ◌∙◌, subst, if◌then◌else◌}
+use Rattle.std.proofs.Common.{◌≡◌, ℕ, Bool, true, false, ◌||◌, List, [], ◌∷◌, refl, sym, ap, ◌∙◌, subst, if◌then◌else◌}
 use Rattle.std.specs.Prelude.{⊤}
 use Rattle.std.proofs.lemmas.Bool.{false≢true}
-use Rattle.std.proofs.lemmas.List.{drop_all}
-use Rattle.cond_formula.specs.Conditions.{value}
-use Rattle.conditional.specs.Entries.{Entry, seen}
 use Rattle.conditional.specs.Judgements as judgements
 use Rattle.conditional.specs.declared.outcomes.Outcomes.{Outcomes}
-use Rattle.conditional.proofs.ListLaws.{item_of}
 use Rattle.c_types.specs.Types.{PlainType}
 use Rattle.c_tree.specs.Trees.{PlainTrees}
 use Rattle.c_tree.specs.Grammar.{Role, local}
 use Rattle.tree_derivations.specs.Derivations as derivations
-use Rattle.tree_derivations.specs.Derivations.{Derivation, last_plain, last_initialised, next_plain, next_initialised}
+use Rattle.tree_derivations.specs.Derivations.{last_plain, last_initialised, next_plain, next_initialised}
 use Rattle.core_meaning.specs.Checking.{Checked, fine, refused, broken, ◌>>=◌, give}
 use Rattle.core_meaning.specs.Entities.{Struct, Scope}
 use Rattle.core_meaning.specs.Declarations.{Locals, one_local, locals_from}

@@ -9,16 +9,16 @@ use Rattle.conditional.specs.Entries.{under}
 use Rattle.c_text.specs.Preprocessing as spec
 use Rattle.c_text.specs.Token.{PlainToken, plain_token}
 use Rattle.c_text.specs.Lines.{PlainLine}
-use Rattle.c_text.specs.Preprocessing.{Reading, Flow, Setting, on, refused, then_read, read_run, by_condition, read_directive}
+use Rattle.c_text.specs.Preprocessing.{Reading, Flow, Setting, on, refused, then_read, read_run, read_directive}
 use Rattle.c_text.specs.Trees.{Role, role_of}
-use Rattle.file_walks.specs.Walk.{Walk, Open, flushed, are_read, text_read, end_of_file, reads, waits, group_read, branch_read, directive_read, by_role}
+use Rattle.file_walks.specs.Walk.{Walk, Open, flushed, are_read, text_read, end_of_file, branch_read, directive_read, by_role}
 use Rattle.cond_readings.specs.Readings.{unless_refused, came_to, taken}
 use Rattle.unit_files.specs.Settings.{entered}
 use Rattle.cond_readings.specs.TakenLaws.{taken-then, taken-off, taken-same, taken-refuses, with-none}
 use Rattle.cond_groups.specs.declared.groups.OpenGroups.{OpenGroups}
 use Rattle.cond_pp.specs.declared.walk.CondWalker.{CondWalker}
 use Rattle.cond_pp.specs.declared.walk.Inclusion.{Inclusion}
-use Rattle.cond_groups.specs.Groups.{PlainGroup, Fits, AllFit, open_at, level_at, read_in, innermost, left, groups_of}
+use Rattle.cond_groups.specs.Groups.{PlainGroup, Fits, AllFit, open_at, read_in, innermost, left, groups_of}
 use Rattle.cond_pp.specs.Walks.{IsFit, ahead, including, after_file}
 use Rattle.cond_groups.specs.GroupLaws.{read-is, read-inside}
 

@@ -1,5 +1,5 @@
 -- The selections of an expression of a forest where `on` says which features are on.
-use Rattle.std.specs.Prelude.{ℕ, Bool, List, [], ◌∷◌, if◌then◌else◌}
+use Rattle.std.specs.Prelude.{ℕ, List, [], ◌∷◌, if◌then◌else◌}
 use Rattle.c_text.specs.Token.{PlainToken, plain_token}
 use Rattle.c_tree.specs.Trees.{PlainTree}
 use Rattle.choice_trees.specs.Leaves.{Leaf}

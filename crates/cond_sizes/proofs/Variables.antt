@@ -15,7 +15,7 @@ use Rattle.core_meaning.specs.Checking.{Checked, refused, ◌>>=◌, give, unles
 use Rattle.core_meaning.specs.Entities.{Struct, Scope, entity_number}
 use Rattle.core_meaning.specs.Typing.{Operand, Typed, of_value, of_object, loaded, is_complete, is_pointer, fits_into}
 use Rattle.core_meaning.specs.Expressions as spec
-use Rattle.core_meaning.specs.Expressions.{Callee, callee, judged, judged_arguments, count_entries}
+use Rattle.core_meaning.specs.Expressions.{Callee, judged_arguments, count_entries}
 use Rattle.core_meaning.specs.Constancy.{is_constant}
 use Rattle.cond_sizes.proofs.Constants.{has_constant, constant_operand, leads_nowhere, none_of_both}
 

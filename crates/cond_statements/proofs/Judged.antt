@@ -8,7 +8,7 @@ use Rattle.c_tree.specs.declared.kinds.Kind.TheVariants as k
 use Rattle.c_tree.specs.Trees.{PlainTree}
 use Rattle.core_meaning.specs.declared.refusals.TypeKind.{TypeKind}
 use Rattle.core_meaning.specs.declared.refusals.TypeKind.TheVariants.{Misplaced, BadOperand}
-use Rattle.core_meaning.specs.Checking.{Binding, with_bindings, ◌>>=◌, give, unless_so, found_or}
+use Rattle.core_meaning.specs.Checking.{Binding, with_bindings, ◌>>=◌, unless_so, found_or}
 use Rattle.core_meaning.specs.Checking as judged
 use Rattle.core_meaning.specs.Entities.{Scope}
 use Rattle.core_meaning.specs.Program.{PlainExpression}

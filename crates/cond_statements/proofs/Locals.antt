@@ -1,8 +1,7 @@
 -- Tables of which only the locals change.
-use Rattle.std.proofs.Common.{◌≡◌, ℕ, ◌+◌, Bool, List, [], length, reverse, refl, sym, ap, ◌∙◌, append-nil, add-one}
-use Rattle.type_tables.specs.declared.entries.LocalName.{LocalName}
+use Rattle.std.proofs.Common.{◌≡◌, ℕ, ◌+◌, Bool, [], length, sym, ap, ◌∙◌, append-nil, add-one}
 use Rattle.type_tables.specs.declared.tables.Tables.{Tables}
-use Rattle.type_tables.specs.Seen.{seen_tables, locals_in}
+use Rattle.type_tables.specs.Seen.{seen_tables}
 use Rattle.type_tables.specs.Steps.{entered}
 use Rattle.type_tables.specs.Blocks.{KeepsOutside}
 use Rattle.type_tables.specs.Blocks.{OnlyLocals}

@@ -1,11 +1,11 @@
 -- What is declared of an item by the trees that stand at its places.
-use Rattle.std.proofs.Common.{◌≡◌, inl, inr, ℕ, Bool, true, false, List, refl, sym, ap, ◌∙◌, subst}
-use Rattle.std.specs.Prelude.{◌⊎◌, Option, Some, None, ⊤}
+use Rattle.std.proofs.Common.{◌≡◌, inl, inr, ℕ, Bool, true, false, refl, sym, ap, ◌∙◌, subst}
+use Rattle.std.specs.Prelude.{Some, None, ⊤}
 use Rattle.c_text.specs.Token.{PlainToken}
 use Rattle.c_tree.specs.declared.kinds.Kind.{Kind}
 use Rattle.c_tree.specs.declared.kinds.Kind.TheVariants as k
 use Rattle.c_tree.specs.Trees.{PlainTree, PlainTrees, leaf, node, none, more}
-use Rattle.c_tree.specs.Grammar.{Category, tag, member, file_item, file_specifiers, file_first, block, belongs}
+use Rattle.c_tree.specs.Grammar.{Category, tag, member, file_item, file_first, belongs}
 use Rattle.tree_derivations.specs.Derivations.{Derivation, single, made_of, Each}
 use Rattle.tree_derivations.specs.Derivations as derivations
 use Rattle.choice_trees.specs.ChoiceTrees.{no_statement}
@@ -17,8 +17,7 @@ use Rattle.type_tables.specs.Numbers.{FollowsBy}
 use Rattle.cond_structs.specs.Standing.{parts_of, DefinesStruct}
 use Rattle.cond_units.specs.Seen.{SeenUnit}
 use Rattle.cond_units.specs.Declaring.{IsUnit}
-use Rattle.cond_units.specs.Where.{Stays, Where}
-use Rattle.cond_units.specs.Names.{storage_in}
+use Rattle.cond_units.specs.Where.{Where}
 use Rattle.cond_units.specs.Items.{ItemGoesOn, DeclaresItem, declaration_of, words_alone}
 use Rattle.cond_units.specs.Units.{one_item}
 use Rattle.cond_units.specs.Functions.{IsFunctionDeclarator, of_function}

@@ -1,5 +1,5 @@
 -- The parts of a unit's items, by their derivations.
-use Rattle.std.proofs.Common.{◌≡◌, Bool, true, false, IsTrue, refl, ap}
+use Rattle.std.proofs.Common.{◌≡◌, true, false, IsTrue, refl, ap}
 use Rattle.std.proofs.lemmas.Bool.{false≢true}
 use Rattle.c_tree.specs.declared.kinds.Kind.TheVariants as k
 use Rattle.c_tree.specs.Trees.{PlainTree, PlainTrees, leaf, node, none, more}

@@ -1,18 +1,15 @@
 -- What is known behind the definition of a struct is what is known of the unit.
-use Rattle.std.proofs.Common.{◌≡◌, ℕ, Bool, true, false, not, List, [], ◌∷◌, refl, sym, ap, ◌∙◌, subst}
+use Rattle.std.proofs.Common.{◌≡◌, ℕ, Bool, true, not, [], refl, sym, ap, ◌∙◌, subst}
 use Rattle.c_tree.specs.declared.kinds.Kind.TheVariants as k
-use Rattle.c_tree.specs.Trees.{PlainTree, PlainTrees, leaf, node, none, more}
+use Rattle.c_tree.specs.Trees.{PlainTrees, node, none, more}
 use Rattle.core_meaning.specs.declared.refusals.TypeKind.TheVariants.{Redeclared}
-use Rattle.core_meaning.specs.Checking.{Binding, Checked, fine, refused, broken, ◌>>=◌, unless_so, or_broken}
-use Rattle.core_meaning.specs.Entities.{no_entry, Struct, Scope}
+use Rattle.core_meaning.specs.Checking.{Checked, fine, refused, broken, ◌>>=◌, unless_so, or_broken}
+use Rattle.core_meaning.specs.Entities.{no_entry, Scope}
 use Rattle.core_meaning.specs.Declarations.{name_in, Based, based}
 use Rattle.core_meaning.specs.UnitNames.{Members, AllMembers, UnitState, members_from, all_members, is_defined_tag, number_of_struct, defined_struct}
-use Rattle.type_tables.specs.Tables.{Tables}
-use Rattle.type_tables.specs.Follows.{Follows}
-use Rattle.type_tables.specs.Numbers.{NumbersKept, FollowsBy}
-use Rattle.cond_declarators.specs.Types.{based_in}
+use Rattle.type_tables.specs.Numbers.{NumbersKept}
 use Rattle.cond_declarators.proofs.There.{Whole}
-use Rattle.cond_structs.specs.Standing.{IsDefined, DefinesStruct}
+use Rattle.cond_structs.specs.Standing.{DefinesStruct}
 use Rattle.cond_units.specs.Seen.{SeenUnit}
 use Rattle.type_tables.specs.Definitions.{plain_definitions}
 use Rattle.cond_units.specs.Declaring.{IsUnit}

@@ -1,11 +1,8 @@
 -- What units are by their types, as a configuration sees it (ISO/IEC 9899:2011, 6.2.2, 6.7, 6.9).
-use Rattle.std.specs.Prelude.{◌≡◌, ℕ, Bool, true, false, List, [], ◌∷◌, filter, Some, slice_get, if◌then◌else◌}
+use Rattle.std.specs.Prelude.{◌≡◌, ℕ, Bool, true, false, List, [], filter, Some, slice_get}
 use Rattle.std.specs.List.{AllZip}
 use Rattle.cond_formula.specs.Conditions.{condition_of, value}
 use Rattle.conditional.specs.Entries.{seen, listed}
-use Rattle.c_tree.specs.Trees.{PlainTree}
-use Rattle.choice_trees.specs.declared.trees.Forest.{Forest}
-use Rattle.choice_trees.specs.ChoiceTrees.{forest_at}
 use Rattle.project_file.specs.declared.projects.Unit.{Unit}
 use Rattle.core_meaning.specs.Checking.{Checked, fine}
 use Rattle.core_meaning.specs.Entities.{Struct}

@@ -9,7 +9,7 @@ use Rattle.core_meaning.specs.Typing.{is_complete}
 use Rattle.core_meaning.specs.UnitNames as spec
 use Rattle.core_meaning.specs.UnitNames.{Storage, by_static, by_extern, by_none, is_completed_in, struct_is_completed}
 use Rattle.operand_types.specs.OperandTypes.{renumbered}
-use Rattle.type_tables.specs.Tables.{Tables, is_complete_type}
+use Rattle.type_tables.specs.Tables.{Tables}
 use Rattle.type_tables.specs.Follows.{IsThere, Follows}
 use Rattle.type_tables.proofs.ScalarLaws.{small_same}
 use Rattle.cond_declarators.proofs.DeclaratorTypes.{complete_followed}

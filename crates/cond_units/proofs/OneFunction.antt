@@ -1,13 +1,13 @@
 -- The declaration of a function behind one type, by what the tables say before and behind it.
-use Rattle.std.proofs.Common.{arith, ◌≡◌, ℕ, zero, suc, Bool, true, false, not, ◌||◌, ◌&&◌, List, [], ◌∷◌, refl, sym, ap, ap₂, ◌∙◌, subst}
+use Rattle.std.proofs.Common.{arith, ◌≡◌, ℕ, Bool, true, false, not, ◌||◌, ◌&&◌, List, [], ◌∷◌, refl, sym, ap, ap₂, ◌∙◌, subst}
 use Rattle.std.specs.Prelude.{◌<◌, Some, if◌then◌else◌}
 use Rattle.std.proofs.lemmas.Bool.{false≢true, eq-eqb}
 use Rattle.c_text.specs.Token.{PlainToken}
-use Rattle.c_types.specs.Types.{PlainType, pointer_to}
+use Rattle.c_types.specs.Types.{PlainType}
 use Rattle.c_tree.specs.Trees.{PlainTree}
 use Rattle.core_meaning.specs.declared.refusals.TypeKind.TheVariants.{Redeclared, BadOperand}
 use Rattle.core_meaning.specs.Checking.{Binding, file_entity, Checked, fine, refused, broken, with_bindings, ◌>>=◌, give, unless_so}
-use Rattle.core_meaning.specs.Entities.{Struct, Signature, Scope, function}
+use Rattle.core_meaning.specs.Entities.{Signature, Scope, function}
 use Rattle.core_meaning.specs.Declarations.{pointers, Parameter, parameters_of}
 use Rattle.core_meaning.specs.UnitNames.{Storage, UnitState, with_name, with_scope, may_be_function, signature_of}
 use Rattle.operand_types.specs.OperandTypes.{renumbered}

@@ -1,6 +1,5 @@
 -- What is seen of a unit stays true, and what is declared behind a type is still declared then.
 use Rattle.std.proofs.Common.{ℕ, Bool, List}
-use Rattle.c_types.specs.Types.{PlainType}
 use Rattle.conditional.specs.declared.outcomes.Outcomes.{Outcomes}
 use Rattle.conditional_steps.proofs.Alternatives.{Lasts, IsStable}
 use Rattle.core_meaning.specs.Checking.{Checked, fine, refused, broken}

@@ -8,7 +8,7 @@ use Rattle.c_types.specs.Types.{PlainType}
 use Rattle.c_tree.specs.Trees.{PlainTrees}
 use Rattle.c_tree.specs.Grammar.{Role}
 use Rattle.tree_derivations.specs.Derivations as derivations
-use Rattle.tree_derivations.specs.Derivations.{Derivation, last_plain, last_initialised, next_plain, next_initialised}
+use Rattle.tree_derivations.specs.Derivations.{last_plain, last_initialised, next_plain, next_initialised}
 use Rattle.core_meaning.specs.Checking.{Checked, fine, refused, broken}
 use Rattle.core_meaning.specs.Entities.{Struct}
 use Rattle.core_meaning.specs.UnitNames.{Storage, UnitState, declared_from}

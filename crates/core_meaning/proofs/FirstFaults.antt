@@ -1,16 +1,12 @@
 -- Units that don't link have a first fault: only so many names can have one.
-use Rattle.std.proofs.Common.{◌≡◌, ℕ, ◌+◌, ◌<◌, ◌≤◌, nat_le, Bool, true, false, not, ◌&&◌, ◌||◌, ◌==◌, List, [], ◌∷◌, ◌++◌, map, length, get_or, ⊎_elim, inl, inr, refl, sym, ap, subst, ◌∙◌, arith, IsTrue, zero, suc}
+use Rattle.std.proofs.Common.{◌≡◌, ℕ, ◌+◌, ◌<◌, ◌≤◌, nat_le, Bool, true, false, not, ◌&&◌, ◌||◌, ◌==◌, List, [], ◌∷◌, ◌++◌, map, length, get_or, ⊎_elim, inl, inr, refl, sym, subst, arith, IsTrue, zero, suc}
 use Rattle.std.specs.Prelude.{◌⊎◌, Option, Some, None, is_some, option_map, codes, if◌then◌else◌}
-use Rattle.std.specs.List.{list_any, Contains}
+use Rattle.std.specs.List.{list_any}
 use Rattle.std.specs.Str.{bytes_eq}
 use Rattle.std.specs.Cmp.Lexicographic.{bytes_decides}
 use Rattle.std.proofs.lemmas.Bool.{cases_Bool, or_cases, and_parts}
 use Rattle.std.proofs.lemmas.Bool.Decides.{nat_tests}
-use Rattle.c_tree.specs.declared.kinds.Kind.{Kind}
-use Rattle.c_tree.specs.declared.kinds.Kind.TheVariants as k
-use Rattle.c_tree.specs.declared.terminals.Terminal.TheVariants as t
-use Rattle.c_tree.specs.Grammar.{is_word}
-use Rattle.c_tree.specs.Trees.{PlainTree, PlainTrees, leaf, node, none, more}
+use Rattle.c_tree.specs.Trees.{PlainTree, none}
 use Rattle.c_text.specs.Token.{PlainToken}
 use Rattle.core_meaning.specs.declared.refusals.LinkKind.{LinkKind}
 use Rattle.core_meaning.specs.declared.refusals.LinkKind.TheVariants as link
@@ -19,8 +15,8 @@ use Rattle.core_meaning.specs.declared.program.BuiltIn.TheVariants.{Putchar, Get
 use Rattle.core_meaning.specs.Program.{PlainProgram}
 use Rattle.core_meaning.specs.Checking.{Entity, file_entity, local_entity, local_of_function, struct_entity, member_entity, own_entity, Binding, Checked, fine, refused, broken, ◌>>=◌, give}
 use Rattle.core_meaning.specs.Entities.{Struct, Sort, function, FileName, Numbers}
-use Rattle.core_meaning.specs.UnitNames.{Defined, UnitState, Storage, judged_unit}
-use Rattle.core_meaning.specs.Linking.{Unit, Units, is_use_of, uses_in, closed, judged_units, judged_program, IsFault, IsFirstFault, Links, link_number, is_lesser, is_internal, defines, count_whole, count_defined, count_external, count_in_unit, is_duplicate, built_in_named, built_in_signature, is_available, built_in_sort, external_sort, external_sorts, AreApart, program_of, IsElaborated, IsBadlyTyped, IsBadlyLinked, numbers_in, literals_of, no_numbers, listed}
+use Rattle.core_meaning.specs.UnitNames.{Defined, UnitState, judged_unit}
+use Rattle.core_meaning.specs.Linking.{Unit, Units, is_use_of, uses_in, closed, judged_units, judged_program, IsFault, IsFirstFault, Links, link_number, is_lesser, is_internal, defines, count_whole, count_defined, count_external, count_in_unit, is_duplicate, built_in_named, built_in_signature, is_available, built_in_sort, external_sort, external_sorts, program_of, IsElaborated, IsBadlyTyped, IsBadlyLinked, numbers_in, literals_of, no_numbers, listed}
 use Rattle.core_meaning.specs.Judgings.{NoUnitsAreLeftOut}
 use Rattle.core_meaning.proofs.NameOrder.{Among, among_left, among_right, lesser_trans, lesser_not_itself}
 use Rattle.core_meaning.proofs.Outlines.{bound, given_is, unit_supported}

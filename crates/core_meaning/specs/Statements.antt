@@ -1,5 +1,5 @@
 -- Statements and blocks (ISO/IEC 9899:2011, 6.8).
-use Rattle.std.specs.Prelude.{Bool, true, false, not, pos, List, [], ◌∷◌, None, if◌then◌else◌}
+use Rattle.std.specs.Prelude.{Bool, true, false, not, pos, List, [], ◌∷◌, if◌then◌else◌}
 use Rattle.std.specs.Str.{bytes_eq}
 use Rattle.std.specs.Prelude.{codes}
 use Rattle.c_text.specs.Token.{PlainToken}

@@ -4,7 +4,7 @@ use Rattle.std.proofs.Math.Dec.{eqb-suc-zero, eqb-zero-suc, eqb-suc-suc}
 use Rattle.std.proofs.lemmas.List.{reverse-reverse, map-set, length-map, length-set}
 use Rattle.c_types.specs.Types.{PlainType}
 use Rattle.core_meaning.specs.Values as plain
-use Rattle.core_meaning.specs.Values.{Path, Cells, whole, scalar, at, is_inside}
+use Rattle.core_meaning.specs.Values.{Path, Cells, whole, scalar, at}
 use Rattle.core_meaning.specs.Memory.{Object, Memory, is_there, with_object, written_at, cells_with}
 use Rattle.core_meaning.specs.Run.{memory_of, no_object}
 use Rattle.core_memory.specs.declared.memory.Object as code

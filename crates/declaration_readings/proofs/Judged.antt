@@ -1,6 +1,6 @@
 -- Locals, members and names of file scope are judged declarator by declarator.
-use Rattle.std.proofs.Common.{◌≡◌, ℕ, Bool, true, false, List, [], ◌∷◌, ◌++◌, IsTrue, refl, sym, ap, ◌∙◌, if◌then◌else◌}
-use Rattle.std.specs.Prelude.{Option, Some, None}
+use Rattle.std.proofs.Common.{◌≡◌, ℕ, true, false, List, [], ◌∷◌, ◌++◌, refl, ap, ◌∙◌, if◌then◌else◌}
+use Rattle.std.specs.Prelude.{Some, None}
 use Rattle.std.proofs.lemmas.Bool.{false≢true}
 use Rattle.c_text.specs.Token.{PlainToken}
 use Rattle.c_types.specs.Types.{PlainType}
@@ -11,9 +11,8 @@ use Rattle.c_tree.specs.Grammar.{Role, member_of, is_word}
 use Rattle.c_tree.proofs.TerminalCases.{one_of}
 use Rattle.tree_derivations.specs.Derivations.{IsWord}
 use Rattle.core_meaning.specs.Checking.{Binding, Checked, fine, refused, broken, with_bindings, ◌>>=◌, give}
-use Rattle.core_meaning.specs.Entities.{Scope}
 use Rattle.core_meaning.specs.Declarations.{Locals, LocalItem, with_items, one_local, locals_from}
-use Rattle.core_meaning.specs.UnitNames.{Storage, UnitState, declared_one, declared_from, Members, one_member, members_from}
+use Rattle.core_meaning.specs.UnitNames.{Storage, UnitState, declared_one, declared_from, members_from}
 use Rattle.declaration_readings.specs.Readings.{Going, after, Slots, slots_of, next_local, all_locals, next_member, next_name}
 use Rattle.declaration_readings.specs.Laws.{LocalsAreRead, MembersAreRead, NamesAreRead}
 use Rattle.declaration_readings.proofs.InTurn.{is_filled, IsInTurn, in_turn}

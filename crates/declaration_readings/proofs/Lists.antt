@@ -1,5 +1,5 @@
 -- The declarators of derived lists, and their initialisers.
-use Rattle.std.proofs.Common.{◌≡◌, Bool, true, false, List, [], ◌∷◌, refl, sym, ap, ap₂, ◌∙◌, if◌then◌else◌}
+use Rattle.std.proofs.Common.{◌≡◌, Bool, true, false, List, [], ◌∷◌, refl, ap, ap₂, ◌∙◌, if◌then◌else◌}
 use Rattle.std.specs.Prelude.{Option, Some, None}
 use Rattle.std.proofs.lemmas.Bool.{false≢true}
 use Rattle.c_text.specs.Token.{PlainToken}
@@ -7,7 +7,7 @@ use Rattle.c_tree.specs.declared.kinds.Kind.{Kind}
 use Rattle.c_tree.specs.declared.kinds.Kind.TheVariants as k
 use Rattle.c_tree.specs.declared.terminals.Terminal.TheVariants as t
 use Rattle.c_tree.specs.Terminals.{terminal, same}
-use Rattle.c_tree.specs.Trees.{PlainTree, PlainTrees, leaf, node, none, more}
+use Rattle.c_tree.specs.Trees.{PlainTree, PlainTrees, leaf, none, more}
 use Rattle.c_tree.specs.Grammar.{Role, declarator, initialiser, belongs}
 use Rattle.c_tree.proofs.TerminalCases.{one_of}
 use Rattle.tree_derivations.specs.Derivations.{Derivation, single, made_of, IsWord}

@@ -1,12 +1,12 @@
 -- How declarations go on declarator by declarator, so that a reader of all configurations at once, in which a declarator may be there or not, goes
 -- on in the same way (ISO/IEC 9899:2011, 6.7).
-use Rattle.std.specs.Prelude.{◌≡◌, Bool, true, false, ℕ, List, ◌∷◌, []}
+use Rattle.std.specs.Prelude.{◌≡◌, Bool, true, false, ℕ, List, []}
 use Rattle.c_types.specs.Types.{PlainType}
-use Rattle.c_tree.specs.Trees.{PlainTree, PlainTrees}
+use Rattle.c_tree.specs.Trees.{PlainTrees}
 use Rattle.core_meaning.specs.Checking.{Checked, fine, ◌>>=◌, give}
 use Rattle.core_meaning.specs.Entities.{Scope}
 use Rattle.core_meaning.specs.Declarations.{Locals, one_local, locals_from}
-use Rattle.core_meaning.specs.UnitNames.{Storage, UnitState, declared_one, declared_from, Members, one_member, members_from}
+use Rattle.core_meaning.specs.UnitNames.{Storage, UnitState, declared_one, Members, one_member}
 use Rattle.choice_expansions.specs.Steps.{after_each}
 use Rattle.declarator_lists.specs.Lists.{Declared, declared_in, trees_of}
 

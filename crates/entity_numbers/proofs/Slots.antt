@@ -12,7 +12,7 @@ use Rattle.c_tree.specs.declared.terminals.Terminal.TheVariants as t
 use Rattle.c_tree.specs.Trees.{PlainTree, PlainTrees, leaf, node, none, more}
 use Rattle.c_tree.specs.Grammar.{is_word}
 use Rattle.core_meaning.specs.declared.refusals.TypeKind.TheVariants.{Redeclared, Misplaced}
-use Rattle.core_meaning.specs.Program.{PlainExpression, PlainStatement, PlainPart}
+use Rattle.core_meaning.specs.Program.{PlainExpression, PlainStatement}
 use Rattle.core_meaning.specs.Program as core
 use Rattle.core_meaning.specs.Checking.{Entity, local_entity, file_entity, struct_entity, member_entity, Binding, Checked, fine, refused, broken, with_bindings, ◌>>=◌, give, unless_so, or_broken, declares}
 use Rattle.core_meaning.specs.Entities.{Table, no_entry, Struct, Local, FileName, Scope, local_in, or_else}

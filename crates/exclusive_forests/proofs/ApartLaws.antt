@@ -6,7 +6,7 @@ use Rattle.cond_formula.specs.Conditions.{condition_of, value}
 use Rattle.c_text.specs.Token.{PlainToken}
 use Rattle.c_tree.specs.declared.kinds.Kind.{Kind}
 use Rattle.c_tree.specs.declared.kinds.Kind.TheVariants.{Unit}
-use Rattle.c_tree.specs.Trees.{PlainTree, PlainTrees, node}
+use Rattle.c_tree.specs.Trees.{PlainTree, node}
 use Rattle.choice_trees.specs.declared.trees.Choice.{Choice}
 use Rattle.choice_trees.specs.declared.trees.Item.{Item}
 use Rattle.choice_trees.specs.declared.trees.Forest.{Forest}

@@ -12,7 +12,7 @@ use Rattle.core_meaning.specs.Checking.{Checked, fine, refused, broken, â—Œ>>=â—
 use Rattle.core_meaning.specs.Entities.{Signature, Scope}
 use Rattle.core_meaning.specs.Typing.{Operand, loaded, is_complete}
 use Rattle.core_meaning.specs.Expressions as spec
-use Rattle.core_meaning.specs.Expressions.{Callee, judged, judged_arguments, callee, count_entries, first_token}
+use Rattle.core_meaning.specs.Expressions.{Callee, judged, judged_arguments}
 use Rattle.conditional.specs.Judgements as seen
 use Rattle.conditional.specs.Judgements.{bind}
 use Rattle.choice_trees.specs.ChoiceTrees.{semicolon}

@@ -1,6 +1,6 @@
 -- What is read of an expression is what it is judged to be.
 use Rattle.std.proofs.Common.{◌≡◌, ℕ, ◌+◌, Bool, true, false, List, [], refl, sym, ap, subst, ◌∙◌, length}
-use Rattle.std.specs.Prelude.{IsTrue, ◌&&◌, ◌||◌, ◌==◌, codes, map, Option, Some, None, option_map, slice_get, if◌then◌else◌}
+use Rattle.std.specs.Prelude.{codes, Option, Some, None, option_map, slice_get, if◌then◌else◌}
 use Rattle.std.specs.Str.{bytes_eq}
 use Rattle.std.proofs.lemmas.Bool.{false≢true}
 use Rattle.c_text.specs.Token.{PlainToken}
@@ -17,17 +17,17 @@ use Rattle.core_meaning.specs.Checking.{Checked, ◌>>=◌, give, unless_so, fou
 use Rattle.core_meaning.specs.Entities.{Struct, Local, Sort, variable, function, FileName, Scope, local_in, entity_number}
 use Rattle.core_meaning.specs.Typing.{Operand, Typed, of_object, of_value, loaded, Designation, value, object, is_complete_struct}
 use Rattle.core_meaning.specs.Expressions as spec
-use Rattle.core_meaning.specs.Expressions.{Callee, judged, judged_arguments, callee}
+use Rattle.core_meaning.specs.Expressions.{Callee, judged, callee}
 use Rattle.conditional.specs.Judgements as seen
 use Rattle.conditional.specs.Judgements.{bind}
 use Rattle.choice_trees.specs.ChoiceTrees.{semicolon}
-use Rattle.operand_types.specs.OperandTypes.{OperandType, Category, rvalue, lvalue, struct_in, is_known_complete, renumbered, category_of, type_of_operand, type_of_value, structs_for}
+use Rattle.operand_types.specs.OperandTypes.{OperandType, lvalue, struct_in, is_known_complete, renumbered, category_of, type_of_operand, type_of_value}
 use Rattle.operand_types.specs.Operators.{same_number, loaded_type}
 use Rattle.operand_types.specs.Laws.{OperatorsKeepTypes}
 use Rattle.operand_types.proofs.Renumbered.{integer_no_struct, kept}
-use Rattle.expression_types.specs.Known.{Callable, Denoted, Known, object_type, callable, denoted_of, numbered_member, IsKnown}
+use Rattle.expression_types.specs.Known.{Callable, Known, object_type, callable, denoted_of, numbered_member, IsKnown}
 use Rattle.expression_types.specs.Reading as reading
-use Rattle.expression_types.specs.Reading.{Read, read_expression}
+use Rattle.expression_types.specs.Reading.{read_expression}
 use Rattle.expression_types.proofs.Sees.{SeesAs, sees_then, sees_from}
 use Rattle.expression_types.proofs.Numbers.{NullIsNumber, NullValueIsNumber, number_is, loads_number}
 

@@ -14,7 +14,7 @@ use Rattle.c_tree.proofs.TerminalCases.{one_of, EachOf}
 use Rattle.tree_derivations.specs.Derivations.{Derivation, single, made_of, IsWord}
 use Rattle.expression_types.specs.Known.{Known}
 use Rattle.expression_types.specs.Reading as reading
-use Rattle.expression_types.specs.Reading.{Read, Parts, is_operand, is_selected, with_operand, with_sign, with_leaf, with_node, nothing_read, read_parts, read_expression}
+use Rattle.expression_types.specs.Reading.{Parts, is_operand, is_selected, with_operand, with_sign, with_node, nothing_read, read_parts, read_expression}
 
 -- words of other terminals are no operands
 pub no_operand : (ts : List Terminal) (token : PlainToken) → EachOf (λ x. is_one_of (t.Name ∷ t.Number ∷ t.Character ∷ []) x ≡ false) ts → IsWord ts token → is_operand token ≡ false

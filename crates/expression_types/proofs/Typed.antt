@@ -17,7 +17,7 @@ use Rattle.core_meaning.specs.Checking.{Checked, fine, refused, broken, â—Œ>>=â—
 use Rattle.core_meaning.specs.Entities.{Scope}
 use Rattle.core_meaning.specs.Typing.{Operand, Typed, loaded}
 use Rattle.core_meaning.specs.Expressions as spec
-use Rattle.core_meaning.specs.Expressions.{Callee, judged, judged_arguments, callee, count_entries, first_token}
+use Rattle.core_meaning.specs.Expressions.{judged, judged_arguments, callee, count_entries, first_token}
 use Rattle.tree_derivations.specs.Derivations.{Derivation, single, made_of, a_row, some_texts, with_commas, at_end, a_word, a_part, left_out, given, Separated, last_one, next_one, IsWord}
 use Rattle.conditional.specs.Judgements as seen
 use Rattle.conditional.specs.Judgements.{bind}
@@ -28,7 +28,7 @@ use Rattle.operand_types.specs.Operators.{loaded_type}
 use Rattle.operand_types.specs.Laws.{OperatorsKeepTypes}
 use Rattle.expression_types.specs.Known.{Known, IsKnown}
 use Rattle.expression_types.specs.Reading as reading
-use Rattle.expression_types.specs.Reading.{Read, Parts, is_operand, is_selected, with_operand, with_sign, nothing_read, read_parts, read_expression}
+use Rattle.expression_types.specs.Reading.{Read, Parts, is_selected, with_operand, with_sign, nothing_read, read_parts, read_expression}
 use Rattle.expression_types.proofs.Sees.{SeesAs, sees_then, sees_from, bind_assoc, sees_with, sees_without, never_fine, Comes, comes_then}
 use Rattle.expression_types.proofs.Numbers as number
 use Rattle.expression_types.proofs.Numbers.{NullIsNumber, NullValueIsNumber, loads_number}

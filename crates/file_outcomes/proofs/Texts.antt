@@ -13,7 +13,7 @@ use Rattle.c_names.specs.Names.{is_new_name}
 use Rattle.project_file.specs.Contents.{UnitText, Contents, texts_of}
 use Rattle.project_file.specs.Texts.{Spell, IsConstraintOver, IsLawful, IsPresence, IsModelOf}
 use Rattle.project_file.specs.Projects.{PlainUnit, PlainProject, AreUnits, AreFeatureNames, IsProjectOf}
-use Rattle.file_outcomes.proofs.Strings.{MayBeString, HaveStrings, strings_with}
+use Rattle.file_outcomes.proofs.Strings.{MayBeString, strings_with}
 use Rattle.file_outcomes.proofs.Ascii.{name-utf8, constraint-may}
 use Rattle.file_outcomes.proofs.Formulas.{condition_for, condition_below, says, all_for, admits}
 

@@ -6,7 +6,7 @@ use Rattle.std.proofs.lemmas.Bool.{false≢true}
 use Rattle.c_types.specs.Types.{PlainType, void, char, int, pointer_to}
 use Rattle.c_types.specs.Tags.{PlainTag}
 use Rattle.c_types.specs.Compatible.{Compatible, Agree}
-use Rattle.core_meaning.specs.Entities.{Struct, Signature, Sort, variable, function, tags_of}
+use Rattle.core_meaning.specs.Entities.{Struct, Sort, function, tags_of}
 use Rattle.core_meaning.specs.Entities as scopes
 use Rattle.core_meaning.specs.Linking.{Unit, Units, SortsAgree, external_sort, external_sorts, built_in_sort, built_in_named, built_in_signature, AreApart}
 use Rattle.core_meaning.specs.declared.program.BuiltIn.{BuiltIn}

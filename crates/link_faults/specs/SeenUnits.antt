@@ -4,7 +4,7 @@ use Rattle.std.specs.List.{list_any, AllZip}
 use Rattle.std.specs.Str.{bytes_eq}
 use Rattle.cond_formula.specs.Conditions.{condition_of, value}
 use Rattle.conditional.specs.Entries.{seen, listed}
-use Rattle.core_meaning.specs.Entities.{Table, Struct, Signature}
+use Rattle.core_meaning.specs.Entities.{Struct, Signature}
 use Rattle.core_meaning.specs.Entities as scopes
 use Rattle.core_meaning.specs.UnitNames.{Body, object_body, tentative_body, Defined}
 use Rattle.core_meaning.specs.Linking.{Unit, Units, is_available}

@@ -1,5 +1,5 @@
 -- Expressions and initialisers bind as many identifiers as they have.
-use Rattle.std.proofs.Common.{◌≡◌, ℕ, true, List, [], refl, sym, ap, subst, ◌∙◌, length, append-nil}
+use Rattle.std.proofs.Common.{ℕ, List, [], refl, sym, ap, ◌∙◌, length, append-nil}
 use Rattle.std.specs.Prelude.{map, Option, Some, None, slice_get}
 use Rattle.std.proofs.lemmas.List.{length-map}
 use Rattle.c_text.specs.Token.{PlainToken}

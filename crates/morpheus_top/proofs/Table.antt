@@ -1,5 +1,5 @@
 -- The commands have different words, and their statuses are among those of the program.
-use Rattle.std.proofs.Common.{◌≡◌, ◌≢◌, inl, subst, ℕ, zero, suc, ◌<◌, List, [], ◌∷◌, Option, Some, None, refl, sym, ◌∙◌, ap, arith, codes, if◌then◌else◌}
+use Rattle.std.proofs.Common.{◌≡◌, ◌≢◌, inl, subst, ℕ, zero, suc, List, [], Option, Some, None, refl, sym, ◌∙◌, ap, arith, codes, if◌then◌else◌}
 use Rattle.std.proofs.lemmas.List.Elements.{All-weaker}
 use Rattle.std.specs.List.{Contains}
 use Rattle.std.specs.Str.{bytes_eq}

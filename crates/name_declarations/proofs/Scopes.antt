@@ -13,7 +13,7 @@ use Rattle.core_meaning.specs.Entities as scopes
 use Rattle.core_meaning.specs.Entities.{Signature, Scope}
 use Rattle.core_meaning.specs.Typing.{same_type}
 use Rattle.core_meaning.specs.UnitNames as spec
-use Rattle.core_meaning.specs.UnitNames.{Storage, by_static, by_extern, by_none, same_sort, same_types, same_bool, linkage, visible_linkage}
+use Rattle.core_meaning.specs.UnitNames.{Storage, by_static, by_extern, by_none, same_sort, same_types, same_bool, linkage}
 use Rattle.operand_types.specs.OperandTypes.{renumbered}
 use Rattle.operand_types.specs.Laws.{KeepsApart}
 use Rattle.operand_types.proofs.Renumbered.{same_by}

@@ -34,7 +34,7 @@ use Rattle.name_spaces.proofs.Formed.{IsFormed, AreFormed, AreSpecifiers, AreDec
 use Rattle.name_spaces.proofs.Embeddings.{Spaces}
 use Rattle.name_spaces.proofs.Uses.{names, initial_uses, Worded}
 use Rattle.name_spaces.proofs.Listed as listed
-use Rattle.name_spaces.proofs.Listed.{spaces_at, part_is, part_count, parts_count, Anything, Lists, lists_give, lists_behind, lists_before, lists_never, lists_last, lists_uses, part_then, part_last, past, Turns, Named, name_at, NamedBefore, name_before, behind_at}
+use Rattle.name_spaces.proofs.Listed.{spaces_at, Anything, Lists, lists_give, lists_behind, lists_before, lists_uses, part_last, past, Turns, name_at, name_before}
 use Rattle.name_spaces.proofs.Blocks.{specifiers_list, parameters_list, IsGiven, names_given}
 use Rattle.name_spaces.proofs.Statements.{items_list}
 use Rattle.name_spaces.proofs.Walks.{Grown, grown_itself, entry_kept, entry_here, grown_worded, Leaves, Walks, walks_listed, Same, walks_inside, walks_then, walks_give, walks_behind, walks_before, walks_never, walks_if, quiet_then, unless_then, some_then, declares_walk, part_walks_then, walks_past, part_walks_last, valued_walks_then, valued_walks_last}

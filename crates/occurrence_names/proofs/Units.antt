@@ -7,14 +7,14 @@ use Rattle.std.proofs.lemmas.Option.{none-some}
 use Rattle.c_text.specs.Token.{PlainToken}
 use Rattle.c_tree.specs.declared.kinds.Kind.TheVariants as k
 use Rattle.c_tree.specs.Trees.{PlainTree, PlainTrees, leaf, node, none, more}
-use Rattle.c_tree.specs.Grammar.{file_item, file_specifiers, file_types, tag, members, member, declarator, declarators, file_first, defines_function, Role, tag_words, are_words_of}
-use Rattle.core_meaning.specs.Checking.{Entity, local_entity, local_of_function, file_entity, struct_entity, member_entity, Checked, ◌>>=◌, give, or_broken, in_function, fine, refused, broken}
+use Rattle.c_tree.specs.Grammar.{file_item, file_specifiers, file_types, tag, members, member, declarator, file_first, defines_function}
+use Rattle.core_meaning.specs.Checking.{local_entity, Checked, ◌>>=◌, give, or_broken, in_function, fine, refused, broken}
 use Rattle.core_meaning.specs.Entities.{Struct, Numbers}
 use Rattle.core_meaning.specs.Declarations.{name_in, Based, based}
 use Rattle.core_meaning.specs.UnitNames.{UnitState, storage_of, with_scope, declared_from, defined_function, defined_struct, count_functions, judged_item, judged_file_items, unit_start, too_big_in, unless_too_big, judged_unit}
 use Rattle.tree_derivations.specs.Derivations.{UnitsAreDerived, Derivation, single, made_of, a_row, at_end, a_word, a_part, some_words, one_or_more, Each, no_more, one_more, Declared, last_plain, last_initialised, next_plain, next_initialised}
 use Rattle.bindings.specs.Visible.{Reading, start, passed, leave}
-use Rattle.bindings.specs.Bindings.{is_name, at_file, read_words, read_declarators, read_declarator, read_closed_suffix, read_suffix, read_declaration, read_statement, read_members, read_item, read_items, read_unit, bindings_of, tag_text}
+use Rattle.bindings.specs.Bindings.{is_name, at_file, read_words, read_declarators, read_declarator, read_closed_suffix, read_suffix, read_statement, read_members, read_item, read_items, read_unit, bindings_of, tag_text}
 use Rattle.bindings.specs.Judged.{Identified}
 use Rattle.bindings.proofs.Follows.{adds_none, adds_both, Follows, follows_both, follows_as}
 use Rattle.bindings.proofs.Spellings.{Holds, AllHold}
@@ -22,7 +22,7 @@ use Rattle.bindings.proofs.Types.{Made}
 use Rattle.bindings.proofs.Related.{numbering, Related}
 use Rattle.bindings.proofs.Growing.{local_slots}
 use Rattle.bindings.proofs.Expressions.{After}
-use Rattle.bindings.proofs.Words.{WordForm, words_form, TagForm, tag_form, based_read, words_add}
+use Rattle.bindings.proofs.Words.{WordForm, words_form, TagForm, tag_form, based_read}
 use Rattle.bindings.proofs.Declarators.{Named, named_form}
 use Rattle.bindings.proofs.Additions.{suffix_adds, closed_suffix_adds, declarator_adds, declarators_add, statement_adds, items_add}
 use Rattle.bindings.proofs.Locals.{declarators_are}

@@ -18,7 +18,7 @@ use Rattle.core_meaning.specs.Checking.{give, found_or, or_broken, ◌>>=◌}
 use Rattle.core_meaning.specs.Entities.{Struct}
 use Rattle.core_meaning.specs.Typing.{promoted, rank, common, is_complete_struct, is_movable, is_pointer, is_struct, is_scalar_type, same_type, Operand, Typed, of_value, of_object}
 use Rattle.core_meaning.specs.Expressions as spec
-use Rattle.core_meaning.specs.Expressions.{operator_named, operation_on, operation_type, operand_core, on_numbers, pointer_operation, are_comparable, result_type, is_order, is_equality, is_shift_operator, combined, combined_by, element_target, is_void}
+use Rattle.core_meaning.specs.Expressions.{operator_named, operation_on, operation_type, operand_core, on_numbers, pointer_operation, are_comparable, result_type, is_order, is_equality, is_shift_operator, combined, element_target, is_void}
 use Rattle.conditional.specs.Judgements.{Checked, fine, refused}
 use Rattle.operand_types.specs.OperandTypes.{OperandType, rvalue, struct_in, outcome_as, type_of_operand, scope_with, structs_for, asked_of, a_value, any_core}
 use Rattle.operand_types.specs.Operators.{same_number, combined_type, indexed_type, chosen_type}

@@ -7,7 +7,7 @@ use Rattle.c_types.specs.Types.{PlainType, void, char, unsigned_char, int, unsig
 use Rattle.c_types.specs.Integers.{is_integer}
 use Rattle.core_meaning.specs.Program.{target}
 use Rattle.core_meaning.specs.Checking as judged
-use Rattle.core_meaning.specs.Checking.{give, ◌>>=◌}
+use Rattle.core_meaning.specs.Checking.{◌>>=◌}
 use Rattle.core_meaning.specs.Entities.{Struct}
 use Rattle.core_meaning.specs.Typing.{promoted, is_scalar_type, Operand, Typed, loaded}
 use Rattle.core_meaning.specs.Expressions.{pointed_at, dereferenced, negated, signed}

@@ -1,5 +1,5 @@
 -- Units that are judged one after another.
-use Rattle.std.proofs.Common.{◌≡◌, ℕ, ◌+◌, List, [], ◌∷◌, ◌++◌, map, refl, ap, ◌∙◌, append_assoc, sym, zero, suc, ◌<◌, length, get_or, slice_get, drop, add-one, drop-cons, subst, arith}
+use Rattle.std.proofs.Common.{◌≡◌, ℕ, ◌+◌, List, [], ◌∷◌, ◌++◌, refl, ap, ◌∙◌, append_assoc, sym, zero, suc, ◌<◌, length, get_or, slice_get, drop, add-one, drop-cons, subst, arith}
 use Rattle.std.specs.Result.{MatchResult, IsErrAnd}
 use Rattle.std.specs.Prelude.{Some, Result, Ok, Err}
 use Rattle.c_tree.specs.Trees.{PlainTree}

@@ -1,6 +1,6 @@
 -- The numbers of units, as tables.
-use Rattle.std.proofs.Common.{◌≡◌, ℕ, zero, suc, ◌+◌, Bool, true, false, List, [], ◌∷◌, ◌++◌, map, length, inl, inr, refl, sym, ap, subst, ◌∙◌, zero-add, Vec, Global, arith}
-use Rattle.std.specs.Prelude.{Option, Some, None, slice_get, ◌⊎◌}
+use Rattle.std.proofs.Common.{◌≡◌, ℕ, zero, suc, ◌+◌, true, false, List, [], ◌∷◌, ◌++◌, refl, sym, ap, subst, ◌∙◌, zero-add, Vec, Global, arith}
+use Rattle.std.specs.Prelude.{Option, Some, slice_get}
 use Rattle.std.specs.HashMap.{HashMap}
 use Rattle.std.specs.Map.{lookup}
 use Rattle.std.specs.Str.{bytes_eq}
@@ -11,7 +11,6 @@ use Rattle.core_meaning.specs.Linking.{Unit, no_numbers, numbers_in, number_in, 
 use Rattle.plain_scope.specs.PlainScope.{entry_of}
 use Rattle.plain_scope.specs.declared.entities.Numbers.{Numbers}
 use Rattle.plain_numbers.specs.Numbering.{UnitNumbered, AreNumbered}
-use Rattle.plain_units.specs.Closing.{plain_numbers}
 use Rattle.plain_elab.specs.PlainStates.{HasNoNumbers, HaveNoNumbers, or_no_numbers, numbers_at}
 
 pub none_more : (ns : List Numbers) (n : Numbers) → HaveNoNumbers ns → HasNoNumbers n → HaveNoNumbers (ns ++ n ∷ [])

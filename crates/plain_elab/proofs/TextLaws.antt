@@ -2,7 +2,7 @@
 use Rattle.std.proofs.Common.{◌≡◌, ℕ, List, [], ◌∷◌, ◌++◌, map, false, refl, ap}
 use Rattle.c_tree.specs.declared.kinds.Kind.{Kind}
 use Rattle.c_tree.specs.declared.kinds.Kind.TheVariants as k
-use Rattle.c_tree.specs.Trees.{PlainTree, PlainTrees, node, more, none, plain_tree, plain_trees}
+use Rattle.c_tree.specs.Trees.{PlainTrees, node, plain_tree, plain_trees}
 use Rattle.c_tree.specs.declared.trees.Tree.{Tree}
 use Rattle.core_meaning.specs.Linking.{texts_in, texts_in_all, different_texts, with_text, texts_of_units}
 use Rattle.plain_elab.specs.TextParts.{is_texts}

@@ -1,5 +1,5 @@
 -- Answers of judgements, from those of other ones.
-use Rattle.std.proofs.Common.{◌≡◌, List, ℕ, Bool, ap, sym, subst, ◌∙◌}
+use Rattle.std.proofs.Common.{◌≡◌, List, ℕ, Bool, sym, subst, ◌∙◌}
 use Rattle.std.specs.Result.{IsErrAnd}
 use Rattle.std.specs.Prelude.{Result, Ok, Err}
 use Rattle.core_meaning.specs.Checking.{Checked, ◌>>=◌, give}

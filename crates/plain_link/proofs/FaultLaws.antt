@@ -1,15 +1,15 @@
 -- The least of the names that have a fault is the first, and each name that has one is found.
-use Rattle.std.proofs.Common.{◌≡◌, ◌↔◌, ℕ, zero, suc, ◌+◌, ◌<◌, ◌≤◌, ◌-◌, ◌^◌, min, nat_lt, nat_le, Bool, true, false, not, ◌&&◌, ◌||◌, ◌==◌, List, [], ◌∷◌, ◌++◌, map, length, get_or, drop, ⊎_elim, inl, inr, refl, sym, ap, subst, ◌∙◌, arith, add-one, drop-cons, Bor, IsTrue}
+use Rattle.std.proofs.Common.{◌≡◌, ◌↔◌, ℕ, zero, suc, ◌+◌, ◌<◌, ◌≤◌, ◌-◌, nat_lt, nat_le, Bool, true, false, not, ◌&&◌, ◌||◌, ◌==◌, List, [], ◌∷◌, ◌++◌, map, length, get_or, drop, ⊎_elim, inl, inr, refl, sym, ap, subst, ◌∙◌, arith, add-one, drop-cons}
 use Rattle.std.specs.Result.{MatchResult, IsErrAnd}
 use Rattle.std.specs.Prelude.{Result, Ok, Err, ◌⊎◌, Option, Some, None, is_some, option_map, filter, if◌then◌else◌, Vec}
 use Rattle.std.specs.declared.alloc.Global.{Global}
-use Rattle.std.specs.List.{list_any, AllZip, Contains}
+use Rattle.std.specs.List.{list_any, AllZip}
 use Rattle.std.specs.Map.{lookup, keys_of}
 use Rattle.std.specs.Str.{bytes_eq}
-use Rattle.std.specs.Cmp.Lexicographic.{bytes_decides, nat_list_eq_equiv}
-use Rattle.std.proofs.Math.ListN.{get_or-map, drop_of_length-le}
-use Rattle.std.proofs.lemmas.List.{length-map, length-drop}
-use Rattle.std.proofs.lemmas.Bool.{cases_Bool, or_cases, or_left, or_right, and_parts, and_from, both_ways, not-true}
+use Rattle.std.specs.Cmp.Lexicographic.{bytes_decides}
+use Rattle.std.proofs.Math.ListN.{drop_of_length-le}
+use Rattle.std.proofs.lemmas.List.{length-drop}
+use Rattle.std.proofs.lemmas.Bool.{cases_Bool, or_cases, or_left, or_right, and_parts, and_from, both_ways}
 use Rattle.std.proofs.lemmas.Bool.Decides.{nat_tests}
 use Rattle.core_meaning.specs.declared.refusals.LinkKind.{LinkKind}
 use Rattle.core_meaning.specs.declared.refusals.LinkKind.TheVariants as link
@@ -33,7 +33,7 @@ use Rattle.plain_link.specs.declared.left.Left.{Left}
 use Rattle.plain_link.specs.declared.definitions.Defined.{Defined as RustDefined}
 use Rattle.plain_scope.specs.declared.errors.ElabError.{ElabError}
 use Rattle.plain_scope.specs.declared.errors.ElabError.TheVariants.{BadType, Link, Memory}
-use Rattle.plain_link.specs.Faults.{IsIn, Finds, least_from, least_of, RefusedLeast, IsLeast, IsLeastFault, NotLinked, undefined_in, undefined_names, not_available, duplicate_in, duplicate_names, Adds, Collects, AllOf, FitsSort, IsFitting, FitsHere, IsApartHere, IsApartOf, IsApartAmong, IsApartFrom, AreApartIn, AreApartNamed}
+use Rattle.plain_link.specs.Faults.{IsIn, Finds, least_from, least_of, RefusedLeast, IsLeastFault, NotLinked, undefined_in, undefined_names, not_available, duplicate_in, duplicate_names, Adds, Collects, AllOf, FitsSort, IsFitting, FitsHere, IsApartHere, IsApartOf, IsApartAmong, IsApartFrom, AreApartNamed}
 
 -- ---- the order of names
 

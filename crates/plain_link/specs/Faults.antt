@@ -1,5 +1,5 @@
 -- Faults of linking as the code finds them: lists of names, and the least of them.
-use Rattle.std.specs.Prelude.{◌≡◌, ℕ, zero, suc, Bool, true, false, not, List, [], ◌∷◌, ◌++◌, map, filter, Option, Some, None, if◌then◌else◌, IsTrue, ⊤, ◌⊎◌, codes}
+use Rattle.std.specs.Prelude.{◌≡◌, ℕ, Bool, true, false, not, List, [], ◌∷◌, ◌++◌, map, filter, Option, Some, None, if◌then◌else◌, IsTrue, ⊤, ◌⊎◌}
 use Rattle.c_types.specs.Tags.{PlainTag}
 use Rattle.core_meaning.specs.declared.refusals.LinkKind.{LinkKind}
 use Rattle.c_types.specs.Types.{PlainType}

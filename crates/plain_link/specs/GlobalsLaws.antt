@@ -1,11 +1,11 @@
 -- The faults of units don't depend on how many globals are numbered before the texts.
-use Rattle.std.proofs.Common.{◌≡◌, ℕ, ◌+◌, nat_le, Bool, true, false, not, ◌&&◌, ◌||◌, ◌==◌, List, [], ◌∷◌, map, refl, sym, ap, subst, ◌∙◌, IsTrue, codes}
-use Rattle.std.specs.Prelude.{Option, Some, None, is_some, if◌then◌else◌, MatchResult, Result, Ok, Err, Vec}
+use Rattle.std.proofs.Common.{◌≡◌, ℕ, ◌+◌, nat_le, Bool, false, not, ◌&&◌, ◌||◌, ◌==◌, List, [], ◌∷◌, map, refl, ap, subst, ◌∙◌, IsTrue, codes}
+use Rattle.std.specs.Prelude.{Some, None, is_some, if◌then◌else◌}
 use Rattle.std.specs.List.{list_any, Contains}
 use Rattle.std.specs.Str.{bytes_eq}
 use Rattle.core_meaning.specs.declared.refusals.LinkKind.{LinkKind}
 use Rattle.core_meaning.specs.declared.refusals.LinkKind.TheVariants as link
-use Rattle.core_meaning.specs.Linking.{Unit, IsFault, IsFirstFault, Links, is_internal, is_main, is_tentative, defines, defines_main, count_whole, count_defined, count_external, count_in_unit, is_available, is_duplicate, built_in_named, external_sort, external_sorts, built_in_sort, AreApart}
+use Rattle.core_meaning.specs.Linking.{Unit, IsFault, Links, is_internal, is_main, is_tentative, defines, defines_main, count_whole, count_defined, count_external, count_in_unit, is_available, is_duplicate, built_in_named, external_sort, built_in_sort, AreApart}
 use Rattle.plain_scope.specs.declared.entities.Struct.{Struct}
 use Rattle.plain_scope.specs.declared.errors.ElabError.{ElabError}
 use Rattle.plain_scope.specs.declared.errors.ElabError.TheVariants.{BadType, Link, Memory}

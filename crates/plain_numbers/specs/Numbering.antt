@@ -1,9 +1,7 @@
 -- The numbers of objects and functions, as maps have them.
-use Rattle.std.specs.Prelude.{◌≡◌, ℕ, ◌+◌, Bool, true, false, List, [], ◌∷◌, map, filter, Option, Some, None, ⊤, Vec, if◌then◌else◌, slice_get}
+use Rattle.std.specs.Prelude.{◌≡◌, ℕ, ◌+◌, Bool, true, false, List, [], ◌∷◌, map, filter, Option, Some, None, ⊤, if◌then◌else◌}
 use Rattle.std.specs.List.{list_any}
 use Rattle.std.specs.Str.{bytes_eq}
-use Rattle.std.specs.HashMap.{HashMap}
-use Rattle.std.specs.declared.alloc.Global.{Global}
 use Rattle.core_meaning.specs.Linking as spec
 use Rattle.core_meaning.specs.Linking.{Unit, Linked, linked_in, is_wanted, same_linked, place_where, number_in}
 use Rattle.plain_scope.specs.PlainScope.{entry_of}

@@ -1,5 +1,5 @@
 -- Names with their linkage, without pointers and room in memory.
-use Rattle.std.specs.Prelude.{◌≡◌, ℕ, List, map, Option}
+use Rattle.std.specs.Prelude.{◌≡◌, List, map, Option}
 use Rattle.std.specs.HashMap.{HashMap, get_by}
 use Rattle.core_meaning.specs.Linking as spec
 use Rattle.core_meaning.specs.Linking.{same_linked, place_where}

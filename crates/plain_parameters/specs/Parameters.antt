@@ -12,7 +12,7 @@ use Rattle.c_types.specs.Types.{PlainType}
 use Rattle.c_tree.specs.declared.kinds.Kind.{Kind}
 use Rattle.c_tree.specs.declared.kinds.Kind.TheVariants as k
 use Rattle.c_tree.specs.Trees.{PlainTree, PlainTrees, leaf, node, none, more, plain_tree, plain_trees}
-use Rattle.core_meaning.specs.declared.refusals.TypeKind.TheVariants.{Redeclared, Incomplete}
+use Rattle.core_meaning.specs.declared.refusals.TypeKind.TheVariants.{Redeclared}
 use Rattle.core_meaning.specs.Checking.{Binding, Checked, fine, refused, broken, with_bindings, ◌>>=◌, give, unless_so}
 use Rattle.core_meaning.specs.Entities.{Scope}
 use Rattle.core_meaning.specs.Declarations.{Parameter, parameter_type, judged_parameter, with_parameter, is_new_parameter, token_of, name_in, declares_name, parameter_entity, declared_parameter, based, one_parameter, parameters_from}

@@ -1,7 +1,7 @@
 -- What this crate's calls answer.
 use Rattle.std.specs.Prelude.{◌≡◌, Bool, Result, Ok, Err, ⊤}
 use Rattle.c_text.specs.Preprocessing as spec
-use Rattle.c_text.specs.Preprocessing.{Condition, holds, fails, Flow, on, Reading}
+use Rattle.c_text.specs.Preprocessing.{Condition, holds, fails}
 use Rattle.plain_pp.specs.declared.errors.PpError.{PpError}
 use Rattle.plain_pp.specs.declared.errors.PpError.TheVariants.{Refused, Memory}
 use Rattle.unit_files.specs.Refusals.{refusal_view}

@@ -2,7 +2,7 @@
 use Rattle.std.specs.Prelude.{◌≡◌, Bool, true, false, map, Option, option_map, Result, Ok, Err}
 use Rattle.c_text.specs.Token.{plain_token}
 use Rattle.c_text.specs.Preprocessing as spec
-use Rattle.c_text.specs.Preprocessing.{Flow, refused, then_read, Setting, unbalanced, span_of_hash}
+use Rattle.c_text.specs.Preprocessing.{Flow, refused, then_read}
 use Rattle.plain_pp.specs.declared.groups.Level.{Level}
 use Rattle.plain_pp.specs.declared.groups.Level.TheVariants.{Reads, Waits}
 use Rattle.unit_files.specs.declared.inclusions.Source.{Source}

@@ -1,14 +1,14 @@
 -- Bodies that are taken out of a map.
-use Rattle.std.proofs.Common.{◌≡◌, ℕ, zero, suc, ◌+◌, ◌<◌, Bool, true, false, List, [], ◌∷◌, ◌++◌, map, length, get_or, drop, take, ⊎_elim, inl, inr, refl, sym, ap, subst, ◌∙◌, add-one, drop-cons, arith}
-use Rattle.std.specs.Prelude.{Option, Some, None, is_some, option_map, if◌then◌else◌, ◌⊎◌}
+use Rattle.std.proofs.Common.{◌≡◌, ℕ, zero, suc, ◌+◌, ◌<◌, Bool, true, false, List, [], ◌∷◌, ◌++◌, map, length, get_or, drop, take, inl, inr, refl, sym, ap, ◌∙◌, add-one, drop-cons, arith}
+use Rattle.std.specs.Prelude.{Option, Some, None, is_some, if◌then◌else◌}
 use Rattle.std.proofs.lemmas.List.{take_more, map-append}
 use Rattle.std.proofs.Math.Seq.{take-length}
-use Rattle.core_meaning.specs.Program.{PlainFunction, PlainConstantPart}
+use Rattle.core_meaning.specs.Program.{PlainFunction}
 use Rattle.core_meaning.specs.UnitNames.{Body, object_body, tentative_body, function_body}
-use Rattle.core_meaning.specs.Linking.{same_linked, parts_of_body, function_of_body}
+use Rattle.core_meaning.specs.Linking.{same_linked, parts_of_body}
 use Rattle.plain_numbers.specs.declared.places.Linked.{Linked}
 use Rattle.plain_numbers.specs.PlainLinked.{plain_linked}
-use Rattle.plain_program.specs.Functions.{definition_of, IsApart, IsApartFrom, AreApart, SameFor}
+use Rattle.plain_program.specs.Functions.{definition_of, IsApart, IsApartFrom, SameFor}
 
 pub no_definition : (o : Option PlainFunction) → false ≡ is_some o → None ≡ o
 no_definition None h = refl

@@ -1,6 +1,6 @@
 -- The unit that defines a name, and names that have different ones.
-use Rattle.std.proofs.Common.{◌≡◌, ℕ, zero, suc, ◌+◌, Bool, true, false, ◌&&◌, ◌||◌, List, [], ◌∷◌, ◌++◌, map, ⊎_elim, inl, inr, refl, sym, ap, subst, ◌∙◌, zero-add, add-zero, arith, IsTrue}
-use Rattle.std.specs.Prelude.{Option, Some, None, slice_get, if◌then◌else◌, ◌⊎◌, ⊤}
+use Rattle.std.proofs.Common.{◌≡◌, ℕ, suc, ◌+◌, Bool, true, false, ◌||◌, List, [], ◌∷◌, ◌++◌, map, ⊎_elim, inl, inr, refl, sym, ap, subst, ◌∙◌, add-zero, arith}
+use Rattle.std.specs.Prelude.{Some, None, slice_get, ◌⊎◌, ⊤}
 use Rattle.std.specs.List.{list_any}
 use Rattle.std.specs.Str.{bytes_eq}
 use Rattle.std.specs.Cmp.Lexicographic.{bytes_decides}
@@ -10,7 +10,7 @@ use Rattle.plain_numbers.specs.declared.places.Linked.{Linked as RustLinked}
 use Rattle.plain_numbers.specs.PlainLinked.{plain_linked}
 use Rattle.plain_numbers.specs.LinkedLaws.{same_is, same_itself, same_turned, same_unit_is}
 use Rattle.plain_program.specs.Owners.{owner_from, key_in}
-use Rattle.plain_program.specs.Functions.{IsApart, IsApartFrom, AreApart}
+use Rattle.plain_program.specs.Functions.{IsApartFrom, AreApart}
 
 -- the unit that defines a name, of those from one on
 pub record Owned (e : Linked) (index : ℕ) (units : List Unit) : Type 0 where

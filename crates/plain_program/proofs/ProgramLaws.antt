@@ -1,11 +1,11 @@
 -- The core program of units, from keys and bodies.
-use Rattle.std.proofs.Common.{◌≡◌, ℕ, zero, suc, ◌+◌, Bool, true, false, ◌&&◌, List, [], ◌∷◌, ◌++◌, map, length, ⊎_elim, refl, sym, ap, subst, ◌∙◌, zero-add}
+use Rattle.std.proofs.Common.{◌≡◌, ℕ, zero, suc, ◌+◌, Bool, ◌&&◌, List, [], ◌∷◌, ◌++◌, map, length, ⊎_elim, refl, sym, ap, subst, ◌∙◌, zero-add}
 use Rattle.std.specs.Prelude.{Option, Some, None, slice_get, filter, if◌then◌else◌}
 use Rattle.std.proofs.lemmas.List.{length-map}
 use Rattle.c_types.specs.Types.{PlainType}
 use Rattle.core_meaning.specs.Program.{PlainFunction, PlainGlobal, PlainConstantPart, PlainProgram}
 use Rattle.core_meaning.specs.UnitNames.{Body}
-use Rattle.core_meaning.specs.Linking.{Unit, Linked, linked_in, all_linked, each_once, is_wanted, is_of_sort, listed, same_linked, defines_linked, unit_of, function_in, global_in, function_of_body, parts_of_body, type_of_sort, sort_in}
+use Rattle.core_meaning.specs.Linking.{Unit, Linked, linked_in, all_linked, each_once, is_wanted, is_of_sort, listed, same_linked, defines_linked, unit_of, function_in, global_in, function_of_body, parts_of_body}
 use Rattle.plain_link.specs.declared.left.Left.{Left}
 use Rattle.plain_link.specs.PlainUnits.{plain_unit}
 use Rattle.plain_link.specs.GlobalsLaws.{defines_same, available_same}

@@ -1,8 +1,7 @@
 -- The bodies of definitions, in a map by the names and the numbers of their units.
-use Rattle.std.specs.Prelude.{◌≡◌, ℕ, ◌&&◌, not, List, Option, Some, None, option_map, map, if◌then◌else◌}
+use Rattle.std.specs.Prelude.{ℕ, ◌&&◌, not, List, Option, Some, None, option_map, if◌then◌else◌}
 use Rattle.std.specs.HashMap.{HashMap}
 use Rattle.std.specs.Str.{bytes_eq}
-use Rattle.core_meaning.specs.Entities.{or_else}
 use Rattle.core_meaning.specs.UnitNames.{Body, Defined}
 use Rattle.core_meaning.specs.Linking.{Unit, whole_body, same_unit, is_tentative}
 use Rattle.plain_link.specs.declared.definitions.Definite.{Definite}

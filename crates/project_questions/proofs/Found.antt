@@ -1,12 +1,12 @@
 -- What is answered of a project's model and a formula is what is found of the configurations that it admits.
-use Rattle.std.proofs.Common.{◌≡◌, ℕ, ◌≤◌, Bool, true, false, ◌&&◌, List, length, Option, Some, None, IsTrue, refl, sym, subst, ◌∙◌, ◌⊎◌, arith}
+use Rattle.std.proofs.Common.{◌≡◌, ℕ, ◌≤◌, Bool, true, false, ◌&&◌, List, length, IsTrue, refl, sym, subst, ◌∙◌, ◌⊎◌, arith}
 use Rattle.cond_formula.specs.Features.{has}
 use Rattle.cond_formula.specs.Conditions.{Condition, value, VarsBelow}
 use Rattle.sat_core.specs.Models.{IsLeastModel, AreSame, IsLess}
 use Rattle.sat_core.specs.declared.answers.Proof.{Proof}
 use Rattle.verdict_query.specs.Verdicts.{where_admitted, FewerFeaturesLaw}
 use Rattle.project_file.specs.Projects.{PlainProject}
-use Rattle.command_projects.specs.Least.{IsAdmitted, Nowhere, IsLeast}
+use Rattle.command_projects.specs.Least.{Nowhere, IsLeast}
 use Rattle.project_questions.specs.Questions.{IsTrueIn, ShowsNone, IsFound}
 use Rattle.project_questions.specs.Steps.{IsVerdictFound}
 use Rattle.project_questions.specs.declared.Finding.{Finding}

@@ -1,5 +1,5 @@
 -- Counts of faults along a run of calls.
-use Rattle.std.proofs.Common.{◌≡◌, ℕ, ◌≤◌, arith, ◌∙◌}
+use Rattle.std.proofs.Common.{ℕ, ◌≤◌, arith, ◌∙◌}
 use Rattle.project_store.specs.Faults.{Rose, HasCause}
 
 -- a count that rose and didn't fall after that

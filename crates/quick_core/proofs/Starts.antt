@@ -8,13 +8,13 @@ use Rattle.core_meaning.specs.Memory.{Object}
 use Rattle.core_meaning.specs.Outcomes.{Outcome}
 use Rattle.core_meaning.specs.Meaning.{Ending, Frame}
 use Rattle.core_meaning.specs.Run as core
-use Rattle.core_meaning.specs.Run.{global_object, no_object, memory_of, answer_at}
+use Rattle.core_meaning.specs.Run.{global_object, no_object, memory_of}
 use Rattle.quick_form.specs.Words.{value_of, is_number, is_decimal}
 use Rattle.quick_form.specs.Form.{Operand, Named, Literal, Term, Sum}
 use Rattle.quick_form.specs.Program as quick_program
 use Rattle.quick_form.specs.Program.{Code, Declaration, object, function, object_names, visible_names, bodies, used_names, operand_names, term_names, sum_names, IsAccepted}
 use Rattle.quick_form.specs.Run as quick
-use Rattle.quick_form.specs.Run.{with_value, is_int, code_run, first_memory, body_run}
+use Rattle.quick_form.specs.Run.{is_int, code_run, first_memory, body_run}
 use Rattle.quick_core.specs.Present.{Item, tentative, valued, main_of, declarations, operand_numbers, term_numbers, sum_numbers, code_numbers, item_numbers}
 use Rattle.quick_core.specs.CoreProgram.{number_in, first_value, int_global, core_globals, core_functions, core_program}
 use Rattle.quick_core.specs.Laws.{core_answer}

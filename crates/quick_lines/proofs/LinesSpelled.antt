@@ -8,7 +8,7 @@ use Rattle.c_text.specs.Token.{PlainToken}
 use Rattle.c_text.specs.Splices.{spliced}
 use Rattle.c_text.specs.Pieces.{PieceKind, space, token}
 use Rattle.c_text.specs.Lines as lines
-use Rattle.c_text.specs.Lines.{AreItsPieces, AreItsLines, PlainLine, Run, run, runs_of, with_first, by_line_end, with_piece, tokens_among, begin_directive, line_of}
+use Rattle.c_text.specs.Lines.{AreItsPieces, Run, run, runs_of, with_first, by_line_end, with_piece, tokens_among, begin_directive, line_of}
 use Rattle.quick_form.specs.Words.{is_blank}
 use Rattle.quick_form.specs.Symbols.{Symbol, Piece, Word, Other, piece_bytes, pieces_of, line_symbols, lines_of}
 use Rattle.quick_lines.specs.Laws.{TextsAreSpelled}

@@ -4,7 +4,7 @@ use Rattle.std.specs.Prelude.{option_map, if◌then◌else◌, ◌==◌, nat_lt}
 use Rattle.std.proofs.lemmas.Bool.{ltb-true}
 use Rattle.quick_form.specs.Symbols.{Symbol, Int, Void, While, Return, Putchar, Main, Name, Number, Mark, Ifdef, Else, Endif}
 use Rattle.quick_form.specs.Form as form
-use Rattle.quick_form.specs.Form.{Named, Literal, Term, Sum, Statements, no_more, assignment, output, return_of, loop, group, choice, Items, no_item, variable, initialised, main_with, item_group, item_choice, operand_symbol, write_terms, write_sum, write_statements, write_items, statement_blocks, item_blocks}
+use Rattle.quick_form.specs.Form.{Named, Literal, Statements, no_more, assignment, output, return_of, loop, group, choice, Items, no_item, variable, initialised, main_with, item_group, item_choice, operand_symbol, write_statements, write_items, statement_blocks, item_blocks}
 use Rattle.quick_parser.specs.declared.spots.SumEnd.{SumEnd}
 use Rattle.quick_parser.specs.declared.spots.SumEnd.TheVariants.{Statement, Output, Condition}
 use Rattle.quick_parser.specs.declared.spots.Place.{Place}

@@ -5,7 +5,7 @@ use Rattle.std.proofs.Math.Seq.{take-length, drop-length}
 use Rattle.std.specs.List.{list_all}
 use Rattle.c_names.specs.Names.{is_digit}
 use Rattle.c_text.specs.Constants as c
-use Rattle.c_text.specs.Constants.{run_length, is_suffix_letter, suffix_start, suffix_of, digits_of, digit_value, digits_from, based, is_unsigned, number_value}
+use Rattle.c_text.specs.Constants.{run_length, is_suffix_letter, suffix_of, digits_of, digit_value, digits_from, based, number_value}
 use Rattle.c_types.specs.Types.{int}
 use Rattle.core_meaning.specs.Expressions.{number_types, first_type, number_type}
 use Rattle.quick_form.specs.Words.{is_decimal, is_number, value_from, value_of}

@@ -3,7 +3,7 @@ use Rattle.std.proofs.Common.{◌≡◌, ℕ, zero, suc, List, [], length, refl,
 use Rattle.c_text.specs.Token.{PlainToken}
 use Rattle.c_text.specs.Lines.{PlainLine}
 use Rattle.c_text.specs.Preprocessing as spec
-use Rattle.c_text.specs.Preprocessing.{Reading, Refusal, Setting, Sources, Syntax, IsSyntaxOf, IsFile, setting}
+use Rattle.c_text.specs.Preprocessing.{Reading, Sources, Syntax, IsSyntaxOf, IsFile, setting}
 use Rattle.c_lexer.specs.Laws.{LinesAreOne}
 use Rattle.active_tokens.specs.Reads.{reads_of_part}
 use Rattle.active_tokens.specs.Active.{misplaced_in, reads_of_source}

@@ -1,13 +1,12 @@
 -- What becomes of a renaming, by what is asked of the class at a place.
-use Rattle.std.proofs.Common.{◌≡◌, ℕ, ◌<◌, ◌≤◌, Bool, List, length, map, sym, ap, ◌∙◌, subst, arith}
+use Rattle.std.proofs.Common.{◌≡◌, ℕ, ◌<◌, List, length, map, sym, ap, ◌∙◌, subst, arith}
 use Rattle.std.proofs.lemmas.List.{length-map}
 use Rattle.text_edits.specs.declared.files.Files.{Files}
-use Rattle.text_edits.specs.declared.files.SourceFile.{SourceFile}
 use Rattle.text_edits.specs.Files.{PlainFile, plain_file, plain_files}
 use Rattle.c_text.specs.declared.origin.FileToken.{FileToken}
 use Rattle.project_file.specs.Projects.{PlainProject}
 use Rattle.project_store.specs.Reads.{names_of}
-use Rattle.command_projects.specs.Least.{IsAdmitted, Nowhere, Somewhere}
+use Rattle.command_projects.specs.Least.{Nowhere, Somewhere}
 use Rattle.renamed_sources.specs.Projects.{HasItsFiles}
 use Rattle.program_occurrences.specs.Classes.{PlainFileToken}
 use Rattle.reference_classes.specs.Preconditions.{IsFound}

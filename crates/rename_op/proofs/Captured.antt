@@ -1,6 +1,6 @@
 -- What is captured in the trees of a configuration is what the renaming of the files captures there.
 use Rattle.std.proofs.Common.{◌≡◌, List, Bool, [], ◌∷◌, IsTrue, sym, subst}
-use Rattle.std.specs.Prelude.{◌↔◌, length, map}
+use Rattle.std.specs.Prelude.{◌↔◌, map}
 use Rattle.std.proofs.lemmas.List.Elements.{All-from_recursion}
 use Rattle.std.specs.List.{AllByRecursion}
 use Rattle.cond_formula.specs.Features.{has}
@@ -9,8 +9,7 @@ use Rattle.c_text.specs.Token.{PlainToken}
 use Rattle.moved_programs.specs.Trees.{tokens_of}
 use Rattle.command_projects.specs.Least.{IsAdmitted, Nowhere}
 use Rattle.program_occurrences.specs.Classes.{PlainFileToken}
-use Rattle.reference_classes.specs.Products.{Product}
-use Rattle.reference_classes.specs.Preconditions.{IsTouched, broken, in_macro_body, macro_name, fixed, capture}
+use Rattle.reference_classes.specs.Preconditions.{broken, in_macro_body, macro_name, fixed, capture}
 use Rattle.renamed_projects.specs.Projects.{MayBeRenamedIn}
 use Rattle.renamed_classes.specs.Laws.{ClassesMayBeRenamed}
 use Rattle.told_ties.specs.Ties.{named_seen}

@@ -1,5 +1,5 @@
 -- What a renaming captures in a configuration of a project, and what it captures in the trees of a product.
-use Rattle.std.proofs.Common.{◌≡◌, ℕ, List, map, sym, subst, ◌∙◌}
+use Rattle.std.proofs.Common.{◌≡◌, ℕ, List, sym, subst, ◌∙◌}
 use Rattle.std.specs.Prelude.{◌↔◌, Bool}
 use Rattle.std.proofs.lemmas.List.Elements.{recursion_from_All}
 use Rattle.text_edits.specs.Files.{PlainFile}
@@ -19,7 +19,6 @@ use Rattle.plain_pp.specs.Units.{sources_of}
 use Rattle.project_program.specs.Programs.{AreTrees, IsProgram}
 use Rattle.project_check.proofs.Present.{trees_are_one}
 use Rattle.renamings.specs.Renamings.{Renaming, renamed_files}
-use Rattle.renamed_units.specs.Renamed.{renamed_sources}
 use Rattle.renamed_products.specs.Products.{AreTreesOf, renamed_all, MayBeRenamed}
 use Rattle.renamed_products.specs.Laws.{ProductsHaveRenamedTrees}
 use Rattle.renamed_sources.specs.Projects.{HasItsFiles, present_files}

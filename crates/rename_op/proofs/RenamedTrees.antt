@@ -11,7 +11,7 @@ use Rattle.c_tree.specs.Trees.{PlainTree, PlainTrees, leaf, node, none, more, wr
 use Rattle.moved_programs.specs.Trees.{moved_tree, moved_trees, tokens_of}
 use Rattle.moved_names.specs.Places.{no_origin, unplaced, AreSameButPlaces}
 use Rattle.moved_names.specs.Laws.{MovesDontName}
-use Rattle.renamings.specs.Renamings.{Renaming, is_renamed, renamed_token}
+use Rattle.renamings.specs.Renamings.{Renaming, renamed_token}
 use Rattle.renamed_programs.specs.Trees.{SameButName, SameButNames, AllSameButNames, same_leaf, same_node, same_end, same_more}
 use Rattle.renamed_products.specs.Products.{renamed_all}
 use Rattle.changed_forests.specs.Renamed.{is_name, copies, is_of_class, with_name, renamed_tree, renamed_trees}

@@ -1,5 +1,5 @@
 -- Tokens that units give stand apart where they did, behind a renaming as before.
-use Rattle.std.proofs.Common.{◌≡◌, ℕ, ◌<◌, ◌≤◌, Bool, true, false, ◌&&◌, List, [], ◌∷◌, length, All, refl, ap, ap₂, sym, ◌∙◌, subst, inl, inr, arith}
+use Rattle.std.proofs.Common.{◌≡◌, ℕ, ◌<◌, ◌≤◌, Bool, ◌&&◌, List, [], ◌∷◌, length, All, refl, ap, ap₂, sym, ◌∙◌, subst, inl, inr, arith}
 use Rattle.std.specs.Prelude.{◌==◌, ◌⊎◌, IsTrue}
 use Rattle.std.specs.List.{AllByRecursion}
 use Rattle.std.proofs.lemmas.Bool.{cases_lt}
@@ -9,10 +9,10 @@ use Rattle.c_names.specs.Names.{is_new_name}
 use Rattle.text_edits.specs.Span.{PlainSpan}
 use Rattle.c_text.specs.Token.{PlainToken}
 use Rattle.c_text.specs.Lines.{PlainLine, AreItsLines}
-use Rattle.c_text.specs.Preprocessing.{Source, Sources, Syntax, IsSyntaxOf, file_at, built_in_file, built_in_text, feature_token, gives, outcome_of, preprocessed}
+use Rattle.c_text.specs.Preprocessing.{Source, Sources, Syntax, IsSyntaxOf, file_at, built_in_file, built_in_text, gives, outcome_of, preprocessed}
 use Rattle.core_meaning.specs.Constancy.{same_span, same_place}
 use Rattle.active_tokens.specs.Reads.{Read}
-use Rattle.active_tokens.specs.Active.{AreMisplaced, reads_of_unit, IsReadAt, HasActiveOrigin, TokensComeFromActive}
+use Rattle.active_tokens.specs.Active.{AreMisplaced, reads_of_unit, HasActiveOrigin, TokensComeFromActive}
 use Rattle.renamings.specs.Renamings.{Renaming, moved, moved_span, renamed_token, AreNamesOf, FitsFiles}
 use Rattle.renamings.specs.Laws.{IsNotInside, PlacesKeepTheirOrder, TokensStandApart}
 use Rattle.renamed_units.specs.Laws.{IsUnitOf}

@@ -1,29 +1,27 @@
 -- The products of renamed files.
-use Rattle.std.proofs.Common.{◌≡◌, ℕ, false, List, [], ◌∷◌, map, All, IsTrue, refl, sym, subst, inl, inr}
-use Rattle.std.specs.Prelude.{◌⊎◌, Contains}
+use Rattle.std.proofs.Common.{◌≡◌, ℕ, false, List, [], ◌∷◌, refl, sym, subst, inl, inr}
+use Rattle.std.specs.Prelude.{Contains}
 use Rattle.std.specs.List.{AllZip, AllByRecursion}
 use Rattle.std.proofs.lemmas.List.Elements.{All-from_recursion, recursion_from_All}
-use Rattle.c_names.specs.Names.{is_new_name}
 use Rattle.c_text.specs.Token.{PlainToken, SameSpelling}
-use Rattle.c_text.specs.Preprocessing.{Sources, Syntax, IsSyntaxOf, Source, Outcome, gives, is_refused, IsPreprocessed}
-use Rattle.c_tree.specs.Trees.{PlainTree, PlainTrees, leaf, node, none, more, trees, written, all_written}
+use Rattle.c_text.specs.Preprocessing.{Sources, Syntax, IsSyntaxOf, is_refused}
+use Rattle.c_tree.specs.Trees.{PlainTree, PlainTrees, leaf, node, none, more, written, all_written}
 use Rattle.c_tree.specs.Units.{IsTreeOf}
 use Rattle.c_lexer.specs.Laws.{TextsHaveLines}
 use Rattle.file_walks.specs.Laws.{LinesHaveParts}
 use Rattle.pp_lines.specs.Laws.{ValuesAreDecided}
 use Rattle.read_walks.specs.Laws.{FilesHaveMisplaced}
-use Rattle.active_tokens.specs.Active.{AreMisplaced, TokensComeFromActive}
+use Rattle.active_tokens.specs.Active.{TokensComeFromActive}
 use Rattle.renamings.specs.Renamings.{Renaming, is_renamed, renamed_token, FitsFiles}
 use Rattle.renamings.specs.Laws.{PlacesKeepTheirOrder, TokensStandApart}
-use Rattle.renamed_trees.specs.RenamedTrees.{IsNameIfRenamed, OnlyNamesAreRenamed}
+use Rattle.renamed_trees.specs.RenamedTrees.{IsNameIfRenamed}
 use Rattle.renamed_trees.specs.Laws.{TreesAreRenamed}
 use Rattle.renamed_programs.specs.Trees.{SameButNames}
 use Rattle.renamed_programs.specs.Laws.{AreUnits, ElaborationsAreAlike}
-use Rattle.renamed_units.specs.Renamed.{renamed_sources, renamed_outcome}
 use Rattle.renamed_units.specs.Laws.{IsUnitOf, AreNoMacros, UnitsAreRenamed, ReadsNoRenamed, UntouchedUnitsAreAlike, RenamedAreNames}
 use Rattle.renamed_units.proofs.Syntaxes.{the_syntax, is-syntax}
 use Rattle.renamed_units.proofs.Tokens.{In, in-of}
-use Rattle.renamed_products.specs.Products.{IsGiven, AreTreesOf, renamed_all, MayBeRenamed, AreUntouched, AreOnlyMoved, tokens_of}
+use Rattle.renamed_products.specs.Products.{IsGiven, AreTreesOf, MayBeRenamed, AreUntouched, AreOnlyMoved, tokens_of}
 use Rattle.renamed_products.specs.Laws.{ProductsHaveRenamedTrees, RenamedProductsRunAlike, UntouchedProductsAreAlike}
 use Rattle.renamed_products.proofs.Alike.{units-alike}
 use Rattle.renamed_products.proofs.Over.{GoesOver, names-of, have-renamed, treeless-over, no-others}

@@ -10,7 +10,6 @@ use Rattle.c_tree.specs.Units.{IsTreeOf}
 use Rattle.core_meaning.specs.Constancy.{same_place}
 use Rattle.renamings.specs.Renamings.{Renaming, renamed_token, FitsFiles}
 use Rattle.renamed_trees.specs.RenamedTrees.{renamed_tree}
-use Rattle.renamed_units.specs.Renamed.{renamed_sources}
 use Rattle.renamed_units.specs.Laws.{IsUnitOf, AreNoMacros, ReadsNoRenamed}
 
 -- the unit in the file with this number gives these tokens

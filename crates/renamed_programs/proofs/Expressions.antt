@@ -19,7 +19,7 @@ use Rattle.core_meaning.specs.declared.refusals.TypeKind.TheVariants.{Incomplete
 use Rattle.core_meaning.specs.Program.{PlainPlace, PlainArguments, no_argument, literal, update, update_after, constant, slot, global, member, target, call}
 use Rattle.core_meaning.specs.Checking.{local_entity, file_entity, member_entity, Checked, refused, ◌>>=◌, give, uses}
 use Rattle.core_meaning.specs.Entities.{Table, Struct, Local, Signature, Sort, variable, function, FileName, Scope, local_in, entity_number}
-use Rattle.core_meaning.specs.Typing.{Operand, Typed, of_object, of_value, loaded, Designation}
+use Rattle.core_meaning.specs.Typing.{Operand, Typed, of_object, of_value, loaded}
 use Rattle.core_meaning.specs.Expressions.{judged, judged_arguments, single_operand, name_operand, file_name_operand, file_operand, number_operand, number_type, is_zero_number, character_operand, character_value, text_bytes, joined_bytes, first_text, first_token, stepped, prefixed, cast_to, has_terminal, words_type, arithmetic_words, selected, member_of, member_in, member_operand, member_of_target, struct_place, is_free, indexed, Callee, callee, callee_unless_local, callee_of_name, callee_of_sort, count_entries, may_be_called, result_of_call, passed, condition_value, chosen, combined_by, written_place, valued, judged_condition}
 use Rattle.core_meaning.specs.Typing as typing
 use Rattle.tree_derivations.specs.Derivations.{Derivation, single, made_of, some_texts, a_row, at_end, a_word, a_part, left_out, given, with_commas, Separated, last_one, next_one, IsWord}

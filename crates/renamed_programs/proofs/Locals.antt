@@ -24,7 +24,7 @@ use Rattle.renamed_programs.proofs.Alike.{Naming, Alike, Anything, Quiet, alike_
 use Rattle.renamed_programs.proofs.Tokens.{same_terminal}
 use Rattle.renamed_programs.proofs.Scopes.{AlikeScopes, HaveTypes}
 use Rattle.renamed_programs.proofs.Constants.{SameParts, initial_alike}
-use Rattle.renamed_programs.proofs.Declarators.{same_names, Behind, none_behind, left_out_behind, some_behind, Sizes, ParametersBehind, array_sizes, abstract_sizes, Values, no_value, a_value, object_alike, parameter_alike, SameBase, based_alike}
+use Rattle.renamed_programs.proofs.Declarators.{Sizes, array_sizes, Values, no_value, a_value, object_alike, SameBase, based_alike}
 
 -- ---- types of slots
 

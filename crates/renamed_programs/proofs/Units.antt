@@ -15,7 +15,7 @@ use Rattle.c_tree.specs.declared.terminals.Terminal.TheVariants as t
 use Rattle.c_tree.specs.Trees.{PlainTree, PlainTrees, leaf, none, more}
 use Rattle.c_tree.specs.Grammar.{Role, member_of, declarator, member, block, is_word}
 use Rattle.core_meaning.specs.declared.refusals.TypeKind.TheVariants.{Redeclared, Incomplete}
-use Rattle.core_meaning.specs.Program.{PlainItems, PlainPart, PlainConstantPart}
+use Rattle.core_meaning.specs.Program.{PlainPart, PlainConstantPart}
 use Rattle.core_meaning.specs.Program as core
 use Rattle.core_meaning.specs.Checking.{file_entity, member_entity, ◌>>=◌, give}
 use Rattle.core_meaning.specs.Entities.{Table, no_entry, with_entry, Struct, Signature, Sort, variable, function, FileName, Scope}
@@ -32,7 +32,7 @@ use Rattle.renamed_programs.proofs.Scopes.{SameStructs, AlikeScopes, zip_append,
 use Rattle.renamed_programs.proofs.Expressions.{same_terminals}
 use Rattle.renamed_programs.proofs.Constants.{SameParts, initial_alike}
 use Rattle.renamed_programs.proofs.Declarators.{Sizes, ParametersBehind, array_sizes, function_parameters, starred_same, Values, no_value, a_value, object_alike, SameBase, based_alike}
-use Rattle.renamed_programs.proofs.Locals.{taken, passed_by, objects_judged, sign_is, no_sign}
+use Rattle.renamed_programs.proofs.Locals.{taken, passed_by, sign_is, no_sign}
 use Rattle.renamed_programs.proofs.Parameters.{SameTypes, parameters_visible, parameters_alike}
 use Rattle.renamed_programs.proofs.Statements.{SameItems, items_alike}
 use Rattle.renamed_programs.proofs.Locals.{grown_none}

@@ -11,7 +11,7 @@ use Rattle.c_text.specs.Preprocessing.{Refusal, refusal_at, refused_token, bad_e
 use Rattle.renamings.specs.Renamings.{Renaming}
 use Rattle.renamed_units.proofs.Alike as alike
 use Rattle.renamed_units.specs.Pairs.{Pairs}
-use Rattle.renamed_units.proofs.Alike.{SameText, changes, AreAlike, SameSite, AlikeItems, OnlyMoved, AlikeFound, AlikeTables}
+use Rattle.renamed_units.proofs.Alike.{changes, AreAlike, SameSite, AlikeItems, OnlyMoved, AlikeFound, AlikeTables}
 use Rattle.renamed_units.specs.Renamed.{moved_refusal}
 use Rattle.renamed_units.proofs.Pairs.{pairs-weaker, choice-alike}
 use Rattle.renamed_units.proofs.Replacing.{AlikeReplaced, GivenTokens, replaced-alike, moved-alike}

@@ -9,7 +9,7 @@ use Rattle.c_text.specs.Macros.{Meaning, feature, object, function, Table, Item,
 use Rattle.renamings.specs.Renamings.{Renaming, moved_span}
 use Rattle.renamed_units.proofs.Alike as alike
 use Rattle.renamed_units.specs.Pairs.{Pairs}
-use Rattle.renamed_units.proofs.Alike.{IsOrdinary, SameText, changes, AreAlike, SameSite, AlikeItems, OnlyMoved, AlikeMeanings, AlikeFound, AlikeTables}
+use Rattle.renamed_units.proofs.Alike.{SameText, changes, AreAlike, SameSite, AlikeItems, OnlyMoved, AlikeMeanings, AlikeFound, AlikeTables}
 use Rattle.renamed_units.proofs.Pairs.{pairs-append, pairs-map, pairs-flat-map, pairs-weaker, pairs-length, choice-alike}
 
 untrue : IsTrue false → ⊥

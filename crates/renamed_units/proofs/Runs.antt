@@ -15,7 +15,7 @@ use Rattle.c_text.specs.Preprocessing.{Kind, bad_token, bad_call_kind, predefine
 use Rattle.renamings.specs.Renamings.{Renaming, is_renamed, moved_span, renamed_token}
 use Rattle.renamed_units.proofs.Alike as alike
 use Rattle.renamed_units.specs.Pairs.{Pairs}
-use Rattle.renamed_units.proofs.Alike.{IsOrdinary, SameText, changes, AreAlike, SameSite, AlikeItems, OnlyMoved, AlikeTables, IsNamed, AlikeReadings, AlikeFlows}
+use Rattle.renamed_units.proofs.Alike.{SameText, changes, AreAlike, SameSite, AlikeItems, AlikeTables, IsNamed, AlikeReadings, AlikeFlows}
 use Rattle.renamed_units.specs.Renamed.{moved_refusal}
 use Rattle.renamed_units.proofs.Pairs.{choice-alike}
 use Rattle.renamed_units.proofs.Replacing.{IsPlace, AlikeReplaced, GivenTokens, replaced-alike}

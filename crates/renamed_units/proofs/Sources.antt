@@ -15,7 +15,7 @@ use Rattle.active_tokens.specs.Reads.{Read, Following, reads_of_part}
 use Rattle.active_tokens.specs.Active.{following, reads_of_source, misplaced_in}
 use Rattle.file_walks.specs.Laws.{PartsAreWalked, FilesBreak}
 use Rattle.file_walks.specs.Nests as nests
-use Rattle.file_walks.specs.Nests.{Nest, nest_behind, behind_role, by_place, break_at, break_at_end, break_of}
+use Rattle.file_walks.specs.Nests.{Nest, nest_behind, behind_role, by_place, break_at, break_of}
 use Rattle.file_walks.specs.Walk.{walked, start}
 use Rattle.read_walks.specs.WalkReads.{reads_of_walk, one_by_one, by_token}
 use Rattle.read_walks.specs.Laws.{ReadsAreWalked}

@@ -16,7 +16,7 @@ use Rattle.active_tokens.specs.Reads.{Read, read_of, reads_behind, unless_refuse
 use Rattle.file_walks.specs.Walk.{Open, reads, waits, passed, skipped, Walk, are_read, with_groups, with_run, text_read, flushed, begun, group_read, branch_read, end_read, directive_read, by_role, step, end_of_file, walked}
 use Rattle.read_walks.specs.WalkReads.{reads_at_flush, reads_at_name, reads_at_end, reads_at_begun, reads_at_group, reads_at_branch, reads_at_directive, reads_by_role, reads_of_step, reads_of_walk}
 use Rattle.renamed_units.proofs.Alike as alike
-use Rattle.renamed_units.proofs.Alike.{IsOrdinary, SameText, changes, AreAlike, SameSite, OnlyMoved, AlikeTables, AlikeReadings, AlikeFlows}
+use Rattle.renamed_units.proofs.Alike.{IsOrdinary, SameText, changes, AlikeTables, AlikeReadings, AlikeFlows}
 use Rattle.renamed_units.proofs.Runs.{IsStanding, AlikeRefusals, AreGiven, run-alike}
 use Rattle.renamed_units.proofs.Conditions.{AreMoved, pairs-drop, moved-ignored-refused, AlikeConditions}
 use Rattle.renamed_units.proofs.Directives.{AreAllMoved, role-moved}

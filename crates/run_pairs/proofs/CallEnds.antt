@@ -12,7 +12,7 @@ use Rattle.core_meaning.specs.Meaning.{as_value, used, cells_filled, Ending, fal
 use Rattle.run_pairs.specs.Correspondences.{Correspondence, Grown, RelatedPointers, RelatedValues, HeldAside, RelatedMemories, Setting, Related, EndsAt, Outcomes, RelatedPieces, statement_setting, RelatedEndings}
 use Rattle.run_pairs.specs.Alike.{Uses, direct, BothGiven, RelatedFrames, Selection, in_block, at_declaration}
 use Rattle.run_pairs.specs.Inlining
-use Rattle.run_pairs.specs.Inlining.{Fits, converted_by, SameVariables, SameUse}
+use Rattle.run_pairs.specs.Inlining.{Fits, converted_by, SameUse}
 use Rattle.run_pairs.proofs.MemoryPairs.{some_same, pointers_grow}
 use Rattle.run_pairs.proofs.Pieces.{same_grown, grown_on, ends_followed, pieces_then, after_nothing, followed_twice, followed_same}
 use Rattle.run_pairs.proofs.Operations.{used_related, write_related}

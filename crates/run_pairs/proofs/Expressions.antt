@@ -8,7 +8,7 @@ use Rattle.core_meaning.specs.Outcomes.{State, Comes, Piece, after, followed_by,
 use Rattle.core_meaning.specs.Meaning.{as_pointer, temporary_with, Ending, Frame, Job, read_from, called, value_of, place_of, values_of}
 use Rattle.run_pairs.specs.Correspondences.{Correspondence, Grown, WhereGiven, RelatedPointers, RelatedValues, holding, HeldAside, HoldsAside, Setting, Related, RelatedOutcomes, RelatedPieces, RelatedValueLists}
 use Rattle.run_pairs.specs.Alike
-use Rattle.run_pairs.specs.Alike.{argument_count, BothGiven, Uses, direct, through, elements, RelatedFrames, AlikeExpressions, AlikePlaces, AlikeArguments}
+use Rattle.run_pairs.specs.Alike.{argument_count, BothGiven, Uses, through, elements, RelatedFrames, AlikeExpressions, AlikePlaces, AlikeArguments}
 use Rattle.run_pairs.proofs.Pieces.{same_grown, grown_on, pieces_then, pieces_give, pieces_given, pieces_asked, pieces_choice}
 use Rattle.run_pairs.proofs.MemoryPairs.{pointers_grow, scalars_grow, values_grow}
 use Rattle.run_pairs.proofs.Operations.{pointer_pair, pair_grow, used_related, scalar_from_related, pointer_from_related, truth_from_related, in_type_related, first_related, member_related, read_related, write_related, operated_related, changed_related}

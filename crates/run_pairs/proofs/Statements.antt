@@ -13,7 +13,7 @@ use Rattle.core_meaning.specs.Outcomes.{State, Piece, followed_by, ◌>>=◌, gi
 use Rattle.core_meaning.specs.Meaning.{Ending, falls, breaks, continues, returns, Frame, with_slot, Job, body_of, turn, used, truth_from, cells_filled, fill_missing, called_built_in, called_function, value_of, write_parts, initialise, asks, then_item, ending_of, items_ending, end_object}
 use Rattle.run_pairs.specs.Correspondences.{Correspondence, Grown, WhereGiven, RelatedScalars, RelatedCells, RelatedValues, RelatedObjects, HeldAside, Setting, RelatedPieces, RelatedValueLists, expression_setting, statement_setting, RelatedEndings}
 use Rattle.run_pairs.specs.Alike
-use Rattle.run_pairs.specs.Alike.{Use, Uses, direct, through, elements, unused, AreDistinct, with_use, BothGiven, RelatedFrames, AlikeParts, before_items, Selection, in_block, at_declaration, Replacement, AlikeStatements, AlikeItems, RelatedTurns, RelatedCalls, RelatedJobs, AlikeBodies, AlikeFunctions, AlikePrograms}
+use Rattle.run_pairs.specs.Alike.{Use, Uses, direct, through, elements, unused, AreDistinct, with_use, BothGiven, RelatedFrames, AlikeParts, before_items, Selection, in_block, at_declaration, Replacement, AlikeStatements, AlikeItems, RelatedJobs, AlikeFunctions, AlikePrograms}
 use Rattle.run_pairs.proofs.Pieces.{same_grown, grown_on, pieces_then, pieces_give, pieces_given, pieces_choice, pieces_to, pieces_equal, after_nothing, followed_twice, followed_same}
 use Rattle.run_pairs.proofs.MemoryPairs.{values_grow, some_same, related_with_object}
 use Rattle.run_pairs.proofs.Operations.{pieces_undefined, Same, used_related, truth_from_related, write_related, make_related, end_related}

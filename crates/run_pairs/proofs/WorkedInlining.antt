@@ -13,7 +13,7 @@ use Rattle.core_meaning.specs.Outcomes.{State, Outcome, Comes, Exits, Stops, Fai
 use Rattle.core_meaning.specs.Meaning.{as_value, scalar_from, operated, make, write_to, Ending, falls, breaks, continues, returns, Frame, with_slot, Job, body_of, value_of, then_item, items_ending, enter, meaning}
 use Rattle.run_pairs.specs.Correspondences.{Correspondence, WhereGiven}
 use Rattle.run_pairs.specs.Alike
-use Rattle.run_pairs.specs.Alike.{Use, Uses, direct, through, elements, unused, with_use, parameter_uses, AlikeFunctions, AlikeBodies, Replacement, in_block}
+use Rattle.run_pairs.specs.Alike.{Uses, direct, through, elements, unused, with_use, parameter_uses, AlikeFunctions, AlikeBodies, Replacement, in_block}
 use Rattle.run_pairs.specs.Inlining
 use Rattle.run_pairs.specs.Inlining.{Fits, ReturnsFit, IsNew, Inlines}
 use Rattle.run_pairs.specs.Starts.{first_objects_of}

@@ -7,7 +7,7 @@ use Rattle.core_meaning.specs.Program.{constant, read, address, call, slot, targ
 use Rattle.core_meaning.specs.Values.{is_scalar}
 use Rattle.run_pairs.specs.Correspondences.{Correspondence, WhereGiven}
 use Rattle.run_pairs.specs.Alike
-use Rattle.run_pairs.specs.Alike.{Use, Uses, direct, through, elements, unused, with_use, parameter_uses, AreDistinct, AlikeFunctions, AlikeBodies, AlikeItems, Replacement}
+use Rattle.run_pairs.specs.Alike.{Use, Uses, direct, through, elements, unused, with_use, parameter_uses, AreDistinct, AlikeFunctions, AlikeBodies, Replacement}
 use Rattle.run_pairs.specs.Extraction.{Entry, variable, slot_of, Extracted, Extracts}
 use Rattle.run_pairs.specs.Starts.{first_objects_of}
 use Rattle.run_pairs.specs.WorkedPairs.{before, program_behind, WorkedPair}

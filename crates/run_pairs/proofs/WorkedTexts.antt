@@ -4,7 +4,7 @@ use Rattle.std.proofs.lemmas.Option.{none-some}
 use Rattle.core_meaning.specs.Program.{call, global, read, no_argument, evaluate, no_item}
 use Rattle.run_pairs.specs.Correspondences.{Correspondence, WhereGiven}
 use Rattle.run_pairs.specs.Alike
-use Rattle.run_pairs.specs.Alike.{Use, Uses, direct, through, elements, unused, parameter_uses, AreDistinct, AlikeFunctions, AlikeBodies, Replacement, in_block}
+use Rattle.run_pairs.specs.Alike.{Uses, unused, parameter_uses, AlikeFunctions, AlikeBodies, Replacement, in_block}
 use Rattle.run_pairs.specs.Extraction.{Extracts}
 use Rattle.run_pairs.specs.Starts.{first_objects_of}
 use Rattle.run_pairs.specs.WorkedPairs.{one, does, gives, plain_number, puts_text, texts_in_order, texts_turned, WorkedTexts}

@@ -9,7 +9,7 @@ use Rattle.c_tree.specs.Trees.{PlainTree, PlainTrees, leaf, node, none, more}
 use Rattle.c_tree.specs.Grammar.{Category, expression, statement, else_part, block, items, item, for_start, Slot, local, row, level, shape, belongs, is_statement}
 use Rattle.tree_derivations.specs.Derivations.{Derivation, single, made_of, Shaped, a_row, one_or_more, Row, at_end, a_word, a_part}
 use Rattle.bindings.specs.Visible.{Reading}
-use Rattle.bindings.specs.Bindings.{in_block, read_expression, read_closed_suffix, read_declaration, read_statement, read_statements}
+use Rattle.bindings.specs.Bindings.{in_block, read_expression, read_declaration, read_statement, read_statements}
 use Rattle.scope_readings.specs.Scopes.{leave}
 use Rattle.scope_readings.specs.Walks.{role, turns, ordinary_use}
 use Rattle.scope_readings.proofs.Images.{image}

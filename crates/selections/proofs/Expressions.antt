@@ -1,6 +1,6 @@
 -- Expressions of the grammar select as they are judged.
 use Rattle.std.proofs.Common.{◌≡◌, ℕ, Bool, true, false, List, [], ◌∷◌, refl, sym, ap, subst, ◌∙◌, IsTrue}
-use Rattle.std.specs.Prelude.{not, ◌&&◌, ◌||◌, codes, Option, Some, None, slice_get, if◌then◌else◌}
+use Rattle.std.specs.Prelude.{not, ◌||◌, codes, Option, Some, None, slice_get, if◌then◌else◌}
 use Rattle.std.specs.List.{list_all}
 use Rattle.std.specs.Str.{bytes_eq}
 use Rattle.std.proofs.lemmas.Bool.{and_parts, false≢true}
@@ -19,7 +19,7 @@ use Rattle.c_tree.specs.Trees.{PlainTree, PlainTrees, leaf, node, none, more}
 use Rattle.c_tree.specs.Grammar.{expression, arguments, cast_type, cast_types, are_texts, are_words, are_words_of, is_word}
 use Rattle.c_tree.proofs.TerminalCases.{one_of, same-true}
 use Rattle.core_meaning.specs.declared.refusals.TypeKind.TheVariants.{BadOperand, Incomplete, NoMember}
-use Rattle.core_meaning.specs.Program.{PlainExpression, PlainPlace, PlainArguments, argument, no_argument, update, update_after, target}
+use Rattle.core_meaning.specs.Program.{PlainPlace, PlainArguments, argument, no_argument, update, update_after, target}
 use Rattle.core_meaning.specs.Checking.{Entity, file_entity, Checked, refused, ◌>>=◌, give, unless_so, found_or, or_broken, uses}
 use Rattle.core_meaning.specs.Entities.{Struct, Local, Sort, variable, function, FileName, Scope, local_in}
 use Rattle.core_meaning.specs.Typing.{Operand, Typed, loaded}

@@ -1,17 +1,16 @@
 -- Statements are judged as they are read.
 use Rattle.std.proofs.Common.{◌≡◌, ℕ, Bool, true, false, not, List, [], ◌∷◌, refl, sym, ap, subst, ◌∙◌, IsTrue}
-use Rattle.std.specs.Prelude.{nat_le, codes, if◌then◌else◌}
-use Rattle.std.specs.Str.{bytes_eq}
+use Rattle.std.specs.Prelude.{if◌then◌else◌}
 use Rattle.c_text.specs.Token.{PlainToken}
 use Rattle.c_types.specs.Types.{PlainType}
 use Rattle.c_tree.specs.declared.kinds.Kind.{Kind}
 use Rattle.c_tree.specs.declared.kinds.Kind.TheVariants as k
 use Rattle.c_tree.specs.declared.terminals.Terminal.TheVariants as t
 use Rattle.c_tree.specs.Trees.{PlainTree, PlainTrees, leaf, node, none, more, absent}
-use Rattle.c_tree.specs.Grammar.{Category, expression, statement, else_part, block, items, item, for_start, level, shape, is_statement}
+use Rattle.c_tree.specs.Grammar.{Category, expression, statement, else_part, block, items, item, for_start, is_statement}
 use Rattle.tree_derivations.specs.Derivations.{Derivation, single, made_of, a_row, one_or_more, at_end, a_word, a_part, left_out, given, Each, no_more, one_more, IsWord}
 use Rattle.core_meaning.specs.declared.refusals.TypeKind.TheVariants.{Misplaced}
-use Rattle.core_meaning.specs.Program.{PlainExpression, PlainStatement, constant, block, evaluate, selection, loop, break_loop, continue_loop, return_value, PlainItems, no_item, statement_item}
+use Rattle.core_meaning.specs.Program.{PlainExpression, PlainStatement, constant, block, evaluate, loop, return_value, PlainItems, statement_item}
 use Rattle.core_meaning.specs.Program as core
 use Rattle.core_meaning.specs.Checking.{Checked, fine, refused, broken, ◌>>=◌, give, unless_so, found_or}
 use Rattle.core_meaning.specs.Entities.{Scope}

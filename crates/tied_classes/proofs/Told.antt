@@ -14,7 +14,7 @@ use Rattle.reference_classes.specs.Products.{Product, names_in, InClass}
 use Rattle.reference_classes.specs.Preconditions.{IsFound}
 use Rattle.tied_tokens.specs.Ties.{PlainTie, PlainDeclaredName, PlainTiedTokens}
 use Rattle.tied_tokens.specs.Reached as tied
-use Rattle.tied_tokens.specs.Reached.{IsAccepted, IsTied, to_declaration, to_identifier, AreTied, IsReached, further, IsPossible, OccursSomewhere}
+use Rattle.tied_tokens.specs.Reached.{IsAccepted, IsTied, to_declaration, to_identifier, AreTied, IsReached, further, OccursSomewhere}
 use Rattle.tied_classes.specs.Told.{IsDeclaredBy, DeclaresName, Ties, Names, TellsProducts}
 use Rattle.tied_classes.specs.Laws.{ReachedAreClass, OccurrencesAreTold}
 use Rattle.tied_classes.proofs.Numbers.{declared_by_one}

@@ -14,7 +14,6 @@ use Rattle.type_tables.specs.Follows.{NameFollows}
 use Rattle.link_faults.specs.Measures.{is_so}
 use Rattle.bindings.specs.Visible.{ordinary}
 use Rattle.name_spaces.specs.Laws.{common_by}
-use Rattle.std.proofs.lemmas.Bool.{eqb-true}
 use Rattle.cond_pairings.specs.Pairs.{Pair, one_seen, pairs_seen}
 use Rattle.cond_pairings.proofs.Walks.{one_of}
 use Rattle.cond_pairings.specs.declared.pairs.CondPairing.{CondPairing}

@@ -4,7 +4,7 @@ use Rattle.std.specs.Prelude.{◌≤◌, Option, Some, None, is_some, if◌then�
 use Rattle.std.proofs.lemmas.Bool.{eq-eqb, ne_eqb}
 use Rattle.std.specs.Str.{bytes_eq}
 use Rattle.c_types.specs.Types.{PlainType}
-use Rattle.core_meaning.specs.Entities.{Table, no_entry, with_entry, or_else, Struct, Scope, local_in}
+use Rattle.core_meaning.specs.Entities.{Table, or_else, Struct, Scope, local_in}
 use Rattle.core_meaning.specs.Entities as scopes
 use Rattle.core_meaning.specs.Declarations.{innermost, with_local_in, with_local, with_block}
 use Rattle.operand_types.specs.OperandTypes.{renumbered}

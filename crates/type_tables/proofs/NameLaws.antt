@@ -4,7 +4,7 @@ use Rattle.std.specs.Prelude.{◌==◌, Option, Some, None, if◌then◌else◌}
 use Rattle.std.proofs.lemmas.Bool.{ne_eqb}
 use Rattle.std.specs.Str.{bytes_eq}
 use Rattle.conditional.specs.Entries.{or_later}
-use Rattle.core_meaning.specs.Entities.{no_entry, Struct, Signature, Numbers, Scope}
+use Rattle.core_meaning.specs.Entities.{Struct, Signature, Numbers, Scope}
 use Rattle.core_meaning.specs.Entities as scopes
 use Rattle.core_meaning.specs.UnitNames.{with_file_name, unit_start}
 use Rattle.type_tables.specs.Tables.{Tables, FileName, Sort, object, declared_function}

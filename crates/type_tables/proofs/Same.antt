@@ -4,9 +4,9 @@ use Rattle.std.specs.Prelude.{Option, Some, None, slice_get, if◌then◌else◌
 use Rattle.std.proofs.Math.Path.{fun_ext}
 use Rattle.std.specs.Str.{bytes_eq}
 use Rattle.c_types.specs.Tags.{PlainMember}
-use Rattle.core_meaning.specs.Entities.{Table, Signature}
+use Rattle.core_meaning.specs.Entities.{Table}
 use Rattle.core_meaning.specs.Constancy.{capped}
-use Rattle.type_tables.specs.Tables.{Tables, FileName, Local}
+use Rattle.type_tables.specs.Tables.{Tables}
 use Rattle.type_tables.specs.Seen.{is_declared, is_complete, members_of, scalars_of, tag_of, is_of_tag, tag_in}
 use Rattle.type_tables.specs.Changes.{IsUndeclared}
 use Rattle.type_tables.specs.declared.entries.CondStruct.{CondStruct}

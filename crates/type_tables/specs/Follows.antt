@@ -3,7 +3,7 @@ use Rattle.std.specs.Prelude.{◌≡◌, ℕ, suc, ◌<◌, ◌≤◌, true, fal
 use Rattle.std.specs.Str.{bytes_eq}
 use Rattle.c_types.specs.Types.{PlainType}
 use Rattle.c_types.specs.Tags.{PlainMember}
-use Rattle.core_meaning.specs.Entities.{Table, Struct, Signature, Scope, local_in}
+use Rattle.core_meaning.specs.Entities.{Struct, Signature, Scope, local_in}
 use Rattle.core_meaning.specs.Entities as scopes
 use Rattle.core_meaning.specs.Declarations.{innermost}
 use Rattle.operand_types.specs.OperandTypes.{struct_in, renumbered}

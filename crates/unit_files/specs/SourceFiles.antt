@@ -5,7 +5,7 @@ use Rattle.text_edits.specs.declared.files.SourceFile.{SourceFile}
 use Rattle.text_edits.specs.Files.{plain_file}
 use Rattle.c_text.specs.Lines.{PlainLine}
 use Rattle.c_text.specs.Preprocessing as spec
-use Rattle.c_text.specs.Preprocessing.{Flow, Syntax, built_in_file, built_in_text, file_at, read_source, feature_token}
+use Rattle.c_text.specs.Preprocessing.{Flow, Syntax, built_in_file, built_in_text, file_at, read_source}
 use Rattle.unit_files.specs.declared.sources.Sources.{Sources}
 
 -- the number of a source's file, its text, and which of the text's lines are its

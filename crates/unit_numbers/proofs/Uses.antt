@@ -5,7 +5,7 @@ use Rattle.std.specs.List.{AllZip, AllByRecursion}
 use Rattle.core_meaning.specs.Checking.{Entity, local_entity, local_of_function, file_entity, struct_entity, member_entity, own_entity, Binding}
 use Rattle.bindings.specs.Visible.{bound_to, undeclared, member_use, Occurrence as BoundIdentifier, Binding as Visible}
 use Rattle.bindings.specs.Bindings.{bindings_of}
-use Rattle.bindings.specs.Judged.{Identified, first_with, number_or, identified, IsBoundAlike, IsAlike, AreAlike, is_file_entity, IsUsedAlike}
+use Rattle.bindings.specs.Judged.{Identified, first_with, number_or, identified, IsAlike, AreAlike, is_file_entity, IsUsedAlike}
 use Rattle.bindings.specs.Laws.{JudgementsBindAlike, FileNamesAreUsedAlike}
 use Rattle.bound_names.specs.Laws.{IsBoundBefore, IsUseOfBefore, UsesAreOfBefore}
 use Rattle.tree_derivations.specs.Derivations.{UnitsAreDerived}

@@ -1,7 +1,5 @@
 -- What a unit gives is spelt as its kinds say.
 use Rattle.std.proofs.Common.{ℕ, zero, suc, ◌≤◌, List, length, Some, None, refl, All}
-use Rattle.std.specs.List.{AllByRecursion, list_any}
-use Rattle.std.specs.Str.{bytes_eq}
 use Rattle.std.proofs.lemmas.List.Elements.{All-from_recursion}
 use Rattle.c_text.specs.Token.{PlainToken}
 use Rattle.c_text.specs.Trees.{lines_in}

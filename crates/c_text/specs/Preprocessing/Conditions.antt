@@ -1,5 +1,5 @@
 -- The conditions of `#if`, `#elif`, `#ifdef` and `#ifndef` lines (ISO/IEC 9899:2011, 6.10.1).
-use Rattle.std.specs.Prelude.{if◌then◌else◌, ℕ, zero, suc, ◌-◌, Bool, true, false, not, ◌&&◌, ℤ, List, [], ◌∷◌, map, length, drop, codes, Option, Some, None, is_some}
+use Rattle.std.specs.Prelude.{if◌then◌else◌, ℕ, zero, suc, Bool, true, false, not, ◌&&◌, ℤ, List, [], ◌∷◌, map, length, drop, codes, Option, Some, None, is_some}
 use Rattle.c_text.specs.declared.token.TokenKind.TheVariants.{Number}
 use Rattle.c_text.specs.Token.{PlainToken}
 use Rattle.c_text.specs.Directives.{PlainDirective, if_line, ifdef_line, ifndef_line, elif_line, else_line, directive_of, is_spelled, is_word}

@@ -1,5 +1,5 @@
 -- What `#define` does to the table of macros (ISO/IEC 9899:2011, 6.10.3).
-use Rattle.std.specs.Prelude.{if◌then◌else◌, ℕ, ◌-◌, Bool, true, false, ◌&&◌, List, [], ◌∷◌, map, Option, Some, None}
+use Rattle.std.specs.Prelude.{if◌then◌else◌, ℕ, Bool, true, false, ◌&&◌, List, [], ◌∷◌, map, Option, Some, None}
 use Rattle.std.specs.Str.{bytes_eq}
 use Rattle.c_text.specs.Token.{PlainToken}
 use Rattle.c_text.specs.Directives.{PlainMacro}

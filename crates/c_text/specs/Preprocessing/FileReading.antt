@@ -1,5 +1,5 @@
 -- The reading of a file, by its directive lines and conditional groups (ISO/IEC 9899:2011, 6.10).
-use Rattle.std.specs.Prelude.{if◌then◌else◌, ℕ, ◌-◌, Bool, true, false, ℤ, List, [], ◌∷◌, drop, Option, Some, None}
+use Rattle.std.specs.Prelude.{if◌then◌else◌, ℕ, Bool, true, false, ℤ, List, [], ◌∷◌, drop, Option, Some, None}
 use Rattle.c_text.specs.Token.{PlainToken}
 use Rattle.c_text.specs.Lines.{PlainLine}
 use Rattle.c_text.specs.Directives.{PlainDirective, define_line, bad_define, undef_line, include_line, error_line, null_line, directive_of}

@@ -1,5 +1,5 @@
 -- How far the reading of a unit has come, and what a run of tokens between two directive lines does to it.
-use Rattle.std.specs.Prelude.{◌-◌, List, [], ◌∷◌, ◌++◌, map, Option, Some, None}
+use Rattle.std.specs.Prelude.{List, [], ◌∷◌, ◌++◌, map, Option, Some, None}
 use Rattle.c_text.specs.Token.{PlainToken}
 use Rattle.c_text.specs.Lines.{PlainLine}
 use Rattle.c_text.specs.Macros.{Table, Replaced, fine, bad_call, replaced}

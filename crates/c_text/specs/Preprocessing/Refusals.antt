@@ -1,5 +1,5 @@
 -- Why a configuration is refused, and at which file token (ISO/IEC 9899:2011, 6.10; the kinds are this project's own).
-use Rattle.std.specs.Prelude.{if◌then◌else◌, ℕ, ◌-◌, Bool, true, false, ◌&&◌, nat_lt, List, [], ◌∷◌, Option, Some, None}
+use Rattle.std.specs.Prelude.{if◌then◌else◌, ℕ, Bool, true, false, ◌&&◌, nat_lt, List, [], ◌∷◌, Option, Some, None}
 use Rattle.text_edits.specs.Span.{PlainSpan}
 use Rattle.c_text.specs.declared.token.BadKind.{BadKind}
 use Rattle.c_text.specs.declared.token.BadKind.TheVariants.{OpenComment}

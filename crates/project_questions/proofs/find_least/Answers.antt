@@ -1,5 +1,5 @@
-use Rattle.std.proofs.Common.{◌≡◌, ℕ, ◌≤◌, Bool, List, length, IsTrue, rules, subst, sym, ◌∙◌, arith}
-use Rattle.std.specs.Prelude.{◌↔◌, string_bytes}
+use Rattle.std.proofs.Common.{◌≡◌, Bool, List, length, IsTrue, rules, subst, sym, arith}
+use Rattle.std.specs.Prelude.{string_bytes}
 use Rattle.std.proofs.lemmas.List.{length-map}
 use Rattle.cond_formula.specs.Features.{has}
 use Rattle.cond_formula.specs.Conditions.{condition_of, value, VarsBelow}

@@ -1,4 +1,4 @@
-use Rattle.std.proofs.Common.{List, ℕ, ap, sym, subst, ◌∙◌, ◌≡◌}
+use Rattle.std.proofs.Common.{List, ℕ, ap, sym, subst, ◌≡◌}
 use Rattle.text_edits.specs.Files.{plain_files}
 use Rattle.cond_formula.specs.Features.{has}
 use Rattle.project_file.specs.Projects.{names_on}
@@ -8,9 +8,7 @@ use Rattle.command_promises.specs.Courses.{says}
 use Rattle.command_promises.specs.Sayings.{saying}
 use Rattle.tied_tokens.specs.Tokens.{plain_file_tokens}
 use Rattle.c_text.specs.declared.origin.FileToken.{FileToken}
-use Rattle.class_edits.specs.Listed.{StandApart}
 use Rattle.rename_op.specs.Outcomes.{plain_precondition, HasOldName, IsRefused, IsRenamed, IsOutcome}
-use Rattle.rename_op.specs.declared.outcomes.Outcome.{Outcome}
 use Rattle.rename_words.specs.Steps.{query_of}
 use Rattle.command_rename.specs.Steps.{source_of}
 use Rattle.command_rename.proofs.Said.{same-name-said, refusal-said, renaming-said}

@@ -1,4 +1,4 @@
-use Rattle.std.proofs.Common.{inl, inr, ap, List, ℕ, map, Ok}
+use Rattle.std.proofs.Common.{inl, inr, ap, map, Ok}
 use Rattle.std.specs.String.{string_bytes}
 use Rattle.command_promises.specs.Courses.{says}
 use Rattle.command_promises.specs.Commands.{CourseFor}

@@ -3,7 +3,7 @@ use Rattle.project_file.specs.View.{project_view}
 use Rattle.project_store.specs.Reads.{names_of, IsTooLong, HasAbsent}
 use Rattle.command_promises.proofs.Causes.{said_at_once}
 use Rattle.command_projects.specs.Projects.{WithFiles}
-use Rattle.command_projects.proofs.Reading.{came_with_files, came_before, comes_to_long, unread_file, refusal_came}
+use Rattle.command_projects.proofs.Reading.{came_with_files, comes_to_long, unread_file, refusal_came}
 use Rattle.rename_words.specs.Steps.{query_of}
 use Rattle.command_rename.specs.Steps.{OfSources}
 use Rattle.command_rename.proofs.renaming.with_files.Goals as goal

@@ -1,4 +1,4 @@
-use Rattle.std.proofs.Common.{◌≡◌, Ok, ap, inr}
+use Rattle.std.proofs.Common.{Ok, ap, inr}
 use Rattle.project_file.specs.View.{project_view}
 use Rattle.project_store.specs.Reads.{names_of}
 use Rattle.command_promises.specs.Courses.{says}

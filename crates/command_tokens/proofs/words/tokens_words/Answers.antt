@@ -1,4 +1,4 @@
-use Rattle.std.proofs.Common.{◌≡◌, ◌∙◌, ap, map}
+use Rattle.std.proofs.Common.{◌∙◌, ap, map}
 use Rattle.std.specs.String.{string_bytes}
 use Rattle.command_promises.proofs.Items.{three_items}
 use Rattle.command_tokens.proofs.words.tokens_words.Goals as goal

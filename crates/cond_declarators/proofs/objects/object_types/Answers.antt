@@ -1,4 +1,4 @@
-use Rattle.std.proofs.Common.{true, ap, ◌∙◌, subst}
+use Rattle.std.proofs.Common.{true, subst}
 use Rattle.std.specs.Prelude.{option_map}
 use Rattle.cond_formula.specs.Features.{has}
 use Rattle.conditional.specs.Entries.{entries_of, Stands}

@@ -1,4 +1,4 @@
-use Rattle.std.proofs.Common.{◌&&◌, refl, ap, ◌∙◌, subst}
+use Rattle.std.proofs.Common.{refl, ap, ◌∙◌, subst}
 use Rattle.cond_formula.specs.Features.{has}
 use Rattle.cond_formula.specs.Conditions.{condition_of, value}
 use Rattle.declarator_lists.specs.Entries.{declarator_at}

@@ -1,5 +1,5 @@
 use Rattle.cond_formula.specs.Features.{has}
-use Rattle.conditional.specs.Entries.{entries_of, Stands, Carry}
+use Rattle.conditional.specs.Entries.{Carry}
 use Rattle.conditional.specs.Judgements.{Shows}
 use Rattle.conditional.proofs.CrossingLaws.{one_judged}
 use Rattle.std.proofs.Common.{subst}

@@ -5,7 +5,7 @@ use Rattle.cond_formula.specs.Features.{has}
 use Rattle.cond_formula.specs.Conditions.{Condition, condition_of, value}
 use Rattle.c_text.specs.Lines.{plain_line}
 use Rattle.c_text.specs.Preprocessing as spec
-use Rattle.c_text.specs.Preprocessing.{Reading, Flow, Setting}
+use Rattle.c_text.specs.Preprocessing.{Flow}
 use Rattle.file_walks.specs.Walk.{Walk, step, finished}
 use Rattle.unit_files.specs.Inclusions.{plain_source, IsAmong}
 use Rattle.unit_files.specs.SourceFiles.{deeper_of}

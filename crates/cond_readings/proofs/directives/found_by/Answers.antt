@@ -4,7 +4,7 @@ use Rattle.std.specs.String.{string_bytes}
 use Rattle.c_text.specs.Token.{plain_token}
 use Rattle.c_text.specs.Directives.{include_line}
 use Rattle.c_text.specs.Preprocessing as spec
-use Rattle.c_text.specs.Preprocessing.{Reading, directed, refused_token, then_read}
+use Rattle.c_text.specs.Preprocessing.{directed, refused_token}
 use Rattle.unit_files.specs.Inclusions.{plain_source}
 use Rattle.cond_readings.specs.Settings.{IsFound}
 use Rattle.cond_readings.proofs.DirectiveLemmas.{found-is, found-none, may-enter, both-left}

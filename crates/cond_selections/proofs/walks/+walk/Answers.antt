@@ -1,4 +1,4 @@
-use Rattle.std.proofs.Common.{◌≡◌, suc, ◌≤◌, false, ◌&&◌, Some, None, refl, sym, ap, subst, ◌∙◌, arith}
+use Rattle.std.proofs.Common.{◌≡◌, suc, ◌≤◌, false, ◌&&◌, refl, sym, ap, subst, ◌∙◌, arith}
 use Rattle.cond_formula.specs.Features.{has}
 use Rattle.cond_formula.specs.Conditions.{condition_of, value}
 use Rattle.cond_formula.specs.ConditionLaws.{condition_of-True, condition_of-False}

@@ -14,7 +14,7 @@ use Rattle.cond_scopes.specs.Units.{present_trees}
 use Rattle.cond_types.specs.declared.units.TypedUnits.{TypedUnits}
 use Rattle.cond_types.specs.Units.{AreTyped}
 use Rattle.cond_types.proofs.EachUnit.{ahead_are, none_gone, one_more_gone, all_gone}
-use Rattle.cond_types.proofs.Present.{taken_at, units_at, none_present, one_more_present, all_present}
+use Rattle.cond_types.proofs.Present.{taken_at, none_present, one_more_present, all_present}
 use Rattle.cond_types.proofs.units.declare_units.Goals as goal
 
 pub loop-unit-init : goal.loop-unit-init

@@ -1,4 +1,4 @@
-use Rattle.std.proofs.Common.{◌≡◌, ℕ, Bool, ◌+◌, ◌*◌}
+use Rattle.std.proofs.Common.{ℕ, Bool, ◌+◌, ◌*◌}
 use Rattle.choice_trees.specs.ChoiceTrees.{plain_item, plain_branches, plain_choices}
 use Rattle.choice_trees.specs.Depths.{depth, branches_depth, choices_depth}
 use Rattle.exclusive_forests.specs.Apart.{ChoiceApart, PartsApart}

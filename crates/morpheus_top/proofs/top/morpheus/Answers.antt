@@ -1,4 +1,4 @@
-use Rattle.std.proofs.Common.{map, refl}
+use Rattle.std.proofs.Common.{map}
 use Rattle.std.specs.String.{string_bytes}
 use Rattle.command_promises.specs.Commands.{CourseOf}
 use Rattle.command_promises.proofs.Promising.{promises_of, usage_statuses}

@@ -1,4 +1,4 @@
-use Rattle.std.proofs.Common.{◌≡◌, ◌+◌, ◌∷◌, List, ℕ, drop, sym, ap, ◌∙◌, arith}
+use Rattle.std.proofs.Common.{◌+◌, List, drop, sym, ap, ◌∙◌, arith}
 use Rattle.c_tree.specs.declared.trees.Tree.{Tree}
 use Rattle.c_tree.specs.Trees.{plain_tree, plain_trees}
 use Rattle.core_meaning.specs.Linking as spec

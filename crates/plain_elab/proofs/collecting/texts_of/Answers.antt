@@ -1,4 +1,4 @@
-use Rattle.std.proofs.Common.{◌≡◌, [], ap, ◌∙◌}
+use Rattle.std.proofs.Common.{[], ap, ◌∙◌}
 use Rattle.c_tree.specs.Trees.{plain_trees}
 use Rattle.core_meaning.specs.Linking as spec
 use Rattle.plain_elab.proofs.TextLaws.{units_texts}

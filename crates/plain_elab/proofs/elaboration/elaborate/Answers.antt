@@ -1,4 +1,4 @@
-use Rattle.std.proofs.Common.{◌≡◌, List, map, sym, subst, ◌∙◌}
+use Rattle.std.proofs.Common.{List, map, subst}
 use Rattle.c_tree.specs.Trees.{plain_tree}
 use Rattle.core_meaning.specs.declared.program.CoreProgram.{CoreProgram}
 use Rattle.core_meaning.specs.Linking.{IsElaborated}

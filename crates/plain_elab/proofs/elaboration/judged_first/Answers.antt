@@ -1,4 +1,4 @@
-use Rattle.std.proofs.Common.{◌≡◌, ℕ, [], List, map, sym, ap, subst, ◌∙◌, Vec, Global}
+use Rattle.std.proofs.Common.{◌≡◌, ℕ, [], map, sym, ap, subst, ◌∙◌, Vec, Global}
 use Rattle.c_tree.specs.Trees.{plain_tree}
 use Rattle.core_meaning.specs.Checking.{give}
 use Rattle.core_meaning.specs.Entities.{Numbers}

@@ -1,9 +1,8 @@
-use Rattle.std.proofs.Common.{◌≡◌, ℕ, [], List, map, length, false, sym, ap, subst, ◌∙◌, Vec, Global}
+use Rattle.std.proofs.Common.{◌≡◌, ℕ, [], List, map, length, false, sym, ap, subst, ◌∙◌}
 use Rattle.std.specs.Str.{bytes_eq}
 use Rattle.c_tree.specs.Trees.{plain_tree}
 use Rattle.core_meaning.specs.Checking.{give}
-use Rattle.core_meaning.specs.Entities.{Numbers}
-use Rattle.core_meaning.specs.Linking.{judged_program, judged_units, literals_of, no_numbers, listed, numbers_in, place_where}
+use Rattle.core_meaning.specs.Linking.{judged_program, literals_of, no_numbers, listed, numbers_in, place_where}
 use Rattle.plain_scope.specs.PlainScope.{entry_of}
 use Rattle.plain_scope.specs.Judgements.{RefusedAs}
 use Rattle.plain_scope.specs.declared.entities.Numbers.{Numbers as RustNumbers}

@@ -1,6 +1,6 @@
-use Rattle.std.proofs.Common.{◌≡◌, ℕ, ◌+◌, List, [], ◌∷◌, map, drop, sym, ap, subst, ◌∙◌, Vec, Global, slice_get, arith}
+use Rattle.std.proofs.Common.{◌≡◌, ◌+◌, [], ◌∷◌, map, drop, sym, ap, subst, ◌∙◌, Vec, Global, slice_get, arith}
 use Rattle.std.specs.Prelude.{Some}
-use Rattle.c_tree.specs.Trees.{PlainTree, plain_tree}
+use Rattle.c_tree.specs.Trees.{plain_tree}
 use Rattle.core_meaning.specs.Checking.{give}
 use Rattle.core_meaning.specs.Entities.{Numbers}
 use Rattle.core_meaning.specs.UnitNames.{judged_unit}
@@ -9,7 +9,7 @@ use Rattle.plain_scope.specs.declared.entities.Struct.{Struct}
 use Rattle.plain_link.specs.declared.left.Left.{Left}
 use Rattle.plain_scope.specs.PlainScope.{plain_struct}
 use Rattle.plain_units.specs.Closing.{plain_numbers, one_judged}
-use Rattle.plain_elab.specs.PlainStates.{plain_judged, numbers_at, behind_units, or_no_numbers}
+use Rattle.plain_elab.specs.PlainStates.{plain_judged, numbers_at, or_no_numbers}
 use Rattle.plain_scope.specs.Judgements.{RefusedAs}
 use Rattle.plain_elab.proofs.JudgingLaws.{passed_on, drop_at, found_at, behind_one, behind_refused, units_refused}
 use Rattle.plain_elab.proofs.judging.judged.Goals as goal

@@ -1,6 +1,5 @@
-use Rattle.std.proofs.Common.{List, [], ◌∷◌, ◌+◌, sym, ap, subst}
+use Rattle.std.proofs.Common.{[], ◌∷◌, ◌+◌, sym, ap, subst}
 use Rattle.std.proofs.lemmas.List.{length-append}
-use Rattle.plain_scope.specs.declared.entities.Numbers.{Numbers}
 use Rattle.plain_elab.specs.PlainStates.{HaveNoNumbers}
 use Rattle.plain_elab.proofs.NumberLaws.{none_more}
 use Rattle.plain_elab.proofs.judging.unnumbered.Goals as goal

@@ -1,4 +1,4 @@
-use Rattle.std.proofs.Common.{map, arith, true, false}
+use Rattle.std.proofs.Common.{arith, true, false}
 use Rattle.std.proofs.lemmas.Bool.{both_ways}
 use Rattle.c_types.specs.Types.{plain_type}
 use Rattle.c_types.specs.Tags.{plain_tags}

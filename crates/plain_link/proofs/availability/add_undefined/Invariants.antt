@@ -1,10 +1,5 @@
-use Rattle.std.proofs.Common.{◌≡◌, ◌+◌, ◌-◌, ◌≤◌, ◌^◌, ◌++◌, List, [], min, drop, take, map, length}
-use Rattle.std.specs.Prelude.{nat_le, ◌&&◌, filter}
-use Rattle.std.specs.List.{list_any, All, AllZip}
-use Rattle.core_meaning.specs.Linking as spec
-use Rattle.plain_link.specs.PlainUnits.{plain_unit, key_texts}
-use Rattle.plain_link.specs.PlainDefinitions.{plain_defined}
-use Rattle.std.proofs.Common.{Bor, Vec, ℕ}
+use Rattle.std.proofs.Common.{◌≡◌, ◌+◌, ◌-◌, ◌++◌, [], map}
+use Rattle.std.specs.Prelude.{filter}
 use Rattle.plain_link.specs.Faults.{undefined_in, not_available}
 use Rattle.plain_link.proofs.availability.add_undefined.Given as goal
 

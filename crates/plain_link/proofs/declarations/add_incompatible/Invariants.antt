@@ -1,9 +1,7 @@
-use Rattle.std.proofs.Common.{◌≡◌, ◌++◌, List, [], drop, map, ℕ}
+use Rattle.std.proofs.Common.{List, [], map, ℕ}
 use Rattle.c_types.specs.Tags.{plain_tags}
-use Rattle.core_meaning.specs.Linking as spec
-use Rattle.plain_scope.specs.PlainScope.{plain_sort}
 use Rattle.plain_link.specs.PlainUnits.{plain_unit, key_texts}
-use Rattle.plain_link.specs.Faults.{AllOf, FitsSort, IsApartFrom, IsApartOf, IsApartAmong, Adds, Collects, Reaches}
+use Rattle.plain_link.specs.Faults.{IsApartOf, Adds}
 use Rattle.plain_link.proofs.declarations.add_incompatible.Given as goal
 
 abbrev pub invariant-loop-name : goal.invariant-loop-name

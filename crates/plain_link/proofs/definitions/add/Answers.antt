@@ -1,6 +1,4 @@
-use Rattle.std.proofs.Common.{◌≡◌, sym, ap, rules, ◌∙◌, subst}
-use Rattle.std.specs.Prelude.{Some, ℕ, List, Option}
-use Rattle.plain_link.specs.Counts.{CountsMore}
+use Rattle.std.proofs.Common.{◌≡◌, sym, rules}
 use Rattle.plain_link.specs.MapLaws.{put_there}
 use Rattle.plain_link.proofs.definitions.add.Goals as goal
 

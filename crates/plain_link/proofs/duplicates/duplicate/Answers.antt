@@ -1,4 +1,4 @@
-use Rattle.std.proofs.Common.{◌≡◌, List, [], ◌++◌, map, ℕ, sym, subst, ◌∙◌, drop, arith}
+use Rattle.std.proofs.Common.{◌≡◌, [], map, sym, subst, ◌∙◌, drop, arith}
 use Rattle.std.proofs.lemmas.List.{append-nil}
 use Rattle.std.proofs.Math.ListN.{drop_of_length-le}
 use Rattle.core_meaning.specs.declared.refusals.LinkKind.TheVariants as link

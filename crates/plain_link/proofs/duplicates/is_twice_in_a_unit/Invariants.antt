@@ -1,9 +1,8 @@
-use Rattle.std.proofs.Common.{◌≡◌, ◌+◌, ◌-◌, ◌≤◌, ◌^◌, ◌++◌, List, [], min, drop, take, map, length}
-use Rattle.std.specs.Prelude.{nat_le, ◌&&◌, filter}
-use Rattle.std.specs.List.{list_any, All, AllZip}
+use Rattle.std.proofs.Common.{◌≡◌, ◌-◌, [], drop, map}
+use Rattle.std.specs.Prelude.{nat_le}
+use Rattle.std.specs.List.{list_any}
 use Rattle.core_meaning.specs.Linking as spec
-use Rattle.plain_link.specs.PlainUnits.{plain_unit, key_texts}
-use Rattle.plain_link.specs.PlainDefinitions.{plain_defined}
+use Rattle.plain_link.specs.PlainUnits.{plain_unit}
 use Rattle.plain_link.proofs.duplicates.is_twice_in_a_unit.Given as goal
 
 abbrev pub invariant-loop-unit : goal.invariant-loop-unit

@@ -1,4 +1,3 @@
-use Rattle.std.proofs.Common.{List, ℕ, map, Bor}
 use Rattle.core_meaning.specs.Linking.{Links}
 use Rattle.plain_link.specs.PlainUnits.{plain_units}
 use Rattle.plain_link.specs.Faults.{NotLinked}

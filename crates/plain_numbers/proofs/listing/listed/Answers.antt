@@ -1,4 +1,4 @@
-use Rattle.std.proofs.Common.{◌≡◌, ◌+◌, ◌∷◌, ◌++◌, [], List, ℕ, map, drop, sym, ap, ◌∙◌, arith}
+use Rattle.std.proofs.Common.{◌+◌, [], List, map, drop, sym, ap, ◌∙◌, arith}
 use Rattle.core_meaning.specs.Linking as spec
 use Rattle.plain_link.specs.declared.left.Left.{Left}
 use Rattle.plain_link.specs.PlainUnits.{plain_unit}

@@ -1,4 +1,4 @@
-use Rattle.std.proofs.Common.{◌≡◌, ◌≤◌, length, [], map, drop}
+use Rattle.std.proofs.Common.{◌≡◌, [], map, drop}
 use Rattle.core_meaning.specs.Linking as spec
 use Rattle.plain_link.specs.PlainUnits.{plain_unit}
 use Rattle.plain_numbers.specs.PlainLinked.{plain_list, IsPlaced}

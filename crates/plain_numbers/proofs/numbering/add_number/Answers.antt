@@ -1,4 +1,4 @@
-use Rattle.std.proofs.Common.{◌∷◌, ◌++◌, [], map, sym, ◌∙◌}
+use Rattle.std.proofs.Common.{[], map, sym, ◌∙◌}
 use Rattle.core_meaning.specs.Linking.{place_where, same_linked, linked_in}
 use Rattle.plain_scope.specs.PlainScope.{entry_of}
 use Rattle.plain_numbers.specs.Numbering.{number_for}

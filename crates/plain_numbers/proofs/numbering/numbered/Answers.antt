@@ -1,4 +1,4 @@
-use Rattle.std.proofs.Common.{◌≡◌, ◌+◌, ◌∷◌, ◌++◌, [], ℕ, List, length, map, take, sym, ap, subst, ◌∙◌, zero-add, arith}
+use Rattle.std.proofs.Common.{◌≡◌, ◌+◌, ◌∷◌, ◌++◌, [], List, length, map, take, sym, subst, ◌∙◌, zero-add, arith}
 use Rattle.std.proofs.lemmas.List.{length-map, length-take-le}
 use Rattle.core_meaning.specs.Linking.{Unit}
 use Rattle.plain_link.specs.PlainUnits.{plain_unit}

@@ -1,5 +1,4 @@
-use Rattle.std.proofs.Common.{◌+◌, ◌∷◌, ◌++◌, [], ◌≡◌, List, ℕ, map, take, length, sym, ap, subst, ◌∙◌, Vec, Global, arith}
-use Rattle.plain_scope.specs.PlainScope.{entry_of}
+use Rattle.std.proofs.Common.{◌+◌, ◌∷◌, ◌++◌, [], List, ℕ, map, take, length, sym, ap, ◌∙◌, Vec, Global, arith}
 use Rattle.plain_link.specs.PlainUnits.{plain_unit}
 use Rattle.plain_numbers.specs.PlainLinked.{plain_list}
 use Rattle.plain_numbers.specs.Numbering.{number_for}

@@ -1,4 +1,4 @@
-use Rattle.std.proofs.Common.{◌≡◌, sym, ap, ◌∙◌, rules, List, ℕ}
+use Rattle.std.proofs.Common.{◌≡◌, sym, ap, ◌∙◌, rules}
 use Rattle.std.specs.Prelude.{Some, if◌then◌else◌}
 use Rattle.std.specs.Str.{bytes_eq}
 use Rattle.core_meaning.specs.Linking as spec
@@ -6,7 +6,7 @@ use Rattle.core_meaning.specs.Linking.{place_where, same_linked}
 use Rattle.plain_link.specs.PlainUnits.{plain_unit}
 use Rattle.plain_link.specs.MapLaws.{put_there}
 use Rattle.plain_scope.specs.PlainScope.{entry_of}
-use Rattle.plain_numbers.specs.PlainLinked.{plain_linked, plain_list}
+use Rattle.plain_numbers.specs.PlainLinked.{plain_list}
 use Rattle.plain_numbers.specs.Numbering.{with_number}
 use Rattle.plain_numbers.proofs.numbering.put_number.Goals as goal
 

@@ -1,7 +1,7 @@
 use Rattle.std.proofs.Common.{◌≡◌, sym, ap, ◌∙◌, rules}
 use Rattle.std.specs.Prelude.{option_map}
 use Rattle.core_meaning.specs.Entities as entities
-use Rattle.core_meaning.specs.Entities.{Table, with_entry}
+use Rattle.core_meaning.specs.Entities.{Table}
 use Rattle.plain_scope.specs.declared.entities.FileName.{FileName}
 use Rattle.plain_scope.specs.PlainScope.{entry_of, plain_file_name}
 use Rattle.plain_scope.proofs.NameLemmas.{entered, mapped_entry}

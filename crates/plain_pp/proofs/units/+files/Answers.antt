@@ -6,7 +6,7 @@ use Rattle.c_text.specs.Token.{plain_token}
 use Rattle.c_text.specs.Lines.{plain_line, AreItsLines}
 use Rattle.c_text.specs.declared.line.Line.{Line}
 use Rattle.c_text.specs.Preprocessing as spec
-use Rattle.c_text.specs.Preprocessing.{Flow, Setting}
+use Rattle.c_text.specs.Preprocessing.{Flow}
 use Rattle.unit_files.specs.declared.inclusions.Source.{Source}
 use Rattle.unit_files.specs.Inclusions.{plain_source, IsAmong}
 use Rattle.unit_files.specs.Settings.{entered}

@@ -1,11 +1,10 @@
-use Rattle.std.proofs.Common.{◌≡◌, ◌∷◌, ◌++◌, [], map, length, ℕ, sym, ap, ◌∙◌, arith}
+use Rattle.std.proofs.Common.{◌≡◌, ◌∷◌, ◌++◌, [], map, length, sym, ap, ◌∙◌, arith}
 use Rattle.std.specs.Prelude.{Option}
 use Rattle.std.proofs.lemmas.List.{map-append, length-map}
 use Rattle.core_meaning.specs.Entities.{or_else}
 use Rattle.core_meaning.specs.UnitNames.{Body}
 use Rattle.plain_link.specs.PlainDefinitions.{plain_defined}
 use Rattle.plain_link.specs.PlainUnits.{plain_unit}
-use Rattle.plain_link.specs.declared.definitions.Defined.{Defined}
 use Rattle.plain_program.specs.Bodies.{held, whole_for, body_for}
 use Rattle.plain_program.proofs.BodyLaws.{or_else_assoc, body_for_more}
 use Rattle.plain_program.proofs.bodies.bodies_of.Goals as goal

@@ -1,4 +1,4 @@
-use Rattle.std.proofs.Common.{◌≡◌, sym, ap, ◌∙◌}
+use Rattle.std.proofs.Common.{sym, ap, ◌∙◌}
 use Rattle.plain_program.specs.Bodies.{held}
 use Rattle.plain_program.specs.Functions.{function_under}
 use Rattle.plain_program.proofs.FunctionLaws.{apart_of_unit}

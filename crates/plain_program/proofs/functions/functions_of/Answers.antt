@@ -1,10 +1,10 @@
-use Rattle.std.proofs.Common.{◌≡◌, ◌+◌, ◌∷◌, ◌++◌, [], ℕ, List, length, map, take, drop, refl, sym, ap, subst, ◌∙◌, arith}
+use Rattle.std.proofs.Common.{◌≡◌, ◌+◌, ◌∷◌, ◌++◌, [], ℕ, List, map, take, drop, refl, sym, ap, subst, ◌∙◌, arith}
 use Rattle.std.proofs.lemmas.List.{map-append}
 use Rattle.core_meaning.specs.Plain.{plain_function}
 use Rattle.core_meaning.specs.Program.{PlainFunction}
 use Rattle.plain_numbers.specs.declared.places.Linked.{Linked}
 use Rattle.plain_program.specs.Bodies.{held}
-use Rattle.plain_program.specs.Functions.{function_for, IsApartFrom, AreApart, SameFor}
+use Rattle.plain_program.specs.Functions.{function_for, AreApart, SameFor}
 use Rattle.plain_program.proofs.FunctionLaws.{same_for_itself, same_for_step, drop_at, map_taken, take_all}
 use Rattle.plain_program.proofs.functions.functions_of.Goals as goal
 

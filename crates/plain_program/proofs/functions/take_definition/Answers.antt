@@ -1,4 +1,4 @@
-use Rattle.std.proofs.Common.{◌≡◌, true, false, sym, ap, ◌∙◌}
+use Rattle.std.proofs.Common.{sym, ap, ◌∙◌}
 use Rattle.std.specs.Prelude.{None, option_map, if◌then◌else◌}
 use Rattle.core_meaning.specs.Linking as spec
 use Rattle.core_meaning.specs.Linking.{same_linked, parts_of_body}

@@ -1,10 +1,9 @@
-use Rattle.std.proofs.Common.{◌≡◌, sym, ap, ◌∙◌, rules, cond}
-use Rattle.std.specs.Prelude.{None, Option, option_map, if◌then◌else◌}
+use Rattle.std.proofs.Common.{ap, ◌∙◌}
+use Rattle.std.specs.Prelude.{None, option_map}
 use Rattle.plain_link.specs.PlainDefinitions.{plain_body}
-use Rattle.plain_link.specs.declared.definitions.Definite.{Definite}
 use Rattle.core_meaning.specs.Linking.{same_linked}
 use Rattle.plain_numbers.specs.PlainLinked.{plain_linked, entry_at}
-use Rattle.plain_numbers.specs.LinkedLaws.{put_at, entry_same}
+use Rattle.plain_numbers.specs.LinkedLaws.{put_at}
 use Rattle.plain_program.proofs.BodyLaws.{mapped_choice}
 use Rattle.plain_program.proofs.functions.taken.Goals as goal
 

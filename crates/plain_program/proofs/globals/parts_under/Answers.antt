@@ -1,4 +1,4 @@
-use Rattle.std.proofs.Common.{◌≡◌, false, sym, ap, ◌∙◌}
+use Rattle.std.proofs.Common.{sym, ap, ◌∙◌}
 use Rattle.std.specs.Prelude.{None, if◌then◌else◌}
 use Rattle.core_meaning.specs.Linking.{parts_of_body}
 use Rattle.plain_program.specs.Bodies.{held}

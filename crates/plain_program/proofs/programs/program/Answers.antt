@@ -3,9 +3,8 @@ use Rattle.std.specs.Prelude.{None}
 use Rattle.std.proofs.lemmas.List.{length-map}
 use Rattle.c_types.specs.Types.{PlainType, plain_type}
 use Rattle.core_meaning.specs.Linking as spec
-use Rattle.core_meaning.specs.Linking.{Linked, Unit, function_in, global_in, unit_of, listed, or_zero, place_where, same_linked, parts_of_body}
+use Rattle.core_meaning.specs.Linking.{Linked, function_in, global_in, unit_of, listed, or_zero, place_where, same_linked, parts_of_body}
 use Rattle.core_meaning.specs.Plain.{plain_function, plain_global, plain_layout}
-use Rattle.core_meaning.specs.Program.{PlainFunction, PlainGlobal}
 use Rattle.plain_scope.specs.PlainScope.{plain_struct}
 use Rattle.plain_link.specs.declared.left.Left.{Left}
 use Rattle.plain_link.specs.PlainUnits.{plain_unit}

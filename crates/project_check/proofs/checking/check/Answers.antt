@@ -5,7 +5,7 @@ use Rattle.cond_formula.specs.Conditions.{condition_of}
 use Rattle.project_file.specs.View.{project_view}
 use Rattle.command_projects.specs.Least.{Nowhere, IsLeast}
 use Rattle.project_questions.specs.Questions.{IsTrueIn}
-use Rattle.project_check.proofs.LeastBroken.{no_program, is_least, all_accepted}
+use Rattle.project_check.proofs.LeastBroken.{no_program, is_least}
 use Rattle.project_check.proofs.checking.check.Goals as goal
 
 pub stage_at-requires-clause-broken : goal.stage_at-requires-clause-broken

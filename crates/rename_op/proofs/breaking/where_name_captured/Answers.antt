@@ -1,4 +1,4 @@
-use Rattle.std.proofs.Common.{◌≡◌, List, Bool, IsTrue, sym, subst}
+use Rattle.std.proofs.Common.{List, IsTrue, sym, subst}
 use Rattle.std.specs.Prelude.{◌↔◌, map}
 use Rattle.cond_formula.specs.Features.{has}
 use Rattle.cond_formula.specs.Conditions.{Condition, condition_of, value}

@@ -1,5 +1,4 @@
-use Rattle.std.proofs.Common.{List, ◌∷◌, ◌++◌, [], sym, subst}
-use Rattle.sat_core.specs.declared.answers.Proof.{Proof}
+use Rattle.std.proofs.Common.{◌∷◌, ◌++◌, [], sym, subst}
 use Rattle.project_questions.specs.Questions.{IsFound}
 use Rattle.rename_op.specs.Outcomes.{plain_precondition, earlier, AreShown}
 use Rattle.rename_op.specs.Asked.{BreaksIn, project_of}

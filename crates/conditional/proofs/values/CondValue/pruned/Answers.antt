@@ -1,4 +1,4 @@
-use Rattle.std.proofs.Common.{Bool, true, refl, length, ap, arith, ◌∙◌}
+use Rattle.std.proofs.Common.{true, refl, length, ap, arith, ◌∙◌}
 use Rattle.cond_formula.specs.Features.{has}
 use Rattle.cond_formula.specs.Conditions.{Condition, condition_of, value}
 use Rattle.conditional.specs.Entries.{alternatives}

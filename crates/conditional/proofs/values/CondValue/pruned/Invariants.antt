@@ -1,7 +1,7 @@
 use Rattle.std.proofs.Common.{◌≡◌, Bool, true, List, IsTrue, drop}
 use Rattle.cond_formula.specs.Features.{has}
 use Rattle.cond_formula.specs.Conditions.{value}
-use Rattle.conditional.specs.Entries.{entries_of, alternatives, some_holds}
+use Rattle.conditional.specs.Entries.{entries_of, alternatives}
 use Rattle.conditional.proofs.ValueLaws.{PlacedSoFar}
 use Rattle.conditional.proofs.values.CondValue.pruned.Given as goal
 

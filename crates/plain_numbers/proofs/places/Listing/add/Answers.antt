@@ -1,4 +1,4 @@
-use Rattle.std.proofs.Common.{sym, ◌∙◌, rules}
+use Rattle.std.proofs.Common.{sym, ◌∙◌}
 use Rattle.plain_numbers.specs.PlainLinked.{plain_linked, plain_list}
 use Rattle.plain_numbers.proofs.PlaceLaws.{added_there, added_new}
 use Rattle.plain_numbers.proofs.places.Listing.add.Goals as goal
