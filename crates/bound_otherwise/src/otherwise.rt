@@ -1,5 +1,5 @@
 //! Where identifiers are declared otherwise.
-ghost use Rattle.std.specs.Prelude.{◌≡◌, ◌∷◌, ℕ, Bool, length, IfOk};
+ghost use Rattle.std.specs.Prelude.{◌≡◌, ℕ, Bool, length, IfOk};
 ghost use Rattle.cond_formula.specs.Conditions.{condition_of, value};
 ghost use Rattle.cond_pairings.specs.Pairs.{pairs_seen};
 ghost use Rattle.bound_otherwise.specs.Otherwise.{TellsPairs, TellsOtherwise};

@@ -1,6 +1,6 @@
 //! How high trees are.
 
-ghost use Rattle.std.specs.Prelude.{◌≡◌, min, IsTrue, [], ◌∷◌};
+ghost use Rattle.std.specs.Prelude.{◌≡◌, min, [], ◌∷◌};
 ghost use Rattle.c_text.specs.Token.{plain_token};
 ghost use Rattle.c_tree.specs.declared.terminals.Terminal.TheVariants.{Star};
 ghost use Rattle.c_tree.specs.Trees.{leaf, plain_tree, plain_trees};

@@ -1,7 +1,7 @@
 //! Arithmetic on values of integer types (6.5.5 to 6.5.12).
-ghost use Rattle.std.specs.Prelude.{◌≡◌, ◌<◌, ◌^◌, ◌+ℤ◌, ◌-ℤ◌, ◌*ℤ◌, ◌≤ℤ◌, ◌<ℤ◌, pos, IsTrue, int_div, int_rem, unsigned_abs, ◌&&◌, true, false};
+ghost use Rattle.std.specs.Prelude.{◌≡◌, ◌<◌, ◌^◌, ◌+ℤ◌, ◌-ℤ◌, ◌*ℤ◌, ◌≤ℤ◌, ◌<ℤ◌, pos, IsTrue, int_div, int_rem, unsigned_abs, ◌&&◌, false};
 ghost use Rattle.std.specs.Int.{CanDivide, w128};
-ghost use Rattle.std.specs.Int.RustNames.{FitsSigned, bit_and, bit_or, bit_xor};
+ghost use Rattle.std.specs.Int.RustNames.{FitsSigned};
 ghost use Rattle.c_types.specs.Types.{plain_type};
 ghost use Rattle.c_types.specs.Integers as integer;
 ghost use Rattle.c_types.specs.Integers.{IsValue};

@@ -1,5 +1,5 @@
 //! Compatible types of two units (6.2.7).
-ghost use Rattle.std.specs.Prelude.{◌≡◌, ◌↔◌, IsTrue, IfOk, IfSome, IfNone, MatchOption, length, map, slice_get, None, Some};
+ghost use Rattle.std.specs.Prelude.{◌↔◌, IsTrue, IfOk, map};
 ghost use Rattle.c_types.specs.Types.{plain_type};
 ghost use Rattle.c_types.specs.Tags.{plain_tag, plain_tags};
 ghost use Rattle.c_types.specs.Compatible.{Compatible};

@@ -1,7 +1,6 @@
 //! Trees whose tokens tell their numbers.
 
-ghost use Rattle.std.specs.Prelude.{◌≡◌, IfOk};
-ghost use Rattle.c_text.specs.Token.{plain_token};
+ghost use Rattle.std.specs.Prelude.{IfOk};
 ghost use Rattle.changed_forests.specs.Numbered as spec;
 ghost use Rattle.changed_forests.specs.Numbered.{IsNumbered};
 

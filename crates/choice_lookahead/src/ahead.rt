@@ -1,6 +1,6 @@
 //! What the tokens ahead do at a place.
 
-ghost use Rattle.std.specs.Prelude.{◌≡◌, ℕ, Bool, Option, IsTrue, IfOk, IfSome};
+ghost use Rattle.std.specs.Prelude.{◌≡◌, Option, IsTrue, IfOk, IfSome};
 ghost use Rattle.c_tree.specs.Places.{move};
 ghost use Rattle.grammar_moves.specs.PlainPlaces.{plain_place};
 ghost use Rattle.grammar_moves.specs.PlainMoves.{plain_action};

@@ -1,6 +1,6 @@
 //! Where no unit goes on so.
 
-ghost use Rattle.std.specs.Prelude.{◌≡◌, ℕ, Bool, false, ◌||◌, IsTrue, IfOk, OnOk};
+ghost use Rattle.std.specs.Prelude.{◌≡◌, ℕ, Bool, false, ◌||◌, IfOk, OnOk};
 ghost use Rattle.cond_formula.specs.Conditions.{condition_of, conditions_of, value, all_true};
 ghost use Rattle.choice_parser.specs.Deaths.{NoneIsDead, DeadIsWrong, Lives, LivesIfSome, LivesAsSplit, IsRefused};
 

@@ -1,6 +1,6 @@
 //! A token is read where it is there.
 
-ghost use Rattle.std.specs.Prelude.{◌≡◌, ℕ, Bool, true, false, not, ◌&&◌, List, [], ◌∷◌, ◌++◌, Option, Some, None, IsTrue, IfOk, OnOk, IfSome, if◌then◌else◌};
+ghost use Rattle.std.specs.Prelude.{◌≡◌, ℕ, Bool, true, false, not, ◌&&◌, [], ◌∷◌, ◌++◌, Option, Some, None, IsTrue, IfOk, OnOk, IfSome};
 ghost use Rattle.cond_formula.specs.Conditions.{Condition, condition_of, conditions_of, value, all_true};
 ghost use Rattle.path_conditions.specs.Presences.{IsPresence};
 ghost use Rattle.c_tree.specs.Places.{Place as PlainPlace, shifts, move};

@@ -1,8 +1,6 @@
 //! Alternatives that leave a node for a token.
 
-ghost use Rattle.std.specs.Prelude.{◌≡◌, ℕ, Bool, true, false, IsTrue, IfOk};
-ghost use Rattle.cond_formula.specs.Conditions.{condition_of, conditions_of, value, all_true};
-ghost use Rattle.choice_states.specs.Seen.{Parts};
+ghost use Rattle.std.specs.Prelude.{◌≡◌, ℕ, Bool, true, false, IfOk};
 ghost use Rattle.choice_states.specs.Alike.{StandAlike};
 ghost use Rattle.choice_states.specs.States.{becoming};
 ghost use Rattle.choice_settling.specs.Steps.{stood};

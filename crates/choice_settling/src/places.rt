@@ -1,8 +1,7 @@
 //! Parts that are left out, and nodes that are whole.
 
-ghost use Rattle.std.specs.Prelude.{◌≡◌, ℕ, Bool, [], ◌∷◌, ◌++◌, IsTrue, IfOk, IfSome, IsNone};
+ghost use Rattle.std.specs.Prelude.{◌≡◌, ℕ, Bool, [], IsTrue, IfOk, IfSome, IsNone};
 ghost use Rattle.cond_formula.specs.Conditions.{conditions_of, all_true};
-ghost use Rattle.c_tree.specs.Places as places;
 ghost use Rattle.grammar_moves.specs.PlainPlaces.{plain_place};
 ghost use Rattle.choice_states.specs.Seen.{Parts, seen_in};
 ghost use Rattle.choice_states.specs.Parts.{parts_fit};

@@ -1,15 +1,14 @@
 //! Before a token: nodes that are whole whatever comes next, and lists that begin or don't.
 
-ghost use Rattle.std.specs.Prelude.{◌≡◌, ℕ, Bool, List, [], ◌∷◌, Option, Some, None, IsTrue, IfOk, if◌then◌else◌};
-ghost use Rattle.cond_formula.specs.Conditions.{condition_of, conditions_of, value, all_true};
+ghost use Rattle.std.specs.Prelude.{◌≡◌, ℕ, Bool, List, [], Option, Some, None, IsTrue, IfOk};
+ghost use Rattle.cond_formula.specs.Conditions.{conditions_of, all_true};
 ghost use Rattle.grammar_moves.specs.declared.places.Place.{Place as Spot};
 ghost use Rattle.grammar_moves.specs.PlainPlaces.{plain_place};
 ghost use Rattle.choice_lookahead.specs.Ahead.{next_kind};
 ghost use Rattle.choice_trees.specs.declared.trees.Choice.{Choice};
 ghost use Rattle.choice_trees.specs.declared.trees.Item.{Item};
 ghost use Rattle.choice_states.specs.Seen.{seen_in};
-ghost use Rattle.choice_states.specs.Lists.{around_of};
-ghost use Rattle.choice_states.specs.States.{at_place, within, standing, becoming};
+ghost use Rattle.choice_states.specs.States.{at_place, within, becoming};
 ghost use Rattle.choice_settling.specs.Steps.{stood, SameElsewhere, IsSound, HasBegun, Settles, SettlesSo};
 ghost use Rattle.choice_settling.specs.Around.{IsListAround};
 

@@ -1,6 +1,6 @@
 //! The parts of a node that has begun.
 
-ghost use Rattle.std.specs.Prelude.{◌≡◌, ℕ, Bool, true, false, not, ◌||◌, length, IsTrue, IfOk, Some, None, if◌then◌else◌};
+ghost use Rattle.std.specs.Prelude.{◌≡◌, ℕ, Bool, true, false, not, ◌||◌, IsTrue, IfOk, Some, None, if◌then◌else◌};
 ghost use Rattle.cond_formula.specs.Conditions.{condition_of, conditions_of, value, all_true, any_true};
 ghost use Rattle.c_text.specs.Token.{plain_token};
 ghost use Rattle.choice_trees.specs.ChoiceTrees.{plain_item, plain_branches};

@@ -3,8 +3,7 @@
 ghost use Rattle.std.specs.Prelude.{◌≡◌, IsTrue};
 ghost use Rattle.choice_states.specs.Lists.{left_out};
 ghost use Rattle.c_tree.specs.Places.{Place as PlainPlace, back};
-ghost use Rattle.grammar_moves.specs.Slots.{plain_category, plain_role};
-ghost use Rattle.grammar_moves.specs.PlainPlaces.{plain_place, plain_flavour, plain_naming};
+ghost use Rattle.grammar_moves.specs.PlainPlaces.{plain_place};
 
 use c_tree::Kind;
 use grammar_moves::{Category, Flavour, Naming, Place, Role, Row};

@@ -1,5 +1,5 @@
 //! The tree that a configuration sees.
-ghost use Rattle.std.specs.Prelude.{◌≡◌, map, IfOk};
+ghost use Rattle.std.specs.Prelude.{◌≡◌, IfOk};
 ghost use Rattle.std.specs.Option.{option_map};
 ghost use Rattle.cond_formula.specs.Features.{has};
 ghost use Rattle.c_text.specs.Token.{plain_origin};

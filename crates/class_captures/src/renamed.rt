@@ -1,5 +1,5 @@
 //! Trees with the new name.
-ghost use Rattle.std.specs.Prelude.{◌≡◌, IfOk};
+ghost use Rattle.std.specs.Prelude.{IfOk};
 ghost use Rattle.std.specs.List.{AllZip};
 ghost use Rattle.changed_forests.specs.Renamed.{IsRenamed};
 

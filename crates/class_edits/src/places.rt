@@ -1,5 +1,5 @@
 //! Which token a place of a file stands for, and the name that is written there.
-ghost use Rattle.std.specs.Prelude.{◌≡◌, ◌≤◌, ℕ, List, length, map, All, Contains, IfOk, IsTrue, ◌↔◌};
+ghost use Rattle.std.specs.Prelude.{◌≡◌, ◌≤◌, length, map, All, IfOk, IsTrue, ◌↔◌};
 ghost use Rattle.text_edits.specs.Span.{plain_span};
 ghost use Rattle.text_edits.specs.Files.{plain_files};
 ghost use Rattle.c_text.specs.Token.{plain_token};

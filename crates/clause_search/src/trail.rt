@@ -1,6 +1,6 @@
 //! Unit propagation, which keeps the hints by which a step is checked.
 
-ghost use Rattle.std.specs.Prelude.{◌≡◌, ◌+◌, ℕ, false, [], replicate, IfOk, IfSome, IfNone};
+ghost use Rattle.std.specs.Prelude.{◌≡◌, ◌+◌, false, [], IfOk, IfSome, IfNone};
 ghost use Rattle.refute_check.specs.Steps.{Judgement, value_of, is_false, all_false, judged, judgement, clause_at, hint_judgement, no_values, all_taken_false};
 ghost use Rattle.clause_search.specs.Answers.{literals_of, steps_of};
 ghost use Rattle.clause_search.specs.Following.{numbered};

@@ -1,4 +1,4 @@
-ghost use Rattle.std.specs.Prelude.{◌≡◌, OnOk, OnErr};
+ghost use Rattle.std.specs.Prelude.{OnOk, OnErr};
 ghost use Rattle.command_promises.specs.Endings.{Takes, BreaksOff};
 
 use project_store::{Sink, SinkFailed};

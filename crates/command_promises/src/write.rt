@@ -1,4 +1,4 @@
-ghost use Rattle.std.specs.Prelude.{◌≡◌, OnOk, OnErr, map};
+ghost use Rattle.std.specs.Prelude.{OnOk, OnErr, map};
 ghost use Rattle.text_edits.specs.Files.{plain_file};
 ghost use Rattle.command_promises.specs.Giving.{WroteAll, WrotePart};
 

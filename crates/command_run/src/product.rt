@@ -2,7 +2,6 @@ ghost use Rattle.std.specs.Prelude.{◌≡◌, ◌≤◌, [], ◌∷◌, true, l
 ghost use Rattle.std.specs.List.{list_all};
 ghost use Rattle.std.specs.String.{string_bytes};
 ghost use Rattle.text_edits.specs.Files.{plain_files};
-ghost use Rattle.cond_formula.specs.Features.{has};
 ghost use Rattle.c_names.specs.Names.{is_new_name};
 ghost use Rattle.core_meaning.specs.Plain.{plain_program};
 ghost use Rattle.core_meaning.specs.Run as meaning;

@@ -10,7 +10,7 @@ ghost use Rattle.project_store.specs.Faults.{HasCause};
 ghost use Rattle.project_store.specs.States.{IsReadAlone};
 ghost use Rattle.project_store.specs.Reads.{names_of};
 ghost use Rattle.plain_pp.specs.Units.{sources_of, file_of};
-ghost use Rattle.command_promises.specs.Sayings.{saying, SaysOrEnds, CameTo};
+ghost use Rattle.command_promises.specs.Sayings.{SaysOrEnds, CameTo};
 ghost use Rattle.command_promises.specs.Commands.{CourseFor};
 ghost use Rattle.command_projects.specs.Projects.{WithFiles};
 ghost use Rattle.command_tokens.specs.Tokens as spec;

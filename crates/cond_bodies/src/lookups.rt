@@ -1,5 +1,5 @@
 //! The meanings of a name.
-ghost use Rattle.std.specs.Prelude.{◌≡◌, List, Bool, IfOk};
+ghost use Rattle.std.specs.Prelude.{List, Bool, IfOk};
 ghost use Rattle.cond_formula.specs.Features.{has};
 ghost use Rattle.macro_table.specs.Features.{macros_at};
 ghost use Rattle.cond_bodies.specs.CondMeanings.{Means};

@@ -1,5 +1,5 @@
 //! What a name stands for in all configurations.
-ghost use Rattle.std.specs.Prelude.{◌≡◌, ℕ, Bool, List, Some, ◌++◌, map, IsTrue, IfOk, OnOk};
+ghost use Rattle.std.specs.Prelude.{◌≡◌, ℕ, Bool, Some, ◌++◌, map, IsTrue, IfOk, OnOk};
 ghost use Rattle.c_text.specs.Token.{plain_token};
 ghost use Rattle.c_text.specs.PlainMacros.{plain_macro};
 ghost use Rattle.cond_formula.specs.Conditions.{condition_of, value};

@@ -48,7 +48,7 @@ fn is_same_spelling(token: &Token, other: &Token) -> bool
 }
 
 impl<'t> Slot<'t> {
-    ghost use Rattle.cond_bodies.specs.Slots.{PlainSlot, slot_at};
+    ghost use Rattle.cond_bodies.specs.Slots.{slot_at};
 
     /// The place of one body.
     #[tactic(auto, unfolding(crate::specs::Slots::slot_at))]

@@ -3,7 +3,7 @@ ghost use Rattle.std.specs.Prelude.{◌≡◌, ℕ, ◌<◌, nat_lt, Bool, get_o
 ghost use Rattle.cond_formula.specs.Conditions.{condition_of, value};
 ghost use Rattle.cond_formula.specs.declared.formulas.Formula.{Formula, False};
 ghost use Rattle.cond_compatible.specs.Depths.{alike_to};
-ghost use Rattle.cond_compatible.specs.SeenTags.{tag_seen, said_at, said_in, said_alike};
+ghost use Rattle.cond_compatible.specs.SeenTags.{tag_seen, said_at, said_alike};
 
 use cond_formula::{Formula, NoMemory};
 use std::alloc::Global;

@@ -1,5 +1,5 @@
 //! Types by their words, where these declare no struct (6.7.2).
-ghost use Rattle.std.specs.Prelude.{◌≡◌, ℕ, Bool, false, List, Some, IsTrue, IfOk};
+ghost use Rattle.std.specs.Prelude.{◌≡◌, Bool, false, List, Some, IsTrue, IfOk};
 ghost use Rattle.cond_formula.specs.Features.{has};
 ghost use Rattle.cond_formula.specs.Conditions.{value};
 ghost use Rattle.conditional.specs.Entries.{Stands};

@@ -1,5 +1,5 @@
 //! Places in an expression, as values that stand under conditions.
-ghost use Rattle.std.specs.Prelude.{◌≡◌, Option, IsTrue, IfOk};
+ghost use Rattle.std.specs.Prelude.{◌≡◌, Option};
 ghost use Rattle.c_text.specs.Token.{plain_token};
 ghost use Rattle.c_text.specs.Expressions.{word_of};
 ghost use Rattle.pp_lines.specs.ExpressionReading.{Place, Outcome};

@@ -13,7 +13,7 @@ pub struct Config {
 }
 
 impl Model for Config {
-    ghost use Rattle.std.specs.Prelude.{ℕ, List, Bool, ◌<◌, ◌^◌};
+    ghost use Rattle.std.specs.Prelude.{List, Bool, ◌<◌, ◌^◌};
     ghost use Rattle.cond_formula.specs.Features.{bits_of, number_of};
     ghost use Rattle.cond_formula.specs.FeatureBits.{number_of-bits_of};
 

@@ -1,5 +1,5 @@
 //! The groups of conditional lines that are open, in all configurations.
-ghost use Rattle.std.specs.Prelude.{◌≡◌, [], ◌∷◌, OnOk, map, reverse, Some, None};
+ghost use Rattle.std.specs.Prelude.{◌≡◌, [], ◌∷◌, OnOk};
 ghost use Rattle.std.specs.Option.{option_map};
 ghost use Rattle.cond_groups.specs.Groups.{plain_group, groups_of, innermost, left};
 

@@ -1,5 +1,5 @@
 //! Runs of tokens between two directive lines, in all configurations.
-ghost use Rattle.std.specs.Prelude.{◌≡◌, ℕ, Bool, List, map, None, OnOk, IfOk, IsTrue};
+ghost use Rattle.std.specs.Prelude.{◌≡◌, Bool, List, map, None, OnOk, IfOk, IsTrue};
 ghost use Rattle.std.specs.String.{string_bytes};
 ghost use Rattle.cond_formula.specs.Features.{has};
 ghost use Rattle.cond_formula.specs.Conditions.{condition_of, value};

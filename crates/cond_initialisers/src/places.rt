@@ -1,6 +1,6 @@
 //! The parts that a list in braces is for, by the numbers of their types.
-ghost use Rattle.std.specs.Prelude.{◌≡◌, ℕ, Bool, List, map, replicate, length, Some, slice_get, IfOk, IfSome, OnOk};
-ghost use Rattle.c_types.specs.Types.{PlainType, plain_type};
+ghost use Rattle.std.specs.Prelude.{◌≡◌, ℕ, Bool, replicate, Some, slice_get, IfOk, IfSome, OnOk};
+ghost use Rattle.c_types.specs.Types.{plain_type};
 ghost use Rattle.type_tables.specs.Seen.{seen_tables};
 ghost use Rattle.cond_initialisers.specs.Refusals.{members_in};
 ghost use Rattle.cond_initialisers.specs.Rows.{plain_types, numbers};

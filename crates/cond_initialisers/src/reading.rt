@@ -1,5 +1,5 @@
 //! Initialisers, entry by entry. The entries of a list aren't multiplied: each is read for the types of the parts that it may be for.
-ghost use Rattle.std.specs.Prelude.{◌≡◌, ℕ, ◌∷◌, ◌++◌, [], Option, Bool, false, List, map, replicate, IsTrue, IfOk, OnOk};
+ghost use Rattle.std.specs.Prelude.{◌≡◌, ℕ, ◌∷◌, ◌++◌, [], Option, Bool, false, List, replicate, IsTrue, IfOk, OnOk};
 ghost use Rattle.cond_formula.specs.Features.{has};
 ghost use Rattle.cond_formula.specs.Conditions.{condition_of, value};
 ghost use Rattle.conditional.specs.Entries.{under};

@@ -1,6 +1,5 @@
 //! What is noted of identifiers.
 ghost use Rattle.std.specs.Prelude.{◌≡◌, ℕ, List, IsTrue, IfOk};
-ghost use Rattle.bindings.specs.Visible.{NameSpace};
 ghost use Rattle.cond_name_spaces.specs.Spaced.{InSpace, plain_space, plain_name};
 ghost use Rattle.cond_name_spaces.specs.Progress.{plain_tag};
 

@@ -1,9 +1,8 @@
 //! Identifiers that stand in name spaces.
-ghost use Rattle.std.specs.Prelude.{◌≡◌, ℕ, Bool, List, [], ◌∷◌, ◌++◌, Some, IsTrue, IfOk};
+ghost use Rattle.std.specs.Prelude.{◌≡◌, ℕ, Bool, List, [], ◌∷◌, ◌++◌, Some, IfOk};
 ghost use Rattle.cond_formula.specs.Conditions.{condition_of, value};
 ghost use Rattle.c_text.specs.Token.{plain_token};
 ghost use Rattle.c_tree.specs.Trees.{leaf};
-ghost use Rattle.choice_trees.specs.Leaves.{Leaf};
 ghost use Rattle.conditional.specs.Entries.{seen, under, entries_of, listed};
 ghost use Rattle.scope_readings.specs.Walks as walks;
 ghost use Rattle.name_spaces.specs.Spaces.{space_by};

@@ -7,7 +7,7 @@ ghost use Rattle.c_tree.specs.declared.kinds.Kind.TheVariants as k;
 ghost use Rattle.c_tree.specs.Trees.{PlainTrees, none, more};
 ghost use Rattle.core_meaning.specs.Declarations as spec;
 ghost use Rattle.bindings.specs.Bindings.{tag_text};
-ghost use Rattle.choice_trees.specs.ChoiceTrees.{plain_item, plain_choices, item_at, parts_at};
+ghost use Rattle.choice_trees.specs.ChoiceTrees.{plain_choices, parts_at};
 ghost use Rattle.choice_variants.specs.Variants.{part_at, before};
 ghost use Rattle.conditional.specs.Entries.{seen, listed};
 ghost use Rattle.name_spaces.specs.Spaces.{defined_tag};

@@ -1,5 +1,5 @@
 //! Calls, casts and the results of `?:`, where one part decides about another.
-ghost use Rattle.std.specs.Prelude.{◌≡◌, ℕ, Bool, Some, List, Option, IsTrue, IfOk};
+ghost use Rattle.std.specs.Prelude.{◌≡◌, Bool, Some, List, Option, IsTrue, IfOk};
 ghost use Rattle.cond_formula.specs.Features.{has};
 ghost use Rattle.cond_formula.specs.Conditions.{value};
 ghost use Rattle.conditional.specs.Entries.{alternatives, Stands};

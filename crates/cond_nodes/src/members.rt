@@ -1,5 +1,5 @@
 //! Members of structs (6.5.2.3).
-ghost use Rattle.std.specs.Prelude.{◌≡◌, ℕ, Bool, List, codes, IsTrue, IfOk, if◌then◌else◌};
+ghost use Rattle.std.specs.Prelude.{◌≡◌, Bool, List, codes, IsTrue, IfOk, if◌then◌else◌};
 ghost use Rattle.std.specs.Str.{bytes_eq};
 ghost use Rattle.cond_formula.specs.Features.{has};
 ghost use Rattle.cond_formula.specs.Conditions.{value};

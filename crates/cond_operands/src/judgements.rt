@@ -1,5 +1,5 @@
 //! The rules for types, as judgements and operators that are asked for alternatives.
-ghost use Rattle.std.specs.Prelude.{◌≡◌, IsTrue, IfOk, None, Result};
+ghost use Rattle.std.specs.Prelude.{◌≡◌, None, Result};
 ghost use Rattle.c_text.specs.Token.{PlainToken, plain_token};
 ghost use Rattle.c_types.specs.Types.{plain_type};
 ghost use Rattle.conditional.specs.Judgements.{checked};

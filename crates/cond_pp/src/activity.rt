@@ -1,5 +1,5 @@
 //! Where tokens of files are active in a unit, in all configurations.
-ghost use Rattle.std.specs.Prelude.{◌≡◌, ◌↔◌, ◌<◌, ◌≤◌, ℕ, List, Bool, map, length, All, Any, IsTrue, IfOk, Some};
+ghost use Rattle.std.specs.Prelude.{◌≡◌, ◌↔◌, ◌<◌, ◌≤◌, List, Bool, map, length, All, Any, IsTrue, IfOk, Some};
 ghost use Rattle.cond_formula.specs.Features.{has};
 ghost use Rattle.cond_formula.specs.Conditions.{condition_of, value};
 ghost use Rattle.text_edits.specs.Files.{plain_files};

@@ -11,7 +11,7 @@ ghost use Rattle.c_text.specs.Preprocessing as spec;
 ghost use Rattle.c_text.specs.Preprocessing.{Setting, Reading, Flow, then_read};
 ghost use Rattle.cond_formula.specs.Features.{has};
 ghost use Rattle.cond_formula.specs.Conditions.{condition_of, value};
-ghost use Rattle.macro_table.specs.MacroTables.{macro_meaning, clashes, with_macro, without_name, table_at};
+ghost use Rattle.macro_table.specs.MacroTables.{macro_meaning, clashes, with_macro, table_at};
 ghost use Rattle.pp_lines.specs.PlainDirectives.{plain_directive};
 ghost use Rattle.unit_files.specs.Inclusions.{plain_source};
 ghost use Rattle.cond_readings.specs.Readings.{reading_at, taken};

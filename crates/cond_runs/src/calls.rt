@@ -1,5 +1,5 @@
 //! Calls of function-like macros under conditions (6.10.3).
-ghost use Rattle.std.specs.Prelude.{◌≡◌, ◌<◌, ◌≤◌, ◌||◌, ℕ, Bool, true, false, [], ◌∷◌, ◌++◌, if◌then◌else◌, List, IfOk, OnOk};
+ghost use Rattle.std.specs.Prelude.{◌≡◌, ◌<◌, ℕ, Bool, true, false, [], ◌∷◌, ◌++◌, if◌then◌else◌, List, IfOk, OnOk};
 ghost use Rattle.c_text.specs.Macros as spec;
 ghost use Rattle.cond_formula.specs.Features.{has};
 ghost use Rattle.cond_formula.specs.Conditions.{condition_of, value};

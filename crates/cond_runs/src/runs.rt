@@ -41,7 +41,7 @@ fn when_open(alloc: Global, calls: &[Call<'_>]) -> Result<Formula, NoMemory>
 impl<'t> Run<'t> {
     ghost use Rattle.cond_runs.specs.CondCalls.{held_at};
     ghost use Rattle.cond_runs.specs.CondFinished.{given_at};
-    ghost use Rattle.cond_runs.specs.Pieces.{Piece, also, under_piece, items_piece, given_piece, open_piece, ended, nothing_done, without_calls};
+    ghost use Rattle.cond_runs.specs.Pieces.{also, under_piece, items_piece, given_piece, open_piece, ended, nothing_done, without_calls};
     ghost use Rattle.cond_runs.specs.CondRuns.{run_at};
 
     /// Nothing is read yet.

@@ -2,7 +2,7 @@
 
 ghost use Rattle.std.specs.Prelude.{◌≡◌, ℕ, Bool, false, List, [], ◌∷◌, reverse, IsTrue, OnOk};
 ghost use Rattle.cond_formula.specs.Features.{has};
-ghost use Rattle.cond_formula.specs.Conditions.{condition_of, conditions_of, value, all_true};
+ghost use Rattle.cond_formula.specs.Conditions.{conditions_of, value, all_true};
 ghost use Rattle.c_text.specs.Token.{plain_token};
 ghost use Rattle.choice_trees.specs.ChoiceTrees.{plain_item, plain_branches, plain_choices, item_at, branch_at, parts_at};
 ghost use Rattle.choice_trees.specs.Leaves.{Leaf, item_leaves, branch_leaves, parts_leaves};
@@ -11,7 +11,7 @@ ghost use Rattle.scope_readings.specs.Walks.{walk_node, walk_parts};
 ghost use Rattle.cond_bindings.specs.Names.{seen, Steps, Grows, TellsUndeclared};
 ghost use Rattle.cond_bindings.specs.PlainNames.{plain_names};
 ghost use Rattle.cond_bindings.specs.Scopes.{plain_scope};
-ghost use Rattle.cond_scopes.specs.Progress.{Hidden, showing, part_read, perhaps_read, numbers, hidden_at, MovesOn};
+ghost use Rattle.cond_scopes.specs.Progress.{showing, part_read, perhaps_read, numbers, hidden_at, MovesOn};
 
 use crate::names_read::{Name, read_name};
 use crate::paths::chosen;

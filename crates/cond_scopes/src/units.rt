@@ -1,6 +1,6 @@
 //! The units of a project.
 
-ghost use Rattle.std.specs.Prelude.{◌≡◌, ℕ, Bool, List, length, IsTrue, IfOk};
+ghost use Rattle.std.specs.Prelude.{◌≡◌, Bool, List, length, IsTrue, IfOk};
 ghost use Rattle.cond_formula.specs.Features.{has};
 ghost use Rattle.cond_formula.specs.Conditions.{condition_of, value};
 ghost use Rattle.cond_scopes.specs.Units.{IsScoped, UsesFileNames, IsRefused, AreScoped};

@@ -1,5 +1,5 @@
 //! What is noted of selections.
-ghost use Rattle.std.specs.Prelude.{◌≡◌, ℕ};
+ghost use Rattle.std.specs.Prelude.{ℕ};
 ghost use Rattle.member_uses.specs.Uses.{Use};
 ghost use Rattle.cond_selections.specs.Selected.{structure_number, plain_selection};
 

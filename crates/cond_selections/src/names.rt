@@ -1,9 +1,8 @@
 //! Identifiers that name members.
-ghost use Rattle.std.specs.Prelude.{◌≡◌, ℕ, Bool, Option, List, ◌∷◌, ◌++◌, Some, IsTrue, IfOk};
+ghost use Rattle.std.specs.Prelude.{◌≡◌, ℕ, Bool, Option, ◌∷◌, ◌++◌, Some, IfOk};
 ghost use Rattle.cond_formula.specs.Conditions.{condition_of, value};
 ghost use Rattle.c_text.specs.Token.{plain_token};
 ghost use Rattle.bindings.specs.Bindings as bindings;
-ghost use Rattle.choice_trees.specs.Leaves.{Leaf};
 ghost use Rattle.conditional.specs.Entries.{seen, under, first, entries_of, listed};
 ghost use Rattle.selections.specs.Selections.{structure_named, with_identifier};
 ghost use Rattle.cond_selections.specs.Selected.{structure_number, plain_selection};

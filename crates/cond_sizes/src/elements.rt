@@ -1,5 +1,5 @@
 //! Numbers of elements.
-ghost use Rattle.std.specs.Prelude.{◌≡◌, ℕ, IsTrue, IfOk};
+ghost use Rattle.std.specs.Prelude.{ℕ};
 ghost use Rattle.cond_sizes.specs.Sizes.{plain_count};
 
 use cond_formula::NoMemory;

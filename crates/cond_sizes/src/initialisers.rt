@@ -1,5 +1,5 @@
 //! How many elements initialisers give arrays that are declared without a size (6.7.9).
-ghost use Rattle.std.specs.Prelude.{◌≡◌, ℕ, Bool, List, length, IsTrue, IfOk, option_map, Result};
+ghost use Rattle.std.specs.Prelude.{◌≡◌, ℕ, Bool, List, IsTrue, IfOk, Result};
 ghost use Rattle.cond_formula.specs.Features.{has};
 ghost use Rattle.cond_formula.specs.Conditions.{value};
 ghost use Rattle.conditional.specs.Entries.{Stands};

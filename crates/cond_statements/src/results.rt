@@ -1,5 +1,5 @@
 //! Where operands are refused that statements use, whatever the type of the function's result is in a configuration (6.8.3 to 6.8.6).
-ghost use Rattle.std.specs.Prelude.{◌≡◌, ℕ, Bool, true, not, ◌&&◌, IfOk};
+ghost use Rattle.std.specs.Prelude.{◌≡◌, ℕ, Bool, true, ◌&&◌, IfOk};
 ghost use Rattle.cond_formula.specs.Conditions.{condition_of, value};
 ghost use Rattle.c_types.specs.Types.{PlainType, plain_type};
 ghost use Rattle.conditional.specs.Entries.{alternatives, Stands};

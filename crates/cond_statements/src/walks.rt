@@ -1,5 +1,5 @@
 //! What a walk over the parts of a node carries along.
-ghost use Rattle.std.specs.Prelude.{◌≡◌, ℕ, Bool, false, ◌&&◌, ◌||◌, OnOk, IfOk};
+ghost use Rattle.std.specs.Prelude.{◌≡◌, ℕ, Bool, false, ◌||◌, OnOk};
 ghost use Rattle.cond_formula.specs.Conditions.{condition_of, value};
 
 use cond_formula::{Formula, NoMemory};

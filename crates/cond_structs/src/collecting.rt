@@ -1,9 +1,9 @@
 //! The members of a struct while they are declared.
-ghost use Rattle.std.specs.Prelude.{◌≡◌, ℕ, Bool, [], false, true, ◌||◌, ◌&&◌, not, if◌then◌else◌, is_some, IfOk, OnOk};
+ghost use Rattle.std.specs.Prelude.{◌≡◌, ℕ, Bool, [], true, ◌||◌, ◌&&◌, if◌then◌else◌, is_some, IfOk, OnOk};
 ghost use Rattle.std.specs.Str.{bytes_eq};
 ghost use Rattle.cond_formula.specs.Conditions.{condition_of, value};
 ghost use Rattle.c_types.specs.Types.{PlainType, plain_type};
-ghost use Rattle.conditional.specs.Entries.{seen, listed, entries_of, some_holds, Carry};
+ghost use Rattle.conditional.specs.Entries.{seen, entries_of, some_holds, Carry};
 ghost use Rattle.operand_rules.specs.PlainOperandTypes.{reason};
 ghost use Rattle.type_tables.specs.Forms.{member_form, declared_type_form};
 ghost use Rattle.type_tables.specs.Tables.{member_named};

@@ -8,7 +8,7 @@ ghost use Rattle.c_types.specs.Types.{PlainType, plain_type};
 ghost use Rattle.c_tree.specs.Grammar.{block};
 ghost use Rattle.tree_derivations.specs.Derivations.{Derivation};
 ghost use Rattle.choice_trees.specs.ChoiceTrees.{plain_item, item_at};
-ghost use Rattle.core_meaning.specs.Entities.{Scope, Signature};
+ghost use Rattle.core_meaning.specs.Entities.{Scope};
 ghost use Rattle.operand_types.specs.OperandTypes.{renumbered};
 ghost use Rattle.plain_objects.specs.PlainStates.{plain_storage};
 ghost use Rattle.type_tables.specs.Forms.{declared_type_form};

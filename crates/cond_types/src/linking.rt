@@ -1,5 +1,5 @@
 //! Where units don't link.
-ghost use Rattle.std.specs.Prelude.{◌≡◌, ℕ, List, Bool, false, IsTrue, IfOk};
+ghost use Rattle.std.specs.Prelude.{◌≡◌, List, Bool, false, IsTrue, IfOk};
 ghost use Rattle.cond_formula.specs.Features.{has};
 ghost use Rattle.cond_formula.specs.Conditions.{condition_of, value};
 ghost use Rattle.core_meaning.specs.Linking.{Units, Links};

@@ -1,5 +1,5 @@
 //! The arguments of a call, each where it is there.
-ghost use Rattle.std.specs.Prelude.{◌≡◌, ℕ, Bool, true, false, List, [], ◌∷◌, ◌++◌, ◌||◌, IsTrue, IfOk, OnOk};
+ghost use Rattle.std.specs.Prelude.{◌≡◌, ℕ, Bool, false, List, [], ◌∷◌, ◌++◌, ◌||◌, IsTrue, IfOk, OnOk};
 ghost use Rattle.cond_formula.specs.Conditions.{condition_of, value};
 ghost use Rattle.expression_types.specs.Known.{Callable};
 ghost use Rattle.expression_types.specs.Reading.{Read};

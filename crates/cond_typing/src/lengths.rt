@@ -1,5 +1,5 @@
 //! How many bytes texts in a row have (ISO/IEC 9899:2011, 6.4.5).
-ghost use Rattle.std.specs.Prelude.{◌≡◌, ℕ, Bool, IsTrue, IfOk};
+ghost use Rattle.std.specs.Prelude.{◌≡◌, ℕ, Bool, IfOk};
 ghost use Rattle.c_text.specs.Token.{plain_token};
 ghost use Rattle.c_text.specs.Constants.{quoted_values};
 ghost use Rattle.c_tree.specs.Trees.{none};

@@ -1,5 +1,5 @@
 //! What has been read of a node's parts, as it grows.
-ghost use Rattle.std.specs.Prelude.{◌≡◌, ℕ, Bool, List, IsTrue, IfOk, OnOk};
+ghost use Rattle.std.specs.Prelude.{ℕ, Bool, List, IsTrue, IfOk, OnOk};
 ghost use Rattle.cond_formula.specs.Features.{has};
 ghost use Rattle.cond_formula.specs.Conditions.{value};
 ghost use Rattle.c_text.specs.Token.{plain_token};

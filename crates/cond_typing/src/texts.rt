@@ -2,13 +2,12 @@
 ghost use Rattle.std.specs.Prelude.{◌≡◌, ℕ, Bool, true, false, List, IsTrue, IfOk, Ok};
 ghost use Rattle.cond_formula.specs.Features.{has};
 ghost use Rattle.cond_formula.specs.Conditions.{value};
-ghost use Rattle.c_tree.specs.Trees.{PlainTrees, node, none};
+ghost use Rattle.c_tree.specs.Trees.{node, none};
 ghost use Rattle.c_tree.specs.declared.kinds.Kind.TheVariants as k;
 ghost use Rattle.conditional.specs.Entries.{alternatives, Stands};
 ghost use Rattle.conditional.specs.Judgements.{checked, fine, Shows};
 ghost use Rattle.choice_trees.specs.ChoiceTrees.{plain_branches, plain_choices, with_part, branch_at, parts_at};
 ghost use Rattle.operand_rules.specs.PlainOperandTypes.{judgement, reason};
-ghost use Rattle.cond_operands.specs.Operands.{ShowsOperand};
 ghost use Rattle.expression_types.specs.Known.{Callable, Known};
 ghost use Rattle.expression_types.specs.Reading.{read_expression};
 ghost use Rattle.cond_nodes.specs.Reads.{ShowsRead};

@@ -1,5 +1,5 @@
 //! What is read of the variants of a node, placed one after the other.
-ghost use Rattle.std.specs.Prelude.{◌≡◌, ℕ, Bool, true, false, List, ◌||◌, IsTrue, IfOk};
+ghost use Rattle.std.specs.Prelude.{◌≡◌, ℕ, Bool, true, false, ◌||◌, IsTrue, IfOk};
 ghost use Rattle.cond_formula.specs.Conditions.{condition_of, value};
 ghost use Rattle.expression_types.specs.Known.{Callable};
 ghost use Rattle.expression_types.specs.Reading.{Read, no_expression};

@@ -2,7 +2,7 @@
 ghost use Rattle.std.specs.Prelude.{◌≡◌, ℕ, Bool, true, false, ◌&&◌, List, Some, Option, is_some, IsTrue, IfOk, OnOk, ⊤};
 ghost use Rattle.cond_formula.specs.Features.{has};
 ghost use Rattle.cond_formula.specs.Conditions.{condition_of, value};
-ghost use Rattle.c_text.specs.Token.{PlainToken, plain_token};
+ghost use Rattle.c_text.specs.Token.{plain_token};
 ghost use Rattle.c_tree.specs.Trees.{PlainTree};
 ghost use Rattle.choice_trees.specs.ChoiceTrees.{plain_item, item_at};
 ghost use Rattle.core_meaning.specs.Entities.{Scope, Signature, function};

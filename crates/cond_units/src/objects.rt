@@ -1,16 +1,13 @@
 //! Objects of one type (6.7, 6.9.2).
-ghost use Rattle.std.specs.Prelude.{◌≡◌, ℕ, Bool, true, false, ◌&&◌, List, [], IsTrue, IfOk, option_map};
+ghost use Rattle.std.specs.Prelude.{◌≡◌, ℕ, Bool, List, [], IsTrue, IfOk, option_map};
 ghost use Rattle.cond_formula.specs.Features.{has};
 ghost use Rattle.cond_formula.specs.Conditions.{condition_of, value};
 ghost use Rattle.c_text.specs.Token.{PlainToken, plain_token};
 ghost use Rattle.c_types.specs.Types.{PlainType, plain_type};
-ghost use Rattle.c_tree.specs.Grammar as grammar;
-ghost use Rattle.tree_derivations.specs.Derivations.{Derivation};
 ghost use Rattle.choice_trees.specs.ChoiceTrees.{plain_item, item_at};
 ghost use Rattle.core_meaning.specs.Entities.{Scope};
 ghost use Rattle.operand_types.specs.OperandTypes.{renumbered};
 ghost use Rattle.plain_objects.specs.PlainStates.{plain_storage};
-ghost use Rattle.statement_readings.specs.Walks.{is_refused};
 ghost use Rattle.type_tables.specs.Seen.{seen_tables};
 ghost use Rattle.type_tables.specs.Follows.{IsThere, Follows};
 ghost use Rattle.conditional_steps.specs.Here.{Here};

@@ -1,5 +1,5 @@
 //! Tokens that are reached along ties, where the first feature is on or off.
-ghost use Rattle.std.specs.Prelude.{◌<◌, ◌^◌, All, IfOk};
+ghost use Rattle.std.specs.Prelude.{◌<◌, All, IfOk};
 ghost use Rattle.cond_formula.specs.Conditions.{condition_of, VarsBelow};
 ghost use Rattle.feature_model.specs.ModelView.{admitted};
 ghost use Rattle.tied_tokens.specs.Ties.{plain_tied_tokens, NamesFeaturesBelow};

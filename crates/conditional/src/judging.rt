@@ -1,6 +1,6 @@
 //! Judgements of one value.
 
-ghost use Rattle.std.specs.Prelude.{◌≡◌, ℕ, Bool, true, IfOk, Result};
+ghost use Rattle.std.specs.Prelude.{ℕ, Bool, true, IfOk, Result};
 ghost use Rattle.conditional.specs.Entries.{entries_of, Maps, Stands};
 ghost use Rattle.conditional.specs.Judgements.{Checked, bind, checked, Shows};
 

@@ -1,6 +1,5 @@
 //! Tokens as values that stand under conditions.
 
-ghost use Rattle.std.specs.Prelude.{◌≡◌, IsTrue, IfOk};
 ghost use Rattle.c_text.specs.Token.{PlainToken, plain_token};
 
 use crate::plain::Plain;

@@ -1,12 +1,9 @@
 //! What the scalars of an object hold. Only what has been written has a place of its own, so that making an object takes no time
 //! that depends on its size.
 
-ghost use Rattle.std.specs.Prelude.{◌≡◌, IfOk, OnOk, Option, [], ◌∷◌, ◌+◌, ◌<◌, map, option_map, length, vec_len};
-ghost use Rattle.std.specs.Option.{option_copied};
-ghost use Rattle.c_types.specs.Types.{plain_type};
-ghost use Rattle.core_meaning.specs.Plain.{plain_layout};
+ghost use Rattle.std.specs.Prelude.{◌≡◌, IfOk, OnOk, Option, [], ◌<◌, map, option_map, vec_len};
 ghost use Rattle.core_meaning.specs.Values as plain;
-ghost use Rattle.core_cells.specs.Forms.{inner_cells, node_cells, nothing_in, zeros_in, zeros_of, rest_in, rest_cells, plain_scalar, plain_cells, plain_path, plain_step, plain_steps, plain_value};
+ghost use Rattle.core_cells.specs.Forms.{inner_cells, node_cells, nothing_in, zeros_of, rest_in, rest_cells, plain_scalar, plain_cells, plain_path, plain_step, plain_steps, plain_value};
 ghost use Rattle.core_cells.specs.CellForms.{cells_at, held_cells, behind_step, below, with_held, with_part, with_value, placed};
 
 use crate::parts::{part_count, part_type, zero};

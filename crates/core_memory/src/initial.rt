@@ -1,16 +1,13 @@
 //! What objects begin with (6.7.9, 6.4.5).
 
-ghost use Rattle.std.specs.Prelude.{◌≡◌, ◌∷◌, [], ◌<◌, IfOk, OnOk, map, pos};
-ghost use Rattle.c_types.specs.Types.{plain_type, char};
-ghost use Rattle.c_types.specs.Integers as integer;
-ghost use Rattle.core_meaning.specs.Plain.{plain_part, plain_constant, plain_constant_part, plain_global, plain_layout, path_from};
-ghost use Rattle.core_meaning.specs.Values as plain;
+ghost use Rattle.std.specs.Prelude.{◌≡◌, [], ◌<◌, IfOk, OnOk, map, pos};
+ghost use Rattle.c_types.specs.Types.{plain_type};
+ghost use Rattle.core_meaning.specs.Plain.{plain_part, path_from};
 ghost use Rattle.core_meaning.specs.Meaning.{cells_filled};
-ghost use Rattle.core_meaning.specs.Run as running;
-ghost use Rattle.core_cells.specs.Forms.{plain_path, plain_cells, plain_scalar, zeros_of};
+ghost use Rattle.core_cells.specs.Forms.{plain_cells, zeros_of};
 ghost use Rattle.core_cells.specs.CellForms.{by_paths};
 ghost use Rattle.core_memory.specs.MemoryForms.{plain_object, plain_memory, structs_of};
-ghost use Rattle.core_memory.specs.InitialForms.{with_cells_at, with_scalar_at, with_filled, bytes_in};
+ghost use Rattle.core_memory.specs.InitialForms.{with_cells_at, with_filled};
 
 use crate::memory::{Memory, Object};
 use crate::operations::converted;

@@ -1,7 +1,7 @@
 //! Operations on scalars (6.5.5 to 6.5.12), and conversions (6.3.1.3).
 
 ghost use Rattle.std.specs.Prelude.{◌≡◌, IsTrue, IfOk, option_map, option_and_then};
-ghost use Rattle.c_types.specs.Types.{plain_type, unsigned_char};
+ghost use Rattle.c_types.specs.Types.{plain_type};
 ghost use Rattle.c_types.specs.Integers as integer;
 ghost use Rattle.c_types.specs.Arithmetic as arithmetic;
 ghost use Rattle.core_meaning.specs.Program.{type_of};

@@ -4,7 +4,7 @@ ghost use Rattle.std.specs.Prelude.{◌≡◌, ◌<◌, ◌++◌, [], ℕ, Bool,
 ghost use Rattle.cond_formula.specs.Features.{has};
 ghost use Rattle.cond_pairings.specs.Pairs.{one_seen, pairs_seen};
 ghost use Rattle.conditional.specs.Entries.{first};
-ghost use Rattle.declared_tokens.specs.Declarations.{declared_among, numbers_at, declared_at, entries_of};
+ghost use Rattle.declared_tokens.specs.Declarations.{declared_among, numbers_at, declared_at};
 
 use cond_formula::{Config, Formula, NoMemory};
 use cond_pairings::CondPairing;

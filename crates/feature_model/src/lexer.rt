@@ -1,5 +1,5 @@
 //! A text, byte by byte, as tokens.
-ghost use Rattle.std.specs.Prelude.{◌≡◌, ◌++◌, [], ◌∷◌, IfOk, option_map, map};
+ghost use Rattle.std.specs.Prelude.{◌≡◌, ◌++◌, [], ◌∷◌, IfOk, option_map};
 ghost use Rattle.feature_model.specs.Bytes.{in_word, started, moved, ended, tokens_of};
 ghost use Rattle.feature_model.specs.View.{token_view, begun_view, lexer_view, tokens_view};
 

@@ -1,5 +1,5 @@
 //! The reader of a constraint's tokens. Its open groups stand on a stack of its own.
-ghost use Rattle.std.specs.Prelude.{◌≡◌, ◌++◌, if◌then◌else◌, None, ℕ, Bool, List, String, Some, [], ◌∷◌, All, IfOk, IfSome, option_map, map, length, ◌≤◌, MatchOption};
+ghost use Rattle.std.specs.Prelude.{◌≡◌, ◌++◌, if◌then◌else◌, None, ℕ, Bool, List, String, Some, [], ◌∷◌, All, IfOk, IfSome, option_map, map, length, ◌≤◌};
 ghost use Rattle.feature_model.specs.Reading.{at_start, at_sides, no_sides, truths, whole, placed, closed, wanted, reading_behind, next, finished, read};
 ghost use Rattle.std.specs.declared.alloc.Global.{Global};
 ghost use Rattle.feature_model.specs.Tokens.{Mark};

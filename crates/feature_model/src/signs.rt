@@ -1,6 +1,5 @@
 //! The signs of a constraint's text.
 ghost use Rattle.std.specs.Prelude.{◌≡◌};
-ghost use Rattle.c_names.specs.Names as names;
 ghost use Rattle.feature_model.specs.Bytes.{start_of, next_of};
 
 use c_names::is_nondigit;

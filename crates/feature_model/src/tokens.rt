@@ -1,5 +1,5 @@
 //! The tokens of a constraint's text.
-ghost use Rattle.std.specs.Prelude.{◌≡◌, ◌<◌, length, IfSome, string_bytes};
+ghost use Rattle.std.specs.Prelude.{◌≡◌, ◌<◌, length, IfSome};
 ghost use Rattle.std.specs.List.{list_all};
 ghost use Rattle.feature_model.specs.Trees.{feature_number, names_feature};
 ghost use Rattle.feature_model.specs.View.{token_view};

@@ -1,5 +1,5 @@
 //! Files with edits made.
-ghost use Rattle.std.specs.Prelude.{◌≡◌, ℕ, ◌<◌, ◌^◌, length, map, IfOk, MatchResult, None};
+ghost use Rattle.std.specs.Prelude.{◌≡◌, ◌<◌, ◌^◌, length, map, IfOk, MatchResult, None};
 ghost use Rattle.text_edits.specs.Files.{plain_file, plain_files};
 ghost use Rattle.file_edits.specs.Edits as spec;
 ghost use Rattle.file_edits.specs.Faults.{fault_of};

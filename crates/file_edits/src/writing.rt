@@ -1,6 +1,6 @@
 //! How the bytes of an edited file are written. The places where something is put in are looked up one after the
 //! other, each by a walk over all edits, which some thousand edits bear; bytes between them are copied at once.
-ghost use Rattle.std.specs.Prelude.{◌≡◌, ℕ, ◌==◌, ◌+◌, ◌-◌, ◌<◌, ◌≤◌, ◌&&◌, ◌++◌, length, map, drop, IfOk};
+ghost use Rattle.std.specs.Prelude.{◌≡◌, ◌==◌, ◌+◌, ◌-◌, ◌<◌, ◌≤◌, ◌&&◌, ◌++◌, length, map, drop, IfOk};
 ghost use Rattle.file_edits.specs.Edits as spec;
 ghost use Rattle.file_edits.specs.Places as place;
 ghost use Rattle.file_edits.specs.Places.{plain_edit, edits_in, NoneReaches, AreWithin, AreApart};

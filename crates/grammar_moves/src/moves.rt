@@ -1,9 +1,7 @@
 //! What the next token does in a place.
 
 ghost use Rattle.std.specs.Prelude.{◌≡◌, drop};
-ghost use Rattle.c_tree.specs.declared.kinds.Kind.TheVariants as kinds;
 ghost use Rattle.c_tree.specs.declared.terminals.Terminal.TheVariants as t;
-ghost use Rattle.c_tree.specs.Grammar as grammar;
 ghost use Rattle.c_tree.specs.Places as places;
 ghost use Rattle.grammar_moves.specs.Slots.{plain_role, plain_category, plain_slot, row_kind, row_slots};
 ghost use Rattle.grammar_moves.specs.PlainPlaces.{plain_wording, plain_words, plain_specified, plain_flavour};

@@ -4,7 +4,6 @@ ghost use Rattle.core_meaning.specs.Values as plain_form;
 ghost use Rattle.core_cells.specs.Forms.{plain_pointer, plain_scalar, plain_value};
 ghost use Rattle.core_memory.specs.MemoryForms.{structs_of};
 ghost use Rattle.interp_actions.specs.Forms.{plain_operand};
-ghost use Rattle.interp_actions.specs.Stacks.{Steps};
 ghost use Rattle.interp_actions.specs.Actions as plain;
 ghost use Rattle.interp_actions.specs.Pieces.{StepsWith, Gives, PutsGiven};
 ghost use Rattle.interp_actions.specs.PieceForms.{write_piece, updated_piece, changed_piece, update_piece};

@@ -1,5 +1,5 @@
 //! What names stand for: the innermost local of the name, the latest first, or else what is declared at file scope (6.2.1).
-ghost use Rattle.std.specs.Prelude.{◌≡◌, ℕ, Bool, List, ◌∷◌, reverse, Option, None, IfOk, OnOk};
+ghost use Rattle.std.specs.Prelude.{ℕ, Bool, List, ◌∷◌, reverse, Option, None, IfOk, OnOk};
 ghost use Rattle.c_types.specs.Types.{PlainType, plain_type};
 ghost use Rattle.conditional.specs.declared.values.CondValue.{CondValue};
 ghost use Rattle.conditional.specs.Entries.{Entry, entry_of, entries_of, alternatives, seen, first, Sees};

@@ -1,5 +1,5 @@
 //! Operands of declared types, and where there are none.
-ghost use Rattle.std.specs.Prelude.{◌≡◌, ℕ, Bool, false, List, [], ◌∷◌, ◌++◌, Option, Some, IfOk, OnOk};
+ghost use Rattle.std.specs.Prelude.{◌≡◌, ℕ, Bool, false, [], ◌∷◌, ◌++◌, Option, Some, IfOk, OnOk};
 ghost use Rattle.cond_formula.specs.Conditions.{condition_of, value};
 ghost use Rattle.c_types.specs.Types.{plain_type};
 ghost use Rattle.conditional.specs.Entries.{alternatives, entries_of, listed, seen, some_holds, under, Places, Sees};

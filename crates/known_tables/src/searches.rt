@@ -1,5 +1,5 @@
 //! Searches in all configurations at once, in which what is found first counts.
-ghost use Rattle.std.specs.Prelude.{◌≡◌, ℕ, Bool, Option, None, if◌then◌else◌, OnOk};
+ghost use Rattle.std.specs.Prelude.{ℕ, Bool, Option, None, if◌then◌else◌, OnOk};
 ghost use Rattle.cond_formula.specs.Conditions.{condition_of, value};
 ghost use Rattle.conditional.specs.Entries.{alternatives, Sees, PlacesUnder};
 ghost use Rattle.known_tables.specs.Searches.{Finds};

@@ -1,5 +1,5 @@
 //! Definitions of a name with external linkage (6.9).
-ghost use Rattle.std.specs.Prelude.{◌≡◌, ℕ, ◌+◌, Bool, ◌&&◌, ◌||◌, List, [], ◌∷◌, is_some, IfOk, if◌then◌else◌};
+ghost use Rattle.std.specs.Prelude.{◌≡◌, ℕ, ◌+◌, Bool, ◌&&◌, ◌||◌, [], ◌∷◌, is_some, IfOk};
 ghost use Rattle.cond_formula.specs.Conditions.{condition_of, value};
 ghost use Rattle.core_meaning.specs.Linking as spec;
 ghost use Rattle.core_meaning.specs.Linking.{count_external};

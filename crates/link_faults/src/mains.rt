@@ -1,9 +1,8 @@
 //! Whether a unit defines `main` (5.1.2.2.1).
-ghost use Rattle.std.specs.Prelude.{◌≡◌, ℕ, Bool, false, not, ◌&&◌, [], Some, IfOk};
+ghost use Rattle.std.specs.Prelude.{◌≡◌, ℕ, Bool, not, ◌&&◌, [], Some, IfOk};
 ghost use Rattle.std.specs.List.{list_any};
 ghost use Rattle.cond_formula.specs.Conditions.{condition_of, value};
 ghost use Rattle.conditional.specs.Entries.{seen, listed};
-ghost use Rattle.c_types.specs.Types.{plain_type, int};
 ghost use Rattle.core_meaning.specs.Entities.{function};
 ghost use Rattle.core_meaning.specs.Linking as spec;
 ghost use Rattle.core_meaning.specs.Typing.{same_type};

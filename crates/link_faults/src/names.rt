@@ -1,5 +1,5 @@
 //! What a unit declares a name as.
-ghost use Rattle.std.specs.Prelude.{◌≡◌, ℕ, Bool, not, ◌&&◌, ◌||◌, List, [], ◌∷◌, Option, None, IfOk, IfSome, IfNone};
+ghost use Rattle.std.specs.Prelude.{◌≡◌, ℕ, Bool, not, ◌&&◌, ◌||◌, [], Option, None, IfOk, IfSome, IfNone};
 ghost use Rattle.cond_formula.specs.Conditions.{condition_of, value};
 ghost use Rattle.conditional.specs.Entries.{Sees, alternatives, entries_of, seen, listed, first};
 ghost use Rattle.core_meaning.specs.Linking.{is_internal};

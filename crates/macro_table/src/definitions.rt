@@ -1,5 +1,5 @@
 //! Macros as values that stand under conditions.
-ghost use Rattle.std.specs.Prelude.{◌≡◌, List, map, IsTrue, IfOk};
+ghost use Rattle.std.specs.Prelude.{◌≡◌, map, IsTrue, IfOk};
 ghost use Rattle.std.specs.Option.{option_map};
 ghost use Rattle.c_text.specs.Token.{plain_token};
 ghost use Rattle.c_text.specs.Directives.{PlainMacro};

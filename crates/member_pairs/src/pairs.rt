@@ -1,6 +1,6 @@
 //! Uses of members in pairs.
 
-ghost use Rattle.std.specs.Prelude.{◌≡◌, ℕ, Bool, List, [], ◌∷◌, ◌++◌, ◌&&◌, IfOk};
+ghost use Rattle.std.specs.Prelude.{◌≡◌, ℕ, Bool, [], ◌∷◌, ◌++◌, ◌&&◌, IfOk};
 ghost use Rattle.cond_formula.specs.Conditions.{condition_of, value};
 ghost use Rattle.conditional.specs.Entries.{seen, under, entries_of, listed};
 ghost use Rattle.cond_pairings.specs.Pairs.{pairs_seen};

@@ -1,7 +1,7 @@
 //! Assignments, `++` and `--` (6.5.2.4, 6.5.3.1, 6.5.16).
 ghost use Rattle.std.specs.Prelude.{◌≡◌, IfOk, if◌then◌else◌};
 ghost use Rattle.c_text.specs.Token.{plain_token};
-ghost use Rattle.c_types.specs.Types.{plain_type, int};
+ghost use Rattle.c_types.specs.Types.{plain_type};
 ghost use Rattle.core_meaning.specs.Expressions as spec;
 ghost use Rattle.conditional.specs.Judgements.{refused};
 ghost use Rattle.operand_types.specs.Operators.{stepped_type, assigned_type};

@@ -1,5 +1,5 @@
 //! What operands are to the operators around them.
-ghost use Rattle.std.specs.Prelude.{◌≡◌, IsTrue, IfOk};
+ghost use Rattle.std.specs.Prelude.{◌≡◌, IsTrue};
 ghost use Rattle.operand_types.specs.OperandTypes as spec;
 ghost use Rattle.operand_rules.specs.PlainOperandTypes.{plain_category, plain_operand_type, reason};
 

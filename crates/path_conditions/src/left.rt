@@ -1,6 +1,6 @@
 //! What of formulas a path doesn't say already.
 
-ghost use Rattle.std.specs.Prelude.{◌≡◌, ℕ, ◌+◌, ◌<◌, Bool, ◌&&◌, ◌||◌, length, drop, get_or, IsTrue, IfOk};
+ghost use Rattle.std.specs.Prelude.{◌≡◌, ℕ, ◌+◌, ◌<◌, Bool, ◌&&◌, ◌||◌, length, drop, IsTrue, IfOk};
 ghost use Rattle.cond_formula.specs.Conditions.{condition_of, conditions_of, value, all_true, any_true};
 ghost use Rattle.reduced_conditions.specs.Literals.{AreTrue};
 

@@ -1,9 +1,8 @@
 //! Types by their words and declarators (6.7.2, 6.7.6).
-ghost use Rattle.std.specs.Prelude.{◌≡◌, true, false, None, IfOk, MatchResult, OnOk, option_map};
+ghost use Rattle.std.specs.Prelude.{◌≡◌, true, false, None, IfOk, MatchResult, option_map};
 ghost use Rattle.c_text.specs.Token.{plain_token};
 ghost use Rattle.c_types.specs.Types.{plain_type};
 ghost use Rattle.c_tree.specs.Trees.{node, plain_tree, plain_trees};
-ghost use Rattle.core_meaning.specs.Expressions as expressions;
 ghost use Rattle.core_meaning.specs.Constancy as constancy;
 ghost use Rattle.core_meaning.specs.Declarations as spec;
 ghost use Rattle.plain_scope.specs.PlainScope.{plain_scope};

@@ -1,5 +1,5 @@
 //! The core program of units.
-ghost use Rattle.std.specs.Prelude.{◌≡◌, ℕ, [], List, length, false, MatchResult, map};
+ghost use Rattle.std.specs.Prelude.{◌≡◌, [], List, length, false, MatchResult, map};
 ghost use Rattle.c_tree.specs.Trees.{PlainTree, plain_tree};
 ghost use Rattle.core_meaning.specs.Checking.{give};
 ghost use Rattle.core_meaning.specs.Linking as spec;

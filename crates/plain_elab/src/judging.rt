@@ -1,11 +1,8 @@
 //! Units that are judged one after another.
 ghost use Rattle.std.specs.Prelude.{◌≡◌, ℕ, [], length, IfOk, map};
 ghost use Rattle.c_tree.specs.Trees.{plain_tree};
-ghost use Rattle.core_meaning.specs.UnitNames.{judged_unit};
-ghost use Rattle.core_meaning.specs.Linking.{closed, judged_units};
-ghost use Rattle.plain_scope.specs.PlainScope.{plain_struct};
+ghost use Rattle.core_meaning.specs.Linking.{judged_units};
 ghost use Rattle.plain_scope.specs.Judgements.{Answers};
-ghost use Rattle.plain_units.specs.Closing.{plain_numbers, one_judged};
 ghost use Rattle.plain_elab.specs.PlainStates.{plain_judged, numbers_at, HasNoNumbers, HaveNoNumbers};
 
 use c_tree::Tree;

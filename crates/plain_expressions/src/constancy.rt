@@ -1,7 +1,6 @@
 //! Constant expressions (6.6).
 ghost use Rattle.std.specs.Prelude.{◌≡◌, not, option_map};
 ghost use Rattle.c_text.specs.Token.{plain_token};
-ghost use Rattle.c_types.specs.Types.{plain_type};
 ghost use Rattle.c_types.specs.Integers as integers;
 ghost use Rattle.c_types.specs.Integers.{IsValue};
 ghost use Rattle.c_types.specs.Arithmetic as arithmetic;

@@ -1,5 +1,5 @@
 //! Expressions (6.5).
-ghost use Rattle.std.specs.Prelude.{◌≡◌, ◌+◌, true, length, map, Some, IfOk, MatchResult};
+ghost use Rattle.std.specs.Prelude.{◌≡◌, true, length, map, Some, IfOk, MatchResult};
 ghost use Rattle.c_text.specs.Token.{plain_token};
 ghost use Rattle.c_types.specs.Types.{plain_type};
 ghost use Rattle.c_tree.specs.Trees.{node, plain_tree, plain_trees, more, leaf, none};

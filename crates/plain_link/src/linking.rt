@@ -1,5 +1,5 @@
 //! The first fault of units that don't link.
-ghost use Rattle.std.specs.Prelude.{◌≡◌, ℕ, MatchResult, [], List};
+ghost use Rattle.std.specs.Prelude.{ℕ, MatchResult, [], List};
 ghost use Rattle.core_meaning.specs.declared.refusals.LinkKind.TheVariants as link_kind;
 ghost use Rattle.core_meaning.specs.Linking as spec;
 ghost use Rattle.plain_link.specs.PlainUnits.{plain_units};

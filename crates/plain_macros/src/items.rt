@@ -1,7 +1,7 @@
 //! Tokens while they are replaced.
-ghost use Rattle.std.specs.Prelude.{◌≡◌, map, true, IfOk};
+ghost use Rattle.std.specs.Prelude.{◌≡◌, true, IfOk};
 ghost use Rattle.c_text.specs.Token.{plain_token};
-ghost use Rattle.c_text.specs.Directives.{is_spelled, is_word};
+ghost use Rattle.c_text.specs.Directives.{is_spelled};
 ghost use Rattle.c_text.specs.Macros as spec;
 ghost use Rattle.plain_macros.specs.PlainItems.{source_token, plain_item, item_token};
 

@@ -1,9 +1,6 @@
 //! What is done with each item of a list.
-ghost use Rattle.std.specs.Prelude.{◌≡◌, Bool, List, map};
-ghost use Rattle.std.specs.List.{list_any};
+ghost use Rattle.std.specs.Prelude.{◌≡◌, map};
 ghost use Rattle.std.specs.Option.{option_map};
-ghost use Rattle.std.specs.Str.{bytes_eq};
-ghost use Rattle.c_text.specs.Token.{plain_token};
 ghost use Rattle.c_text.specs.Macros as spec;
 ghost use Rattle.plain_macros.specs.PlainItems.{plain_item, item_token};
 ghost use Rattle.plain_macros.specs.PlainMeanings.{plain_meaning};

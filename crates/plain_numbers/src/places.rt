@@ -1,8 +1,8 @@
 //! Names in a row, each once, with their places.
-ghost use Rattle.std.specs.Prelude.{◌≡◌, OnOk, IfErr, ◌++◌, ◌∷◌, [], None, map};
+ghost use Rattle.std.specs.Prelude.{◌≡◌, OnOk, IfErr, ◌++◌, ◌∷◌, [], None};
 ghost use Rattle.core_meaning.specs.Linking as spec;
 ghost use Rattle.core_meaning.specs.Linking.{place_where, same_linked};
-ghost use Rattle.plain_numbers.specs.PlainLinked.{plain_linked, plain_list, entry_at, IsPlaced};
+ghost use Rattle.plain_numbers.specs.PlainLinked.{plain_linked, plain_list, IsPlaced};
 
 use plain_scope::ElabError;
 use std::alloc::Global;

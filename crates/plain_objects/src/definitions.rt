@@ -1,11 +1,10 @@
 //! A unit while it is judged, and its definitions of objects (6.9.2).
-ghost use Rattle.std.specs.Prelude.{◌≡◌, ℕ, None, Some, map, option_map, IfOk, OnOk, MatchResult};
+ghost use Rattle.std.specs.Prelude.{◌≡◌, ℕ, None, Some, map, option_map, OnOk, MatchResult};
 ghost use Rattle.core_meaning.specs.Checking.{give};
 ghost use Rattle.c_text.specs.Token.{plain_token};
 ghost use Rattle.c_types.specs.Types.{plain_type};
 ghost use Rattle.c_tree.specs.Trees.{plain_tree};
 ghost use Rattle.core_meaning.specs.Plain.{plain_constant, plain_constant_part, path_from};
-ghost use Rattle.core_meaning.specs.Constancy as constancy;
 ghost use Rattle.core_meaning.specs.UnitNames as spec;
 ghost use Rattle.plain_scope.specs.PlainScope.{plain_scope};
 ghost use Rattle.plain_scope.specs.Judgements.{Judges};

@@ -1,11 +1,9 @@
 //! The first values of scalars of file scope (6.6, 6.7.9).
-ghost use Rattle.std.specs.Prelude.{◌≡◌, ℕ, Some, map, option_map, MatchResult};
-ghost use Rattle.core_meaning.specs.Plain.{plain_constant, plain_constant_part, plain_expression, plain_place};
+ghost use Rattle.std.specs.Prelude.{◌≡◌, ℕ, Some, option_map};
+ghost use Rattle.core_meaning.specs.Plain.{plain_constant, plain_expression, plain_place};
 ghost use Rattle.core_meaning.specs.Program.{address, first_element};
 ghost use Rattle.core_meaning.specs.Values.{number};
 ghost use Rattle.core_meaning.specs.Constancy as constancy;
-ghost use Rattle.core_meaning.specs.UnitNames as spec;
-ghost use Rattle.plain_declarations.specs.PlainDeclared.{plain_initial};
 
 use core_meaning::{Constant, ConstantPart, Expression, Place};
 use plain_declarations::Initial;

@@ -2,9 +2,7 @@
 ghost use Rattle.std.specs.Prelude.{◌≡◌, false, IfOk};
 ghost use Rattle.c_text.specs.Token.{plain_token};
 ghost use Rattle.c_types.specs.Types.{plain_type, void};
-ghost use Rattle.core_meaning.specs.Program as program;
 ghost use Rattle.core_meaning.specs.Plain.{plain_expression};
-ghost use Rattle.core_meaning.specs.Typing as typing;
 ghost use Rattle.core_meaning.specs.Expressions as spec;
 ghost use Rattle.plain_operands.specs.PlainOperands.{plain_operand, plain_typed};
 ghost use Rattle.plain_scope.specs.Judgements.{Answers};

@@ -1,5 +1,4 @@
 //! Conditions, and the results of `?:` (6.5.15).
-ghost use Rattle.std.specs.Prelude.{◌≡◌, IfOk};
 ghost use Rattle.c_text.specs.Token.{plain_token};
 ghost use Rattle.c_types.specs.Types.{plain_type, void};
 ghost use Rattle.core_meaning.specs.Plain.{plain_expression};

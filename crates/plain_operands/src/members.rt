@@ -7,7 +7,7 @@ ghost use Rattle.core_meaning.specs.Program as program;
 ghost use Rattle.core_meaning.specs.Typing as typing;
 ghost use Rattle.core_meaning.specs.Expressions as spec;
 ghost use Rattle.plain_scope.specs.PlainScope.{plain_scope, plain_struct};
-ghost use Rattle.plain_operands.specs.PlainOperands.{plain_operand, plain_designation, plain_typed};
+ghost use Rattle.plain_operands.specs.PlainOperands.{plain_operand, plain_designation};
 ghost use Rattle.plain_scope.specs.Judgements.{AnswersBound};
 ghost use Rattle.plain_operands.specs.Operators.{member_of_loaded};
 

@@ -1,5 +1,5 @@
 //! What expressions designate, and their values (6.3.2.1).
-ghost use Rattle.std.specs.Prelude.{◌≡◌, true, false, pos, IfOk, Some, option_map};
+ghost use Rattle.std.specs.Prelude.{◌≡◌, false, pos, IfOk, Some, option_map};
 ghost use Rattle.c_text.specs.Token.{plain_token};
 ghost use Rattle.c_types.specs.Types.{plain_type, int};
 ghost use Rattle.core_meaning.specs.Plain.{plain_expression, plain_place};

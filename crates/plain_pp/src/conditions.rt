@@ -1,16 +1,14 @@
 //! The conditions of lines that begin groups and branches (6.10.1).
-ghost use Rattle.std.specs.Prelude.{◌≡◌, ◌↔◌, ℤ, List, map, Option, Some, None, IfOk};
+ghost use Rattle.std.specs.Prelude.{◌≡◌, ℤ, List, map, Option, Some, None, IfOk};
 ghost use Rattle.std.specs.Option.{option_map};
 ghost use Rattle.c_text.specs.Token.{PlainToken, plain_token};
-ghost use Rattle.c_text.specs.Lines.{plain_line};
-ghost use Rattle.c_text.specs.Expressions.{HasValue, is_zero};
 ghost use Rattle.c_text.specs.Macros;
 ghost use Rattle.c_text.specs.Preprocessing as spec;
 ghost use Rattle.plain_macros.specs.PlainTables.{table_of};
 ghost use Rattle.plain_macros.specs.PlainReplacements.{plain_replacement, outcome};
 ghost use Rattle.pp_lines.specs.PlainDirectives.{plain_directive};
 ghost use Rattle.unit_files.specs.Refusals.{plain_refusal};
-ghost use Rattle.plain_pp.specs.Results.{Says, Decides};
+ghost use Rattle.plain_pp.specs.Results.{Decides};
 ghost use Rattle.unit_files.specs.Settings.{AreValues};
 ghost use Rattle.plain_pp.specs.Values.{number_in};
 

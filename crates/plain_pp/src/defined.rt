@@ -1,5 +1,5 @@
 //! The tests of an expression whether a macro is defined (6.10.1).
-ghost use Rattle.std.specs.Prelude.{◌≡◌, ℕ, ◌∷◌, List, map, IfOk, OnOk, is_some, None, if◌then◌else◌};
+ghost use Rattle.std.specs.Prelude.{◌≡◌, ℕ, ◌∷◌, List, map, IfOk, is_some, None, if◌then◌else◌};
 ghost use Rattle.std.specs.Option.{option_map};
 ghost use Rattle.c_text.specs.Token.{PlainToken, plain_token};
 ghost use Rattle.c_text.specs.Macros;

@@ -1,5 +1,5 @@
 //! Directive lines that belong to no group.
-ghost use Rattle.std.specs.Prelude.{◌≡◌, ◌<◌, ◌^◌, ℕ, List, map, length, drop, Option, Some, None, MatchResult, IfOk, IfSome, true, if◌then◌else◌};
+ghost use Rattle.std.specs.Prelude.{◌≡◌, ◌<◌, ◌^◌, map, length, drop, Option, Some, None, IfOk, IfSome, true, if◌then◌else◌};
 ghost use Rattle.std.specs.Option.{option_map};
 ghost use Rattle.std.specs.List.{list_any};
 ghost use Rattle.std.specs.Str.{bytes_eq};
@@ -11,9 +11,7 @@ ghost use Rattle.c_text.specs.Preprocessing.{on, refused, unless, redefined};
 ghost use Rattle.plain_macros.specs.PlainMeanings.{plain_meaning};
 ghost use Rattle.plain_macros.specs.PlainTables.{table_of};
 ghost use Rattle.pp_lines.specs.PlainDirectives.{plain_directive};
-ghost use Rattle.unit_files.specs.Inclusions.{plain_source};
 ghost use Rattle.unit_files.specs.Refusals.{plain_refusal};
-ghost use Rattle.plain_pp.specs.Results.{Says};
 ghost use Rattle.unit_files.specs.Settings.{IsSettingOf, MayEnter};
 ghost use Rattle.plain_pp.specs.Readings.{plain_reading, Follows, Directs};
 

@@ -1,5 +1,5 @@
 //! The features that are on, as macros.
-ghost use Rattle.std.specs.Prelude.{◌≡◌, ℕ, map, IfOk, OnOk, if◌then◌else◌};
+ghost use Rattle.std.specs.Prelude.{◌≡◌, map, IfOk, OnOk, if◌then◌else◌};
 ghost use Rattle.std.specs.String.{string_bytes};
 ghost use Rattle.cond_formula.specs.Features.{has};
 ghost use Rattle.project_file.specs.Projects.{names_on};

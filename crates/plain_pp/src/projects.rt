@@ -1,5 +1,5 @@
 //! The preprocessing of a project's unit.
-ghost use Rattle.std.specs.Prelude.{◌≡◌, ◌+◌, ◌<◌, ◌≤◌, ℕ, length, map, All, MatchResult};
+ghost use Rattle.std.specs.Prelude.{◌≡◌, ◌+◌, ◌<◌, ◌≤◌, length, map, All, MatchResult};
 ghost use Rattle.cond_formula.specs.Features.{has};
 ghost use Rattle.text_edits.specs.Files.{plain_files};
 ghost use Rattle.c_text.specs.Token.{plain_token};

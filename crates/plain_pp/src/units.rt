@@ -1,5 +1,5 @@
 //! The reading of a unit.
-ghost use Rattle.std.specs.Prelude.{◌≡◌, ◌<◌, ◌≤◌, ◌^◌, ℕ, length, map, nat_lt, IfSome, option_map};
+ghost use Rattle.std.specs.Prelude.{◌≡◌, ◌<◌, length, nat_lt, IfSome, option_map};
 ghost use Rattle.c_text.specs.Preprocessing as spec;
 ghost use Rattle.c_text.specs.Preprocessing.{IsSyntaxOf};
 ghost use Rattle.unit_files.specs.Inclusions.{plain_source, IsAmong};

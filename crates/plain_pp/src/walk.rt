@@ -1,6 +1,6 @@
 //! The walk over the lines of one file.
-ghost use Rattle.std.specs.Prelude.{◌≡◌, ◌≢◌, ◌<◌, ◌^◌, ℕ, Bool, false, List, [], ◌∷◌, ◌++◌, map, length, drop, Option, Some, None, OnOk, IfOk, IfSome, option_map};
-ghost use Rattle.c_text.specs.Token.{PlainToken, plain_token};
+ghost use Rattle.std.specs.Prelude.{◌≡◌, ◌≢◌, ◌<◌, ◌^◌, false, List, [], ◌∷◌, ◌++◌, map, length, Option, Some, None, OnOk, IfOk, IfSome};
+ghost use Rattle.c_text.specs.Token.{plain_token};
 ghost use Rattle.c_text.specs.Lines.{plain_line};
 ghost use Rattle.c_text.specs.Trees.{role_of};
 ghost use Rattle.c_text.specs.Macros;

@@ -1,5 +1,5 @@
 //! What names stand for (6.2.1 to 6.2.3).
-ghost use Rattle.std.specs.Prelude.{◌≡◌, ℕ, List, Bool, ◌||◌, false, option_map, slice_get, map, reverse, IfOk, OnOk};
+ghost use Rattle.std.specs.Prelude.{◌≡◌, ℕ, List, ◌||◌, false, option_map, slice_get, map, reverse, IfOk, OnOk};
 ghost use Rattle.std.specs.Str.{bytes_eq};
 ghost use Rattle.c_types.specs.Types.{plain_type};
 ghost use Rattle.c_types.specs.Tags.{plain_member};

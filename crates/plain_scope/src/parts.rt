@@ -1,5 +1,5 @@
 //! What trees are made of.
-ghost use Rattle.std.specs.Prelude.{◌≡◌, ◌+◌, ◌/◌, option_map, Some, None, MatchResult};
+ghost use Rattle.std.specs.Prelude.{◌≡◌, option_map, Some, None, MatchResult};
 ghost use Rattle.c_text.specs.Token.{PlainToken, plain_token};
 ghost use Rattle.c_tree.specs.Trees as trees;
 ghost use Rattle.c_tree.specs.Trees.{plain_tree, plain_trees};

@@ -1,5 +1,5 @@
 //! The members of structs (6.7.2.1).
-ghost use Rattle.std.specs.Prelude.{◌≡◌, ℕ, None, not, is_some, map, length, OnOk};
+ghost use Rattle.std.specs.Prelude.{◌≡◌, None, not, is_some, length, OnOk};
 ghost use Rattle.c_text.specs.Token.{plain_token};
 ghost use Rattle.c_types.specs.Types.{plain_type};
 ghost use Rattle.c_tree.specs.Trees.{node, plain_tree, plain_trees};

@@ -1,5 +1,5 @@
 //! Units, and what they leave for linking (6.9).
-ghost use Rattle.std.specs.Prelude.{◌≡◌, ℕ, map, IfOk, MatchResult};
+ghost use Rattle.std.specs.Prelude.{◌≡◌, ℕ, map, IfOk};
 ghost use Rattle.c_tree.specs.Trees.{plain_tree, plain_trees};
 ghost use Rattle.core_meaning.specs.Linking.{closed};
 ghost use Rattle.core_meaning.specs.UnitNames as spec;

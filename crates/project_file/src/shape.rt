@@ -1,7 +1,7 @@
 //! The shape of a project file: its keys, and what they hold.
 ghost use Rattle.std.specs.List.{list_all};
-ghost use Rattle.std.specs.Prelude.{◌≡◌, IfOk, MatchResult, All, map, string_bytes, true, Some, codes};
-ghost use Rattle.toml.specs.Data.{string, array, get_member};
+ghost use Rattle.std.specs.Prelude.{◌≡◌, IfOk, MatchResult, string_bytes, Some};
+ghost use Rattle.toml.specs.Data.{array, get_member};
 ghost use Rattle.toml.specs.View.{view, table_view, items_view};
 ghost use Rattle.project_file.specs.Contents as spec;
 ghost use Rattle.project_file.specs.Faults.{shape};

@@ -1,11 +1,11 @@
 //! The model and the units: what the texts over features mean.
-ghost use Rattle.std.specs.Prelude.{◌≡◌, ℕ, suc, ◌+◌, ◌<◌, ◌≤◌, ◌^◌, length, map, MatchResult, option_map, string_bytes};
+ghost use Rattle.std.specs.Prelude.{◌≡◌, ◌+◌, ◌<◌, ◌≤◌, ◌^◌, length, map, MatchResult, option_map, string_bytes};
 ghost use Rattle.cond_formula.specs.Conditions.{condition_of};
 ghost use Rattle.feature_model.specs.ModelView.{admitted};
 ghost use Rattle.project_file.specs.Contents.{texts_of};
 ghost use Rattle.project_file.specs.Projects.{AreUnits, IsProjectOf};
 ghost use Rattle.project_file.specs.Texts.{IsPresence, IsModelOf};
-ghost use Rattle.project_file.specs.View.{Why, contents_view, project_view, strings_view, unit_text_view, unit_view};
+ghost use Rattle.project_file.specs.View.{Why, contents_view, project_view, unit_text_view, unit_view};
 ghost use Rattle.project_file.specs.Checks as spec;
 
 use crate::contents::{Contents, UnitText};

@@ -1,10 +1,10 @@
-ghost use Rattle.std.specs.Prelude.{◌≡◌, ◌+◌, ◌<◌, ◌≤◌, ◌++◌, ◌∷◌, [], length, map, string_bytes, vec_len, vec_capacity, All, ◌⊎◌, IfOk, OnOk, OnErr, IsOk, option_copied};
+ghost use Rattle.std.specs.Prelude.{◌≡◌, ◌+◌, ◌<◌, ◌≤◌, ◌++◌, ◌∷◌, [], length, map, vec_len, vec_capacity, All, ◌⊎◌, IfOk, OnOk, OnErr, option_copied};
 ghost use Rattle.std.specs.List.{position_from};
 ghost use Rattle.text_edits.specs.Files.{lookup_of, plain_file};
 ghost use Rattle.project_store.specs.Lookup.{PutsFile};
 ghost use Rattle.project_store.specs.Named.{has_name};
 ghost use Rattle.project_store.specs.Room.{names_taken, LacksRoom};
-ghost use Rattle.project_store.specs.Packed.{bytes_at, file_at, files_at, IsPieceWithin, IsWithin};
+ghost use Rattle.project_store.specs.Packed.{bytes_at, file_at, IsPieceWithin, IsWithin};
 
 use std::alloc::{AllocError, Global};
 use text_edits::SourceFile;

@@ -1,5 +1,5 @@
 //! The open blocks and groups of a parser.
-ghost use Rattle.std.specs.Prelude.{◌≡◌, [], ◌∷◌, OnOk, OnErr, Some, None};
+ghost use Rattle.std.specs.Prelude.{◌≡◌, [], ◌∷◌, OnOk, OnErr, Some};
 ghost use Rattle.quick_parser.specs.Spots.{block_count, innermost, left_frames, turned_frames};
 
 use crate::spots::Frame;

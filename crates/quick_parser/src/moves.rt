@@ -1,6 +1,6 @@
 //! The grammar: what a symbol does, by the place, the innermost open frame and the number of open blocks.
 ghost use Rattle.std.specs.Prelude.{◌≡◌, Some};
-ghost use Rattle.quick_parser.specs.Spots.{outside, inside, wanted, brace_move, endif_move, else_move, entry_move, declarator_move, initializer_move, void_move, operand_move, mark_move, declared_move, operator_move, end_mark, end_move, next_move};
+ghost use Rattle.quick_parser.specs.Spots.{outside, inside, brace_move, endif_move, else_move, entry_move, declarator_move, initializer_move, void_move, operand_move, mark_move, declared_move, operator_move, end_mark, end_move, next_move};
 ghost use Rattle.quick_form.specs.Symbols.{While};
 ghost use Rattle.quick_lexer.specs.View.{symbol_view};
 

@@ -1,5 +1,5 @@
 //! The names that a parser has seen tested.
-ghost use Rattle.std.specs.Prelude.{◌≡◌, [], OnOk, OnErr, IsOk, length, map};
+ghost use Rattle.std.specs.Prelude.{◌≡◌, [], OnOk, OnErr, map};
 ghost use Rattle.std.specs.List.{list_any};
 ghost use Rattle.std.specs.Str.{bytes_eq};
 ghost use Rattle.quick_parser.specs.Steps.{with_test, has_room};

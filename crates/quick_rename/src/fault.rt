@@ -1,11 +1,10 @@
 //! How much of a text can stand, where a parser refused a symbol.
-ghost use Rattle.std.specs.Prelude.{◌≡◌, ◌+◌, ◌-◌, ◌<◌, ◌≤◌, ◌&&◌, [], ◌∷◌, true, false, codes, length, max, nat_eq};
+ghost use Rattle.std.specs.Prelude.{◌≡◌, ◌+◌, ◌-◌, ◌<◌, ◌&&◌, [], ◌∷◌, true, false, codes, length, max, nat_eq};
 ghost use Rattle.std.specs.List.{starts_with, list_all};
-ghost use Rattle.std.specs.Str.{bytes_eq};
 ghost use Rattle.quick_form.specs.Words as spec_word;
 ghost use Rattle.quick_form.specs.Symbols as spec;
 ghost use Rattle.quick_lexer.specs.Lines.{BeginsWith};
-ghost use Rattle.quick_lexer.specs.View.{piece_view, symbol_view, token_symbols};
+ghost use Rattle.quick_lexer.specs.View.{piece_view, symbol_view};
 ghost use Rattle.quick_parser.specs.Steps.{is_entry};
 ghost use Rattle.quick_rename.specs.Cuts.{Cut, FaultAt, takes_tokens, takes_line, StopFault};
 ghost use Rattle.quick_rename.specs.Fronts as spec_front;

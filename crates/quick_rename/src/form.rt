@@ -1,5 +1,5 @@
 //! The reading of a file by the quick form's grammar.
-ghost use Rattle.std.specs.Prelude.{◌≡◌, [], true, Some, None, IfOk};
+ghost use Rattle.std.specs.Prelude.{◌≡◌, [], Some, None, IfOk};
 ghost use Rattle.quick_parser.specs.Steps.{after};
 ghost use Rattle.quick_rename.specs.Readings.{IsReading};
 ghost use Rattle.quick_rename.specs.Visits.{spelled};

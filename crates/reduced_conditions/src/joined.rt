@@ -1,6 +1,6 @@
 //! Conjunctions of literals that differ in one alone: one of both is true where what they have in common is.
 
-ghost use Rattle.std.specs.Prelude.{◌≡◌, ℕ, Bool, false, ◌&&◌, ◌||◌, IsTrue, IfOk, IfSome};
+ghost use Rattle.std.specs.Prelude.{◌≡◌, ℕ, Bool, false, ◌||◌, IsTrue, IfOk, IfSome};
 ghost use Rattle.cond_formula.specs.Conditions.{condition_of, conditions_of, value, all_true};
 ghost use Rattle.reduced_conditions.specs.Literals.{AreTrue};
 

@@ -1,6 +1,6 @@
 //! The values of the variables while one clause is checked.
 
-ghost use Rattle.std.specs.Prelude.{◌≡◌, ◌+◌, ◌≤◌, ◌<◌, ◌&&◌, length, slice_set, is_none, if◌then◌else◌};
+ghost use Rattle.std.specs.Prelude.{◌≡◌, ◌+◌, ◌<◌, ◌&&◌, length, slice_set, is_none, if◌then◌else◌};
 ghost use Rattle.refute_check.specs.Clauses.{variable_of, is_positive, is_literal};
 ghost use Rattle.refute_check.specs.Steps.{value_of, taken_true, taken_false};
 ghost use Rattle.refute_check.specs.Marks.{values_at, UpTo, taken};

@@ -1,5 +1,5 @@
 //! Where what stands in the way of a renaming is there, in all configurations at once.
-ghost use Rattle.std.specs.Prelude.{◌≡◌, ◌↔◌, ◌<◌, ◌≤◌, List, Bool, length, map, All, IsTrue, IfOk, MatchOption};
+ghost use Rattle.std.specs.Prelude.{◌≡◌, ◌↔◌, ◌<◌, ◌≤◌, List, Bool, length, map, All, IsTrue, IfOk};
 ghost use Rattle.text_edits.specs.Files.{plain_files};
 ghost use Rattle.cond_formula.specs.Conditions.{condition_of, value, VarsBelow};
 ghost use Rattle.cond_formula.specs.Features.{has};

@@ -1,6 +1,6 @@
 //! The tokens that are reached from one.
 
-ghost use Rattle.std.specs.Prelude.{◌≡◌, ◌↔◌, IsTrue, Contains, IfOk};
+ghost use Rattle.std.specs.Prelude.{◌↔◌, IsTrue, Contains, IfOk};
 ghost use Rattle.program_occurrences.specs.Classes.{PlainFileToken};
 ghost use Rattle.tied_tokens.specs.Tokens.{plain_file_token, plain_file_tokens, AreInOrder};
 ghost use Rattle.tied_tokens.specs.Ties.{plain_tie, plain_tied_tokens, NamesFeaturesBelow};

@@ -1,6 +1,6 @@
 //! Whether a condition is true in some configuration that counts.
 
-ghost use Rattle.std.specs.Prelude.{◌≡◌, ◌↔◌, IsTrue, IfOk};
+ghost use Rattle.std.specs.Prelude.{◌↔◌, IsTrue, IfOk};
 ghost use Rattle.cond_formula.specs.Conditions.{condition_of, Condition, VarsBelow};
 ghost use Rattle.feature_model.specs.ModelView.{admitted};
 ghost use Rattle.verdict_query.specs.Verdicts.{where_admitted, IsVerdict};

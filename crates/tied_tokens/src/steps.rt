@@ -1,6 +1,6 @@
 //! What one token is tied to.
 
-ghost use Rattle.std.specs.Prelude.{◌≡◌, IsTrue, All, Contains, OnOk, IfOk};
+ghost use Rattle.std.specs.Prelude.{◌≡◌, All, Contains, OnOk};
 ghost use Rattle.cond_formula.specs.Conditions.{condition_of, VarsBelow};
 ghost use Rattle.tied_tokens.specs.Tokens.{plain_file_token, plain_file_tokens};
 ghost use Rattle.tied_tokens.specs.Ties.{plain_tie, plain_declared_name, plain_tied_tokens, NamesFeaturesBelow};

@@ -13,7 +13,7 @@ pub struct Outside {
 }
 
 impl Tables {
-    ghost use Rattle.std.specs.Prelude.{◌≡◌, ℕ, suc, Bool, List, ◌++◌, length, OnOk, IfOk};
+    ghost use Rattle.std.specs.Prelude.{◌≡◌, ℕ, suc, Bool, OnOk, IfOk};
     ghost use Rattle.cond_formula.specs.Conditions.{condition_of, value};
     ghost use Rattle.c_types.specs.Types.{plain_type};
     ghost use Rattle.type_tables.specs.Seen.{seen_tables};

@@ -1,5 +1,5 @@
 //! Structs that are declared and completed (6.7.2.1, 6.7.2.3).
-ghost use Rattle.std.specs.Prelude.{◌≡◌, ℕ, ◌<◌, Bool, true, ◌∷◌, ◌++◌, [], length, if◌then◌else◌, OnOk, IfOk};
+ghost use Rattle.std.specs.Prelude.{◌≡◌, ℕ, ◌<◌, Bool, [], length, if◌then◌else◌, OnOk, IfOk};
 ghost use Rattle.core_meaning.specs.Constancy.{capped};
 ghost use Rattle.cond_sums.specs.Sums.{sum_at};
 ghost use Rattle.cond_formula.specs.Conditions.{condition_of, value};

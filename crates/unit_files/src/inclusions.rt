@@ -1,8 +1,8 @@
 //! The file that an `#include` line names (6.10.2).
-ghost use Rattle.std.specs.Prelude.{◌≡◌, ◌+◌, ◌<◌, ◌≤◌, ◌^◌, ℕ, ◌==◌, List, [], ◌∷◌, ◌++◌, map, reverse, length, IfOk, IfErr, IfSome, OnErr, Some, None, codes, if◌then◌else◌};
+ghost use Rattle.std.specs.Prelude.{◌≡◌, ◌+◌, ◌<◌, ◌^◌, ℕ, ◌==◌, List, [], ◌∷◌, ◌++◌, map, reverse, length, IfOk, IfSome, Some, None, if◌then◌else◌};
 ghost use Rattle.std.specs.Option.{option_map};
 ghost use Rattle.std.specs.String.{string_bytes};
-ghost use Rattle.std.specs.List.{slice_split, flat_map};
+ghost use Rattle.std.specs.List.{flat_map};
 ghost use Rattle.c_text.specs.Token.{plain_token};
 ghost use Rattle.c_text.specs.Constants.{inside};
 ghost use Rattle.c_text.specs.Preprocessing as spec;

@@ -1,5 +1,5 @@
 //! The files that a unit is read from.
-ghost use Rattle.std.specs.Prelude.{◌≡◌, ◌<◌, ◌≤◌, ◌^◌, ℕ, length, map, take, drop};
+ghost use Rattle.std.specs.Prelude.{◌≡◌, ◌<◌, ◌≤◌, length, map, take, drop};
 ghost use Rattle.c_text.specs.Lines.{plain_line};
 ghost use Rattle.c_text.specs.Preprocessing as spec;
 ghost use Rattle.unit_files.specs.Inclusions.{plain_source, IsAmong};

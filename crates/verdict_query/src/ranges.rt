@@ -1,6 +1,6 @@
 //! Which formulas name features alone.
 
-ghost use Rattle.std.specs.Prelude.{◌≡◌, IsTrue};
+ghost use Rattle.std.specs.Prelude.{IsTrue};
 ghost use Rattle.cond_formula.specs.Conditions.{condition_of, conditions_of, VarsBelow, AllVarsBelow};
 
 use cond_formula::Formula;
