@@ -19,10 +19,10 @@ use Rattle.choice_states.specs.declared.states.After.TheVariants as after_varian
 use Rattle.choice_states.specs.Seen.{Seen, Parts, of_seen, choice_seen, seen_in}
 use Rattle.choice_states.specs.Parts.{values, parts_fit_within, Pushed}
 use Rattle.choice_states.specs.Lists.{frames_at, place_fits_in}
-use Rattle.choice_states.specs.States.{Standing, at_place, within, arriving, arrived, unbegun, standing, becoming}
+use Rattle.choice_states.specs.States.{Standing, at_place, within, arriving, arrived, unbegun, standing, open_node, becoming}
 use Rattle.choice_states.specs.StateLaws.{standing-Dead, standing-In, becoming-Dead, becoming-Open, becoming-Whole, becoming-Unbegun, becoming-Split}
 use Rattle.choice_states.specs.Alike.{StandsAsSplit}
-use Rattle.choice_settling.specs.Leaving.{IsLeft}
+use Rattle.choice_settling.specs.Leaving.{StaysInside, IsLeft}
 use Rattle.choice_settling.specs.Steps.{stood, place_around, SameElsewhere, IsSound, ReadsIfThere, ReadsSo, ReadsAfter}
 use Rattle.choice_settling.proofs.FrameLemmas.{frames_inside, arrives_so}
 use Rattle.choice_settling.proofs.SettlingLemmas.{both_of, sound_in, inner_fits_in}
@@ -64,6 +64,17 @@ pub reads_behind : (admits : Condition) (when : Formula) (path here : List Formu
     → ReadsAfter admits path here (condition_of when) outer place kind token after parts new → ReadsAfter admits path here (condition_of when) outer place kind token inside parts new
 reads_behind admits when path here outer place kind token inside after parts new left behind = λ c admitted p h inner sound reads.
     behind c admitted p h inner sound (left_reads (value (has c) (condition_of when)) place kind token path when (has c) inner (inside (has c)) (after (has c)) p refl (left (has c)) reads)
+
+-- one stays in the part, and so in the node
+pub reads_inside : (admits when : Condition) (path here : List Formula) (outer : Option Spot) (place : Spot) (kind : Terminal) (token : Seen)
+    (state : State) (inner : Vec (Choice Item) Global) (rest : Box State Global) (parts : List (Choice Item)) → StaysInside state → rest.value ≡ state
+    → ReadsAfter admits path here when outer place kind token (stood state inner.items) (λ on. seen_in on parts) (stood (In place inner rest) parts)
+reads_inside admits when path here outer place kind token state inner rest parts inside rest_is = λ c admitted p h before sound reads.
+    let opened : open_node (stood rest.value inner.items (has c)) ≡ stood state inner.items (has c) =
+    ap (λ s. open_node (stood s inner.items (has c))) rest_is ∙ inside (has c) (seen_in (has c) inner.items) in
+    subst (λ s. ReadsIfThere (value (has c) when) outer kind token (within (plain_place place) before (seen_in (has c) parts)) s) (sym (standing-In place inner rest (has c) (seen_in (has c) parts)))
+    (reads_open (value (has c) when) outer kind token place before (stood rest.value inner.items (has c)) (seen_in (has c) parts) sound
+    (subst (λ s. ReadsIfThere (value (has c) when) (Some place) kind token before s) (sym opened) reads))
 
 -- ---- behind a part
 

@@ -19,7 +19,7 @@ ghost use Rattle.choice_settling.specs.Steps.{seen_of, stood, in_node, SameElsew
 
 use c_tree::Terminal;
 use choice_lookahead::enters;
-use choice_settling::{around_here, left, left_out, whole};
+use choice_settling::{around_here, is_inside, left, left_out, whole};
 use choice_states::{
     After, State, certain, joined, leaf_of, number_before, push, push_nothing, some_are_there,
 };
@@ -374,6 +374,9 @@ pub fn read_behind<O: Oracle>(
     ensures elsewhere { IfOk result (λ new. SameElsewhere setting.entry.here.now parts.old.items parts.new.items) }
     ensures reads { IfOk result (λ new. ReadsAfter (O.admits oracle.old) setting.entry.path.now setting.entry.here.now (condition_of reading.entry.token.now.when) setting.entry.outer place reading.entry.terminal (seen_of reading.entry.number reading.entry.token.now) (stood state inner.items) (λ on. seen_in on parts.old.items) (stood new parts.new.items)) }
 {
+    if is_inside(&state) {
+        return Ok(State::In(place, inner, Box::new(reading.alloc, state)?));
+    }
     let after = left(
         reading.alloc,
         state,

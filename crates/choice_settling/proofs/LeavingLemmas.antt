@@ -1,15 +1,40 @@
 -- Alternatives that leave a node for a token that waits.
-use Rattle.std.proofs.Common.{◌≡◌, ℕ, Bool, true, false, not, ◌&&◌, List, IsTrue, sym, ap, ◌∙◌, subst}
+use Rattle.std.proofs.Common.{◌≡◌, ℕ, Bool, true, false, not, ◌&&◌, List, IsTrue, refl, sym, ap, ◌∙◌, subst}
 use Rattle.std.specs.Bool.{if◌then◌else◌}
 use Rattle.std.specs.declared.alloc.Global.{Global}
-use Rattle.std.specs.Prelude.{Box}
+use Rattle.std.specs.Prelude.{Vec, Box}
 use Rattle.cond_formula.specs.declared.formulas.Formula.{Formula}
 use Rattle.cond_formula.specs.Conditions.{condition_of, conditions_of, value, all_true}
-use Rattle.choice_states.specs.declared.states.State.{State, Split}
-use Rattle.choice_states.specs.States.{leaves, Standing, standing, owes, Finishes}
-use Rattle.choice_states.specs.StateLaws.{standing-Split, owes-Split}
-use Rattle.choice_settling.specs.Leaving.{EachOwes, IsLeft}
+use Rattle.choice_trees.specs.declared.trees.Choice.{Choice}
+use Rattle.choice_trees.specs.declared.trees.Item.{Item}
+use Rattle.grammar_moves.specs.declared.places.Place.{Place as Spot}
+use Rattle.grammar_moves.specs.PlainPlaces.{plain_place}
+use Rattle.choice_states.specs.declared.states.State.{State, At, In, Split}
+use Rattle.choice_states.specs.Seen.{seen_in}
+use Rattle.choice_states.specs.States.{Stay, stays, leaves, takes, astray, stay_within, Standing, at_place, within, standing, open_node, owes, Finishes}
+use Rattle.choice_states.specs.StateLaws.{standing-At, standing-In, standing-Split, owes-Split}
+use Rattle.choice_settling.specs.Leaving.{StaysInside, EachOwes, IsLeft}
 use Rattle.choice_settling.proofs.Divisions.{Divides}
+
+-- ---- one stays in the node
+
+stays_within : (stay : Stay) → stay_within (stay_within stay) ≡ stay_within stay
+stays_within stays = refl
+stays_within leaves = refl
+stays_within takes = refl
+stays_within astray = refl
+
+open_as : (a b : Standing) → a ≡ b → open_node b ≡ b → open_node a ≡ a
+open_as a b is same = ap open_node is ∙ same ∙ sym is
+
+pub at_inside : (place : Spot) (new : Bool) → StaysInside (At place new)
+at_inside place new = λ on parts. open_as (standing (At place new) on parts) (at_place (plain_place place) parts) (standing-At place new on parts) refl
+
+pub in_inside : (place : Spot) (inner : Vec (Choice Item) Global) (rest : Box State Global) → StaysInside (In place inner rest)
+in_inside place inner rest = λ on parts.
+    let part : Standing = standing rest.value on (seen_in on inner.items) in
+    open_as (standing (In place inner rest) on parts) (within (plain_place place) part parts) (standing-In place inner rest on parts)
+    (ap (λ stay. record (within (plain_place place) part parts) { stay = stay }) (stays_within part.stay))
 
 -- ---- each that leaves it has to
 

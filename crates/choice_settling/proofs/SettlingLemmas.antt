@@ -421,6 +421,18 @@ module _ (path here : List Formula) (outer : Option Spot) (ahead : List CondToke
       settles_through outer (next_kind on ahead) path when on place (stood (In place inner rest) parts on) (stood rest.value inner.items on) (stood soon soon_parts on) (becoming after on) (new on)
       (seen_in on parts) (standing-In place inner rest on (seen_in on parts)) (settles on there (ap (λ fs. all_true on (conditions_of fs)) none)) (left on) (behind on there holds)
 
+  -- in a part that is settled and in which one stays
+  pub so_in_part :
+      (nowhere : List Formula) (place : Spot) (inner soon : Vec (Choice Item) Global) (rest soon_rest : Box State Global) (parts : List (Choice Item))
+      → nowhere ≡ [] → SettlesSo path nowhere (Some place) ahead (stood rest.value inner.items) (stood soon_rest.value soon.items)
+      → SettlesSo path here outer ahead (stood (In place inner rest) parts) (stood (In place soon soon_rest) parts)
+  so_in_part nowhere place inner soon rest soon_rest parts none settles = λ on there holds.
+      settles_where outer (next_kind on ahead) (stood (In place inner rest) parts on) (within (plain_place place) (stood rest.value inner.items on) (seen_in on parts))
+      (stood (In place soon soon_rest) parts on) (within (plain_place place) (stood soon_rest.value soon.items on) (seen_in on parts))
+      (standing-In place inner rest on (seen_in on parts)) (standing-In place soon soon_rest on (seen_in on parts))
+      (λ sound. settles_in outer (next_kind on ahead) place (stood rest.value inner.items on) (stood soon_rest.value soon.items on) (seen_in on parts) sound
+      (settles on there (ap (λ fs. all_true on (conditions_of fs)) none) (sound_in (plain_place place) (stood rest.value inner.items on) (seen_in on parts) sound)))
+
   pub so_dead : (place : Spot) (parts : List (Choice Item)) → SettlesSo path here outer ahead (becomes_in place after_variant.Dead parts) (stood Dead parts)
   so_dead place parts = λ on there holds sound.
       settles_where outer (next_kind on ahead) (becomes_in place after_variant.Dead parts on) (within (plain_place place) dead (seen_in on parts)) (stood Dead parts on) dead

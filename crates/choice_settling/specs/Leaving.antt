@@ -8,11 +8,15 @@ use Rattle.choice_states.specs.declared.states.State.TheOpen.{State-F}
 use Rattle.choice_states.specs.declared.states.State.TheOpen as state
 use Rattle.choice_states.specs.declared.states.State.TheFolds.{fold-State}
 use Rattle.choice_states.specs.Seen.{Parts}
-use Rattle.choice_states.specs.States.{leaves, Standing, standing, owes, Finishes}
+use Rattle.choice_states.specs.States.{leaves, Standing, standing, open_node, owes, Finishes}
 
 -- no alternative leaves the node
 abbrev pub NoneLeaves : State → Type 0
 NoneLeaves state = (on : ℕ → Bool) (parts : Parts) → (standing state on parts).stay ≡ leaves → ⊥
+
+-- one stays in the node: it is open as it is
+abbrev pub StaysInside : State → Type 0
+StaysInside state = (on : ℕ → Bool) (parts : Parts) → open_node (standing state on parts) ≡ standing state on parts
 
 -- each that leaves it has to where the formula is true on the path
 abbrev pub EachOwes : List Formula → Formula → State → State → Type 0

@@ -4,7 +4,7 @@ ghost use Rattle.std.specs.Prelude.{◌≡◌, ℕ, Bool, true, false, IfOk};
 ghost use Rattle.choice_states.specs.Alike.{StandAlike};
 ghost use Rattle.choice_states.specs.States.{becoming};
 ghost use Rattle.choice_settling.specs.Steps.{stood};
-ghost use Rattle.choice_settling.specs.Leaving.{NoneLeaves, EachOwes, IsLeft};
+ghost use Rattle.choice_settling.specs.Leaving.{NoneLeaves, EachOwes, IsLeft, StaysInside};
 
 use choice_states::{After, Closing, State, finished};
 use choice_trees::{Choice, Item};
@@ -25,6 +25,22 @@ fn some_leave(state: &State) -> bool
         State::At(..) => false,
         State::In(..) => false,
         State::Taken(..) => false,
+    }
+}
+
+/// Whether one stands at a place of the node or in a part of it, so that it stays as it is: most nodes round a place do, and needn't be looked
+/// at again.
+pub fn is_inside(state: &State) -> bool
+    ensures { result ≡ true → StaysInside state.now }
+{
+    match state {
+        State::At(..) => true,
+        State::In(..) => true,
+        State::Dead => false,
+        State::Closed(_) => false,
+        State::Unbegun(..) => false,
+        State::Taken(..) => false,
+        State::Split(..) => false,
     }
 }
 

@@ -6,6 +6,6 @@ mod alternatives;
 mod places;
 mod settling;
 
-pub use alternatives::left;
+pub use alternatives::{is_inside, left};
 pub use places::{around_here, left_out, whole};
 pub use settling::{Ahead, settled, settled_after};

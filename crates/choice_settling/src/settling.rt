@@ -12,7 +12,7 @@ ghost use Rattle.choice_states.specs.States.{at_place, within, becoming};
 ghost use Rattle.choice_settling.specs.Steps.{stood, SameElsewhere, IsSound, HasBegun, Settles, SettlesSo};
 ghost use Rattle.choice_settling.specs.Around.{IsListAround};
 
-use crate::alternatives::left;
+use crate::alternatives::{is_inside, left};
 use crate::places::{around_here, left_out, whole};
 use choice_lookahead::{begins_nothing, next_ending};
 use choice_states::{After, State, joined, list_at, push, some_are_there};
@@ -61,6 +61,9 @@ pub fn settled(
             let nowhere = Vec::new(alloc);
             let rest = Box::into_inner(rest);
             let rest = settled(rest, &mut inner, Some(place), path, &nowhere, ahead)?;
+            if is_inside(&rest) {
+                return Ok(State::In(place, inner, Box::new(alloc, rest)?));
+            }
             let after = left(alloc, rest, inner, path, ahead.when)?;
             settled_after(after, place, parts, outer, path, here, ahead)
         }

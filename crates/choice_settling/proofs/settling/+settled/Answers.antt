@@ -1,8 +1,9 @@
 use Rattle.std.proofs.Common.{Some, sym, subst, ◌∙◌}
 use Rattle.std.proofs.lemmas.Result.{IfOk-weaker}
+use Rattle.choice_states.specs.declared.states.State.{In}
 use Rattle.choice_settling.specs.Steps.{stood, SettlesSo}
 use Rattle.choice_settling.proofs.Divisions.{divided_so}
-use Rattle.choice_settling.proofs.SettlingLemmas.{settles_split, so_from_at, so_in}
+use Rattle.choice_settling.proofs.SettlingLemmas.{settles_split, so_from_at, so_in, so_in_part}
 use Rattle.choice_settling.proofs.settling.+settled.Goals as goal
 
 pub returns-in_ok-second-in-Split-clause-settled : goal.returns-in_ok-second-in-Split-clause-settled
@@ -22,6 +23,17 @@ returns-in_ok-second-in-Split-clause-settled t c = IfOk-weaker c.joined.result _
     (stood c.in_ok-second-in-Split.second c.settled-in-Split.new.parts.items))
     c.into_inner-second.ensures c.in_ok-second-in-Split.ensures.settled)
     as_split)) c.joined.ensures
+
+pub returns-then-is_inside-clause-settled : goal.returns-then-is_inside-clause-settled
+returns-then-is_inside-clause-settled t c =
+    subst (λ s. SettlesSo c.args.path.now c.args.here.now c.args.outer c.args.ahead.tokens.now (stood s c.args.parts.now.items)
+    (stood (In c.in-In.place c.settled-in-In.new.parts c.in_ok-new-in-In.field-0) c.args.parts.now.items)) (sym c.in-In.is)
+    (so_in_part c.args.path.now c.args.here.now c.args.outer c.args.ahead.tokens.now c.deref-in-In.result.now c.in-In.place c.in-In.inner c.settled-in-In.new.parts
+    c.in-In.rest c.in_ok-new-in-In.field-0 c.args.parts.now.items (c.deref-in-In.ensures.value ∙ c.new-nowhere.ensures.items)
+    (subst (λ s. SettlesSo c.args.path.now c.deref-in-In.result.now (Some c.in-In.place) c.args.ahead.tokens.now (stood c.in-In.rest.value c.in-In.inner.items) (stood s c.settled-in-In.new.parts.items))
+    (sym c.in_ok-new-in-In.ensures.ok)
+    (subst (λ s. SettlesSo c.args.path.now c.deref-in-In.result.now (Some c.in-In.place) c.args.ahead.tokens.now (stood s c.in-In.inner.items) (stood c.in_ok-rest-in-In.rest c.settled-in-In.new.parts.items))
+    c.into_inner-rest.ensures c.in_ok-rest-in-In.ensures.settled)))
 
 pub returns-in_ok-after-in-In-clause-settled : goal.returns-in_ok-after-in-In-clause-settled
 returns-in_ok-after-in-In-clause-settled t c = IfOk-weaker c.settled_after.result _ _ (λ new settles.
