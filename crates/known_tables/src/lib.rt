@@ -8,6 +8,7 @@ mod members;
 mod objects;
 mod operands;
 mod searches;
+mod shadowing;
 mod visible;
 
 pub use visible::Visible;

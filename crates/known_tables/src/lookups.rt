@@ -1,4 +1,5 @@
-//! What names stand for: the innermost local of the name, the latest first, or else what is declared at file scope (6.2.1).
+//! What names stand for: the innermost local of the name, the latest first, or else what is declared at file scope (6.2.1). It is put together
+//! from the outside inwards, so that what hides nothing else keeps its condition.
 ghost use Rattle.std.specs.Prelude.{ℕ, Bool, List, ◌∷◌, reverse, Option, None, IfOk, OnOk};
 ghost use Rattle.c_types.specs.Types.{PlainType, plain_type};
 ghost use Rattle.conditional.specs.declared.values.CondValue.{CondValue};
@@ -12,6 +13,7 @@ ghost use Rattle.known_tables.specs.Searches.{Finds};
 ghost use Rattle.known_tables.specs.Lookups.{found_as, found_at_file_scope, found_in, Answers};
 
 use crate::searches::Search;
+use crate::shadowing::shadowed;
 use c_types::CType;
 use cond_formula::NoMemory;
 use conditional::{CondValue, Guarded, Plain};
@@ -31,47 +33,6 @@ pub(crate) trait Sought<T: Plain> {
 
     fn of_function(&self, alloc: Global, number: u32) -> Result<CondValue<T>, NoMemory>
         ensures { IfOk result (λ z. (on : ℕ → Bool) → functions self.now on number z) };
-}
-
-/// One local, if it has the name.
-fn find_local<T: Plain, S: Sought<T>>(
-    alloc: Global,
-    sought: &S,
-    name: &[u8],
-    local: &LocalName,
-    search: &mut Search<T>,
-) -> Result<(), NoMemory>
-    ensures { OnOk result ((on : ℕ → Bool) (object : PlainType → Option T.Form) (function : ℕ → Option T.Form) (whole : Option T.Form) (outer : List LocalName) (named : Option plain.FileName)
-        → Answers T.form on (S.objects sought.now on) (S.functions sought.now on) object function
-        → Finds T.form on whole (found_in object function (local_named (locals_in on (local.now ∷ outer)) name.now) named) search.old
-        → Finds T.form on whole (found_in object function (local_named (locals_in on outer) name.now) named) search.new) }
-{
-    if name != local.name.as_slice() {
-        return Ok(());
-    }
-    let object = sought.of_object(alloc, &local.ty)?;
-    search.find(alloc, &local.when, &object)
-}
-
-/// The locals of the name.
-fn find_locals<T: Plain, S: Sought<T>>(
-    alloc: Global,
-    sought: &S,
-    name: &[u8],
-    locals: &[LocalName],
-    search: &mut Search<T>,
-) -> Result<(), NoMemory>
-    ensures { OnOk result ((on : ℕ → Bool) (object : PlainType → Option T.Form) (function : ℕ → Option T.Form) (whole : Option T.Form) (named : Option plain.FileName)
-        → Answers T.form on (S.objects sought.now on) (S.functions sought.now on) object function
-        → Finds T.form on whole (found_in object function (local_named (locals_in on (reverse locals.now)) name.now) named) search.old
-        → Finds T.form on whole (found_at_file_scope object function named) search.new) }
-{
-    let mut count = locals.len();
-    while count > 0 {
-        count -= 1;
-        find_local(alloc, sought, name, &locals[count], search)?;
-    }
-    Ok(())
 }
 
 /// What is looked for behind what a declaration declares.
@@ -124,7 +85,7 @@ fn find_meanings<T: Plain, S: Sought<T>>(
     Ok(())
 }
 
-/// What the name stands for at file scope.
+/// The meanings of the name at file scope, if it has any.
 fn find_at_file_scope<T: Plain, S: Sought<T>>(
     alloc: Global,
     tables: &Tables,
@@ -143,6 +104,62 @@ fn find_at_file_scope<T: Plain, S: Sought<T>>(
     }
 }
 
+/// What the name stands for at file scope.
+fn seen_at_file_scope<T: Plain, S: Sought<T>>(
+    alloc: Global,
+    tables: &Tables,
+    sought: &S,
+    name: &[u8],
+) -> Result<CondValue<T>, NoMemory>
+    ensures { IfOk result (λ z. (on : ℕ → Bool) (object : PlainType → Option T.Form) (function : ℕ → Option T.Form)
+        → Answers T.form on (S.objects sought.now on) (S.functions sought.now on) object function
+        → Sees on (found_at_file_scope object function ((seen_tables on tables.now).names name.now)) (alternatives T.form z)) }
+{
+    let mut search = Search::new(alloc);
+    find_at_file_scope(alloc, tables, sought, name, &mut search)?;
+    Ok(search.end())
+}
+
+/// What is seen behind one local: the local, if it has the name, or else what is seen around it.
+fn seen_behind<T: Plain, S: Sought<T>>(
+    alloc: Global,
+    sought: &S,
+    name: &[u8],
+    local: &LocalName,
+    around: CondValue<T>,
+) -> Result<CondValue<T>, NoMemory>
+    ensures { IfOk result (λ z. (on : ℕ → Bool) (object : PlainType → Option T.Form) (function : ℕ → Option T.Form) (outer : List LocalName) (named : Option plain.FileName)
+        → Answers T.form on (S.objects sought.now on) (S.functions sought.now on) object function
+        → Sees on (found_in object function (local_named (locals_in on outer) name.now) named) (alternatives T.form around)
+        → Sees on (found_in object function (local_named (locals_in on (local.now ∷ outer)) name.now) named) (alternatives T.form z)) }
+{
+    if name != local.name.as_slice() {
+        return Ok(around);
+    }
+    let object = sought.of_object(alloc, &local.ty)?;
+    shadowed(alloc, &local.when, &object, around)
+}
+
+/// What is seen behind the locals, from the outermost block inwards.
+fn seen_behind_all<T: Plain, S: Sought<T>>(
+    alloc: Global,
+    sought: &S,
+    name: &[u8],
+    locals: &[LocalName],
+    around: CondValue<T>,
+) -> Result<CondValue<T>, NoMemory>
+    ensures { IfOk result (λ z. (on : ℕ → Bool) (object : PlainType → Option T.Form) (function : ℕ → Option T.Form) (named : Option plain.FileName)
+        → Answers T.form on (S.objects sought.now on) (S.functions sought.now on) object function
+        → Sees on (found_at_file_scope object function named) (alternatives T.form around)
+        → Sees on (found_in object function (local_named (locals_in on (reverse locals.now)) name.now) named) (alternatives T.form z)) }
+{
+    let mut seen = around;
+    for local in locals {
+        seen = seen_behind(alloc, sought, name, local, seen)?;
+    }
+    Ok(seen)
+}
+
 /// What is looked for behind a name.
 pub(crate) fn looked_up<T: Plain, S: Sought<T>>(
     alloc: Global,
@@ -154,8 +171,6 @@ pub(crate) fn looked_up<T: Plain, S: Sought<T>>(
         → Answers T.form on (S.objects sought.now on) (S.functions sought.now on) object function
         → Sees on (found_in object function (local_named (seen_tables on tables.now).locals name.now) ((seen_tables on tables.now).names name.now)) (alternatives T.form z)) }
 {
-    let mut search = Search::new(alloc);
-    find_locals(alloc, sought, name, &tables.locals, &mut search)?;
-    find_at_file_scope(alloc, tables, sought, name, &mut search)?;
-    Ok(search.end())
+    let around = seen_at_file_scope(alloc, tables, sought, name)?;
+    seen_behind_all(alloc, sought, name, &tables.locals, around)
 }
