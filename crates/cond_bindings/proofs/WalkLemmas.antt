@@ -1,5 +1,5 @@
 -- Where none of the declarations is there that a use may see.
-use Rattle.std.proofs.Common.{◌≡◌, ℕ, ◌<◌, ◌≤◌, Bool, true, false, not, ◌&&◌, List, [], ◌∷◌, length, take, get_or, IsTrue, refl, sym, ap, ◌∙◌, arith}
+use Rattle.std.proofs.Common.{◌≡◌, ℕ, ◌<◌, ◌≤◌, Bool, true, false, not, ◌&&◌, ◌||◌, List, [], ◌∷◌, length, take, get_or, IsTrue, refl, sym, ap, ◌∙◌, arith}
 use Rattle.std.specs.Prelude.{Option, Some, None, is_none, is_some, if◌then◌else◌}
 use Rattle.std.proofs.lemmas.List.{length-take}
 use Rattle.cond_formula.specs.Conditions.{condition_of, value}
@@ -17,9 +17,22 @@ and_true : (a : Bool) → (a && true) ≡ a
 and_true true = refl
 and_true false = refl
 
-settled : (path there others : Bool) → (IsTrue path → IsTrue there) → false ≡ (path && (not there && others))
-settled true there others follows = sym (ap (λ b. not b && others) (follows refl))
-settled false there others follows = refl
+pub none_yet : (path seen : Bool) → seen ≡ false → path ≡ (path && not seen)
+none_yet path seen none = sym (and_true path) ∙ ap (λ b. path && not b) (sym none)
+
+-- the path where one thing more isn't seen
+pub narrower : (path seen there now : Bool) → now ≡ (seen || there) → (path && not now) ≡ ((path && not seen) && not there)
+narrower path true there now is = ap (λ b. path && not b) is ∙ none path there
+  where
+    none : (p t : Bool) → (p && false) ≡ ((p && false) && not t)
+    none true t = refl
+    none false t = refl
+narrower path false there now is = ap (λ b. path && not b) is ∙ ap (λ b. b && not there) (sym (and_true path))
+
+-- nothing is left of a path on which all is seen
+pub nothing_left : (path seen others whole : Bool) → (IsTrue path → IsTrue seen) → ((path && not seen) && others) ≡ whole → false ≡ whole
+nothing_left true seen others whole follows is = ap (λ b. not b && others) (sym (follows refl)) ∙ is
+nothing_left false seen others whole follows is = is
 
 -- one step: from declarations of the front of a list, with the path that is left so far
 module _ (on : ℕ → Bool) (ds : List Declaration) (behind : ℕ) (next : Option ℕ) (path whole : Bool) (so_far : (path && none_there on (visible (take behind ds) next)) ≡ whole) where
@@ -35,10 +48,6 @@ module _ (on : ℕ → Bool) (ds : List Declaration) (behind : ℕ) (next : Opti
   module _ (place : ℕ) (d : Declaration) (is : next ≡ Some place) (lt : place < behind) (le : behind ≤ length ds) (at : d ≡ get_or ds place d) where
     stepped : (path && (not (value on (condition_of d.when)) && none_there on (visible (take place ds) d.hides))) ≡ whole
     stepped = ap (λ (vs : List Visible). path && none_there on vs) (sym (ap (visible (take behind ds)) is ∙ visible_in_front ds behind place d lt le at)) ∙ so_far
-
-    -- a declaration that is there wherever the path is true
-    pub found : (IsTrue path → IsTrue (value on (condition_of d.when))) → false ≡ whole
-    found follows = settled path (value on (condition_of d.when)) (none_there on (visible (take place ds) d.hides)) follows ∙ stepped
 
     pub gone_on : (left : Bool) → left ≡ (path && not (value on (condition_of d.when))) → (left && none_there on (visible (take place ds) d.hides)) ≡ whole
     gone_on left without =

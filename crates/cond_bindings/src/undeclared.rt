@@ -1,6 +1,6 @@
 //! Where a name that is used isn't declared.
 
-ghost use Rattle.std.specs.Prelude.{◌≡◌, ℕ, Bool, false, ◌&&◌, ◌||◌, List, is_none, IsTrue, IfOk};
+ghost use Rattle.std.specs.Prelude.{◌≡◌, ℕ, Bool, false, not, ◌&&◌, ◌||◌, List, is_none, IsTrue, IfOk};
 ghost use Rattle.cond_formula.specs.Features.{has};
 ghost use Rattle.cond_formula.specs.Conditions.{condition_of, conditions_of, value, all_true};
 ghost use Rattle.core_meaning.specs.Entities.{or_else};
@@ -13,7 +13,17 @@ use path_conditions::{conjoined, copied, exclude, follows};
 use reduced_conditions::{either, is_never};
 use std::alloc::Global;
 
-/// The path without the configurations that see a declaration from the place on, or nothing if each of the path's does.
+/// The path where the formula isn't true.
+fn left_behind(alloc: Global, path: Vec<Formula>, seen: &Formula) -> Result<Vec<Formula>, NoMemory>
+    ensures { IfOk result (λ left. (on : ℕ → Bool) → all_true on (conditions_of left.items) ≡ (all_true on (conditions_of path.items) && not (value on (condition_of seen.now)))) }
+{
+    let mut left = path;
+    exclude(&mut left, alloc, seen)?;
+    Ok(left)
+}
+
+/// The path without the configurations that see a declaration from the place on, or nothing if each of the path's does. Where they are seen is
+/// put together first: declarations of all branches of a group are seen everywhere, and no oracle has to be asked.
 pub fn without_visible(
     alloc: Global,
     declarations: &[Declaration],
@@ -23,22 +33,22 @@ pub fn without_visible(
     ensures { IfOk result (λ left. (on : ℕ → Bool) → left_on on left
         ≡ (all_true on (conditions_of path.items) && none_there on (visible declarations.now latest))) }
 {
-    let mut left = path;
+    let mut seen = Formula::False;
     let mut behind = declarations.len();
     let mut next = latest;
     while let Some(place) = next {
         if place as usize >= behind {
-            return Ok(Some(left));
+            return Ok(Some(left_behind(alloc, path, &seen)?));
         }
         let declaration = &declarations[place as usize];
-        if follows(&declaration.when, &left) {
+        seen = either(alloc, seen, declaration.when.try_clone(alloc)?)?;
+        if follows(&seen, &path) {
             return Ok(None);
         }
-        exclude(&mut left, alloc, &declaration.when)?;
         behind = place as usize;
         next = declaration.hides;
     }
-    Ok(Some(left))
+    Ok(Some(left_behind(alloc, path, &seen)?))
 }
 
 /// The path without the configurations that see a declaration from one of two places on.
