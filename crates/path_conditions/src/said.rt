@@ -40,6 +40,15 @@ fn has_negation(path: &[Formula], f: &Formula) -> bool
     false
 }
 
+// What isn't among the literals of a path is said nowhere there.
+fn is_literal(f: &Formula) -> bool {
+    match f {
+        Formula::Var(_) => true,
+        Formula::Not(inner) => matches!(**inner, Formula::Var(_)),
+        _ => false,
+    }
+}
+
 // Whether the path, with these among its literals, shows that the formula is true.
 #[cycle(said)]
 #[tactic(auto, using(cond_formula::specs::ConditionLaws::formula_kinds))]
@@ -47,8 +56,11 @@ pub(crate) fn follows_from(f: &Formula, path: &[Formula], literals: &Literals) -
     requires { (on : ℕ → Bool) → IsTrue (all_true on (conditions_of path.now)) → AreTrue on literals.now }
     ensures { IsTrue result → (on : ℕ → Bool) → IsTrue (all_true on (conditions_of path.now)) → IsTrue (value on (condition_of f.now)) }
 {
-    if let Some(is_said) = literals.say(f) {
-        return is_said;
+    if literals.show(f, true) {
+        return true;
+    }
+    if is_literal(f) {
+        return false;
     }
     if has(path, f) {
         return true;
@@ -96,8 +108,11 @@ pub(crate) fn is_excluded_by(f: &Formula, path: &[Formula], literals: &Literals)
     requires { (on : ℕ → Bool) → IsTrue (all_true on (conditions_of path.now)) → AreTrue on literals.now }
     ensures { IsTrue result → (on : ℕ → Bool) → IsTrue (all_true on (conditions_of path.now)) → value on (condition_of f.now) ≡ false }
 {
-    if let Some(is_denied) = literals.deny(f) {
-        return is_denied;
+    if literals.show(f, false) {
+        return true;
+    }
+    if is_literal(f) {
+        return false;
     }
     if has_negation(path, f) {
         return true;

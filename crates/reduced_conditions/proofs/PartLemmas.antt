@@ -4,11 +4,11 @@ use Rattle.std.proofs.lemmas.List.{drop_more}
 use Rattle.cond_formula.specs.declared.formulas.Formula.{Formula}
 use Rattle.cond_formula.specs.Conditions.{condition_of, conditions_of, value, all_true, any_true}
 
-left_true : (a b : Bool) → IsTrue (a && b) → IsTrue a
+pub left_true : (a b : Bool) → IsTrue (a && b) → IsTrue a
 left_true true b h = refl
 left_true false b h = cc
 
-right_true : (a b : Bool) → IsTrue (a && b) → IsTrue b
+pub right_true : (a b : Bool) → IsTrue (a && b) → IsTrue b
 right_true true b h = h
 right_true false b h = cc
 
@@ -43,11 +43,11 @@ all_from on parts i part within is one rest =
     let next : drop i parts ≡ part ∷ after = drop_more parts i part within ∙ ap (λ (p : Formula). p ∷ after) (sym is) in
     ap (λ (ps : List Formula). all_true on (conditions_of ps)) next ∙ both_true (value on (condition_of part)) (all_true on (conditions_of after)) one rest
 
-none_left : (a b : Bool) → (a || b) ≡ false → a ≡ false
+pub none_left : (a b : Bool) → (a || b) ≡ false → a ≡ false
 none_left true b h = h
 none_left false b h = refl
 
-none_right : (a b : Bool) → (a || b) ≡ false → b ≡ false
+pub none_right : (a b : Bool) → (a || b) ≡ false → b ≡ false
 none_right true b h = cc
 none_right false b h = h
 

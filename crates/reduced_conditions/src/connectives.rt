@@ -1,11 +1,13 @@
 //! Formulas made of formulas.
 
-ghost use Rattle.std.specs.Prelude.{◌≡◌, ℕ, Bool, not, ◌&&◌, ◌||◌, IfOk, IfSome};
+ghost use Rattle.std.specs.Prelude.{◌≡◌, ℕ, Bool, not, ◌&&◌, ◌||◌, ◌↔◌, IsTrue, IfOk, IfSome};
 ghost use Rattle.cond_formula.specs.Conditions.{condition_of, value};
+ghost use Rattle.reduced_conditions.specs.Literals.{AreTrue};
 
-use crate::joined::joined;
+use crate::conjunctions::{conjoined, joined};
 use crate::known::{inside, left_where, outside};
-use crate::parts::{exclude_each_other, is_implied};
+use crate::literals::Literals;
+use crate::parts::{are_exclusive, exclude_each_other, is_implied, is_implied_with};
 use crate::same::{is_always, is_opposite};
 use cond_formula::{Formula, NoMemory};
 use std::alloc::Global;
@@ -18,24 +20,54 @@ fn neither(alloc: Global, a: &Formula, b: &Formula) -> Result<Option<Formula>, N
     let (Formula::Not(f), Formula::Not(g)) = (a, b) else {
         return Ok(None);
     };
-    let Some(some) = joined(alloc, f, g)? else {
+    let literals = Literals::where_true(f);
+    let others = Literals::where_true(g);
+    let Some(some) = joined(alloc, &literals, &others)? else {
         return Ok(None);
     };
     let negation = Formula::not(alloc, some)?;
     Ok(Some(negation))
 }
 
+// The same for conjunctions of these literals.
+fn both_conjunctions(
+    alloc: Global,
+    a: Formula,
+    b: Formula,
+    literals: &Literals,
+    others: &Literals,
+) -> Result<Formula, NoMemory>
+    requires one { (on : ℕ → Bool) → IsTrue (value on (condition_of a)) ↔ AreTrue on literals.now }
+    requires other { (on : ℕ → Bool) → IsTrue (value on (condition_of b)) ↔ AreTrue on others.now }
+    ensures { IfOk result (λ f. (on : ℕ → Bool) → value on (condition_of f) ≡ (value on (condition_of a) && value on (condition_of b))) }
+{
+    if others.include(literals) {
+        return Ok(b);
+    }
+    if literals.include(others) {
+        return Ok(a);
+    }
+    let f = conjoined(alloc, literals, others)?;
+    Ok(f)
+}
+
 /// The formula that is true where both are.
 pub fn both(alloc: Global, a: Formula, b: Formula) -> Result<Formula, NoMemory>
     ensures { IfOk result (λ f. (on : ℕ → Bool) → value on (condition_of f) ≡ (value on (condition_of a) && value on (condition_of b))) }
 {
-    if is_implied(&a, &b) {
+    let literals = Literals::where_true(&a);
+    let others = Literals::where_true(&b);
+    if literals.are_all && others.are_all {
+        let f = both_conjunctions(alloc, a, b, &literals, &others)?;
+        return Ok(f);
+    }
+    if is_implied_with(&a, &b, &others) {
         return Ok(b);
     }
-    if is_implied(&b, &a) {
+    if is_implied_with(&b, &a, &literals) {
         return Ok(a);
     }
-    if exclude_each_other(&a, &b) {
+    if are_exclusive(&a, &b, &others) {
         return Ok(Formula::False);
     }
     if let Some(rest) = neither(alloc, &a, &b)? {
@@ -50,13 +82,19 @@ pub fn both(alloc: Global, a: Formula, b: Formula) -> Result<Formula, NoMemory>
 pub fn both_of(alloc: Global, a: &Formula, b: &Formula) -> Result<Formula, NoMemory>
     ensures { IfOk result (λ f. (on : ℕ → Bool) → value on (condition_of f) ≡ (value on (condition_of a.now) && value on (condition_of b.now))) }
 {
-    if exclude_each_other(a, b) {
+    let literals = Literals::where_true(a);
+    let others = Literals::where_true(b);
+    if literals.are_all && others.are_all {
+        let f = conjoined(alloc, &literals, &others)?;
+        return Ok(f);
+    }
+    if are_exclusive(a, b, &others) {
         return Ok(Formula::False);
     }
-    if is_implied(a, b) {
+    if is_implied_with(a, b, &others) {
         return b.try_clone(alloc);
     }
-    if is_implied(b, a) {
+    if is_implied_with(b, a, &literals) {
         return a.try_clone(alloc);
     }
     if let Some(rest) = neither(alloc, a, b)? {
@@ -71,16 +109,18 @@ pub fn both_of(alloc: Global, a: &Formula, b: &Formula) -> Result<Formula, NoMem
 pub fn either(alloc: Global, a: Formula, b: Formula) -> Result<Formula, NoMemory>
     ensures { IfOk result (λ f. (on : ℕ → Bool) → value on (condition_of f) ≡ (value on (condition_of a) || value on (condition_of b))) }
 {
-    if is_implied(&a, &b) {
+    let literals = Literals::where_true(&a);
+    let others = Literals::where_true(&b);
+    if is_implied_with(&a, &b, &others) {
         return Ok(a);
     }
-    if is_implied(&b, &a) {
+    if is_implied_with(&b, &a, &literals) {
         return Ok(b);
     }
     if is_opposite(&a, &b) {
         return Ok(Formula::True);
     }
-    if let Some(rest) = joined(alloc, &a, &b)? {
+    if let Some(rest) = joined(alloc, &literals, &others)? {
         return Ok(rest);
     }
     let elsewhere = outside(alloc, &b, &a)?;
@@ -95,6 +135,12 @@ pub fn either(alloc: Global, a: Formula, b: Formula) -> Result<Formula, NoMemory
 pub fn without(alloc: Global, a: Formula, b: &Formula) -> Result<Formula, NoMemory>
     ensures { IfOk result (λ f. (on : ℕ → Bool) → value on (condition_of f) ≡ (value on (condition_of a) && not (value on (condition_of b.now)))) }
 {
+    let literals = Literals::where_true(&a);
+    let others = Literals::where_has(b, false);
+    if literals.are_all && others.are_all {
+        let f = conjoined(alloc, &literals, &others)?;
+        return Ok(f);
+    }
     if exclude_each_other(&a, b) {
         return Ok(a);
     }

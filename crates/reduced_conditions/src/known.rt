@@ -35,11 +35,13 @@ fn is_known(part: &Formula, other: &Formula, is_true: bool, literals: &Literals)
     requires { (on : ℕ → Bool) → value on (condition_of other.now) ≡ is_true → AreTrue on literals.now }
     ensures { IsTrue result → (on : ℕ → Bool) → value on (condition_of other.now) ≡ is_true → IsTrue (value on (condition_of part.now)) }
 {
-    match literals.say(part) {
-        Some(true) => true,
-        Some(false) if literals.are_all => false,
-        _ => follows(part, other, is_true),
+    if literals.show(part, true) {
+        return true;
     }
+    if literals.are_all {
+        return false;
+    }
+    follows(part, other, is_true)
 }
 
 // Both, without the second if it is known to be true.
@@ -92,11 +94,15 @@ pub(crate) fn left_where(
     ensures same { IfOk result (λ f. (on : ℕ → Bool) → value on (condition_of other.now) ≡ is_true → value on (condition_of f) ≡ value on (condition_of when.now)) }
     ensures wider { IfOk result (λ f. (on : ℕ → Bool) → IsTrue (value on (condition_of when.now)) → IsTrue (value on (condition_of f))) }
 {
+    let literals = Literals::where_has(other, is_true);
+    let said = Literals::where_true(when);
+    if said.are_all {
+        let rest = said.minus(&literals);
+        let f = rest.formula(alloc)?;
+        return Ok(f);
+    }
     match when {
-        Formula::And(parts) => {
-            let literals = Literals::where_has(other, is_true);
-            parts_left(alloc, parts, other, is_true, &literals)
-        }
+        Formula::And(parts) => parts_left(alloc, parts, other, is_true, &literals),
         when => when.try_clone(alloc),
     }
 }
@@ -109,12 +115,19 @@ pub fn outside(alloc: Global, when: &Formula, other: &Formula) -> Result<Formula
     left_where(alloc, when, other, false)
 }
 
-// Whether some of the parts are known where the other is true. It decides on no value: where none is, nothing has to be copied.
-fn says_some(other: &Formula, parts: &[Formula]) -> bool {
+// Whether some of the condition is known where the other is true. It decides on no value: where none is, nothing has to be copied.
+fn says_some(other: &Formula, when: &Formula) -> bool {
     let literals = Literals::where_true(other);
-    parts
-        .iter()
-        .any(|part| is_known(part, other, true, &literals))
+    let said = Literals::where_true(when);
+    if said.are_all {
+        return literals.share(&said);
+    }
+    match when {
+        Formula::And(parts) => parts
+            .iter()
+            .any(|part| is_known(part, other, true, &literals)),
+        _ => false,
+    }
 }
 
 /// A condition that says the same where the other is true. What the other says already is left out.
@@ -122,10 +135,8 @@ fn says_some(other: &Formula, parts: &[Formula]) -> bool {
 pub(crate) fn inside(alloc: Global, when: Formula, other: &Formula) -> Result<Formula, NoMemory>
     ensures { IfOk result (λ f. (on : ℕ → Bool) → IsTrue (value on (condition_of other.now)) → value on (condition_of f) ≡ value on (condition_of when)) }
 {
-    if let Formula::And(parts) = &when {
-        if says_some(other, parts) {
-            return left_where(alloc, &when, other, true);
-        }
+    if says_some(other, &when) {
+        return left_where(alloc, &when, other, true);
     }
     Ok(when)
 }

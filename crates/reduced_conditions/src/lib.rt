@@ -2,8 +2,8 @@
 //! stay small.
 #![tactic(auto)]
 
+mod conjunctions;
 mod connectives;
-mod joined;
 mod known;
 mod literals;
 mod parts;

@@ -1,41 +1,36 @@
 //! What a condition says of single features.
 
-ghost use Rattle.std.specs.Prelude.{◌≡◌, ◌≢◌, ◌<◌, ℕ, Bool, not, IsTrue, IfSome};
+ghost use Rattle.std.specs.Prelude.{◌≡◌, ◌≢◌, ◌<◌, ◌↔◌, ℕ, IsTrue};
 ghost use Rattle.std.specs.Int.{bit_at};
-ghost use Rattle.cond_formula.specs.Conditions.{condition_of, value};
-ghost use Rattle.reduced_conditions.specs.Literals.{holds, Shared};
+ghost use Rattle.reduced_conditions.specs.Literals.{Shared, HasAll, Without};
 
 use cond_formula::Formula;
 
-/// A feature, or the negation of one.
-#[derive(Clone, Copy)]
-struct Literal {
-    feature: u8,
-    is_on: bool,
-}
-
-/// Literals, as two sets of features: bit number i of `on` is 1 where feature number i is among them, and that bit of `off` where
-/// its negation is. Formulas are compared by them in a time that grows with their length, and not with its square.
+/// Literals, that is features and negations of features, as two sets: bit number i of `on` is 1 where feature number i is among them,
+/// and that bit of `off` where its negation is. Formulas are compared by them in a time that grows with their length, and not with its
+/// square.
 #[derive(Clone, Copy)]
 pub struct Literals {
-    on: u128,
-    off: u128,
+    pub(crate) on: u128,
+    pub(crate) off: u128,
     /// They are all that the condition says.
     pub(crate) are_all: bool,
 }
 
-fn has_bit(bits: u128, feature: u8) -> bool
-    requires { feature < 128 }
-    ensures { IsTrue result → bit_at bits feature ≡ 1 }
-{
-    (bits >> feature) & 1 == 1
-}
-
 fn with_bit(bits: u128, feature: u8) -> u128
     requires { feature < 128 }
-    ensures { (other : ℕ) → other ≢ feature → bit_at result other ≡ bit_at bits other }
+    ensures set { bit_at result feature ≡ 1 }
+    ensures kept { (other : ℕ) → other ≢ feature → bit_at result other ≡ bit_at bits other }
 {
     bits | (1 << feature)
+}
+
+/// Whether the bit is 1.
+pub(crate) fn has_bit(bits: u128, feature: u8) -> bool
+    requires { feature < 128 }
+    ensures { IsTrue result ↔ bit_at bits feature ≡ 1 }
+{
+    (bits >> feature) & 1 == 1
 }
 
 fn share_bit(a: u128, b: u128) -> bool
@@ -44,63 +39,29 @@ fn share_bit(a: u128, b: u128) -> bool
     a & b != 0
 }
 
-/// The literal of a feature.
-fn literal_of(feature: u8, is_on: bool) -> Option<Literal>
-    ensures few { IfSome result (λ l. l.feature < 128) }
-    ensures same { IfSome result (λ l. (l.feature ≡ feature) × (l.is_on ≡ is_on)) }
+// Whether each bit of the second is one of the first.
+fn has_bits(a: u128, b: u128) -> bool
+    ensures { IsTrue result → HasAll a b }
 {
-    if feature < 128 {
-        return Some(Literal { feature, is_on });
-    }
-    None
+    a | b == a
 }
 
-#[tactic(auto, using(cond_formula::specs::ConditionLaws::formula_kinds))]
-fn negation(inner: &Formula) -> Option<Literal>
-    ensures few { IfSome result (λ l. l.feature < 128) }
-    ensures same { IfSome result (λ l. (on : ℕ → Bool) → holds on l ≡ not (value on (condition_of inner.now))) }
+// The bits of the first that aren't bits of the second.
+fn without_bits(a: u128, b: u128) -> u128
+    ensures { Without a b result }
 {
-    match inner {
-        Formula::Var(feature) => literal_of(*feature, false),
-        _ => None,
-    }
-}
-
-/// The literal that the formula is, if it is one.
-#[tactic(auto, using(cond_formula::specs::ConditionLaws::formula_kinds))]
-fn as_literal(f: &Formula) -> Option<Literal>
-    ensures few { IfSome result (λ l. l.feature < 128) }
-    ensures same { IfSome result (λ l. (on : ℕ → Bool) → holds on l ≡ value on (condition_of f.now)) }
-{
-    match f {
-        Formula::Var(feature) => literal_of(*feature, true),
-        Formula::Not(inner) => negation(inner),
-        _ => None,
-    }
-}
-
-impl Literal {
-    ghost use Rattle.std.specs.Prelude.{◌≡◌, ℕ, Bool, not};
-    ghost use Rattle.reduced_conditions.specs.Literals.{holds};
-
-    fn opposite(self) -> Literal
-        ensures feature { result.feature ≡ self.feature }
-        ensures opposite { (on : ℕ → Bool) → holds on result ≡ not (holds on self) }
-    {
-        Literal {
-            feature: self.feature,
-            is_on: !self.is_on,
-        }
-    }
+    (a | b) ^ b
 }
 
 impl Literals {
-    ghost use Rattle.std.specs.Prelude.{◌≡◌, ◌<◌, ℕ, Bool, false, IsTrue, Some, true};
-    ghost use Rattle.cond_formula.specs.Conditions.{condition_of, conditions_of, value, all_true, any_true};
-    ghost use Rattle.reduced_conditions.specs.Literals.{holds, AreTrue};
+    ghost use Rattle.std.specs.Prelude.{◌≡◌, ◌↔◌, ℕ, Bool, not, IsTrue};
+    ghost use Rattle.cond_formula.specs.Conditions.{condition_of, conditions_of, value, all_true};
+    ghost use Rattle.reduced_conditions.specs.Literals.{AreTrue, Tells, EachHas};
 
-    fn none() -> Literals
-        ensures { (on : ℕ → Bool) → AreTrue on result }
+    /// No literal: all that is said where nothing is.
+    pub(crate) fn none() -> Literals
+        ensures all { IsTrue result.are_all }
+        ensures none { (on : ℕ → Bool) → AreTrue on result }
     {
         Literals {
             on: 0,
@@ -109,36 +70,43 @@ impl Literals {
         }
     }
 
-    fn with(self, literal: Literal) -> Literals
-        requires { literal.feature < 128 }
-        ensures { (on : ℕ → Bool) → AreTrue on self → IsTrue (holds on literal) → AreTrue on result }
+    // With the literal of a feature.
+    fn take_feature(&mut self, feature: u8, is_on: bool)
+        ensures { Tells self.old self.new (λ on. on feature ≡ is_on) }
     {
-        let mut more = self;
-        if literal.is_on {
-            more.on = with_bit(self.on, literal.feature);
+        if feature >= 128 {
+            self.are_all = false;
+        } else if is_on {
+            self.on = with_bit(self.on, feature);
         } else {
-            more.off = with_bit(self.off, literal.feature);
+            self.off = with_bit(self.off, feature);
         }
-        more
     }
 
-    /// The same literals of a condition that says more.
-    fn and_more(self) -> Literals
-        ensures { (on : ℕ → Bool) → AreTrue on self → AreTrue on result }
+    // With what is known where the formula has the value.
+    #[cycle(read)]
+    #[tactic(auto, using(cond_formula::specs::ConditionLaws::formula_kinds))]
+    fn take(&mut self, f: &Formula, is_true: bool)
+        ensures { Tells self.old self.new (λ on. value on (condition_of f.now) ≡ is_true) }
     {
-        let mut some = self;
-        some.are_all = false;
-        some
+        match f {
+            Formula::True if is_true => (),
+            Formula::False if !is_true => (),
+            Formula::Var(feature) => self.take_feature(*feature, is_true),
+            Formula::Not(inner) => self.take(inner, !is_true),
+            Formula::And(parts) if is_true => self.take_each(parts, true),
+            Formula::Or(parts) if !is_true => self.take_each(parts, false),
+            _ => self.are_all = false,
+        }
     }
 
-    /// With what is known where the formula has the value.
-    fn with_part(self, part: &Formula, is_true: bool) -> Literals
-        ensures { (on : ℕ → Bool) → AreTrue on self → value on (condition_of part.now) ≡ is_true → AreTrue on result }
+    // With what is known where each of the formulas has the value.
+    #[cycle(read)]
+    fn take_each(&mut self, parts: &[Formula], is_true: bool)
+        ensures { Tells self.old self.new (λ on. EachHas is_true on (conditions_of parts.now)) }
     {
-        match as_literal(part) {
-            None => self.and_more(),
-            Some(one) if is_true => self.with(one),
-            Some(one) => self.with(one.opposite()),
+        for part in parts {
+            self.take(part, is_true);
         }
     }
 
@@ -147,62 +115,26 @@ impl Literals {
         ensures { (on : ℕ → Bool) → IsTrue (all_true on (conditions_of parts.now)) → AreTrue on result }
     {
         let mut literals = Literals::none();
-        for part in parts {
-            literals = literals.with_part(part, true);
-        }
+        literals.take_each(parts, true);
         literals
-    }
-
-    /// Those that are true where none of the formulas is.
-    fn of_none(parts: &[Formula]) -> Literals
-        ensures { (on : ℕ → Bool) → any_true on (conditions_of parts.now) ≡ false → AreTrue on result }
-    {
-        let mut literals = Literals::none();
-        for part in parts {
-            literals = literals.with_part(part, false);
-        }
-        literals
-    }
-
-    /// Those that are true where the formula is.
-    #[tactic(auto, using(cond_formula::specs::ConditionLaws::formula_kinds))]
-    pub(crate) fn where_true(f: &Formula) -> Literals
-        ensures { (on : ℕ → Bool) → IsTrue (value on (condition_of f.now)) → AreTrue on result }
-    {
-        match f {
-            Formula::And(parts) => Literals::of_all(parts),
-            f => Literals::none().with_part(f, true),
-        }
-    }
-
-    /// Those that are true where the formula is false.
-    #[tactic(auto, using(cond_formula::specs::ConditionLaws::formula_kinds))]
-    pub(crate) fn where_false(f: &Formula) -> Literals
-        ensures { (on : ℕ → Bool) → value on (condition_of f.now) ≡ false → AreTrue on result }
-    {
-        match f {
-            Formula::Or(parts) => Literals::of_none(parts),
-            f => Literals::none().with_part(f, false),
-        }
     }
 
     /// Those that are true where the formula has the value.
     pub(crate) fn where_has(f: &Formula, is_true: bool) -> Literals
-        ensures { (on : ℕ → Bool) → value on (condition_of f.now) ≡ is_true → AreTrue on result }
+        ensures ahead { (on : ℕ → Bool) → value on (condition_of f.now) ≡ is_true → AreTrue on result }
+        ensures back { IsTrue result.are_all → (on : ℕ → Bool) → AreTrue on result → value on (condition_of f.now) ≡ is_true }
     {
-        if is_true {
-            return Literals::where_true(f);
-        }
-        Literals::where_false(f)
+        let mut literals = Literals::none();
+        literals.take(f, is_true);
+        literals
     }
 
-    /// Whether both are all that is said, of the same features, and one literal is the negation of one of the others.
-    pub(crate) fn differ_in_one(&self, others: &Literals) -> bool {
-        let changed = (self.on & others.off) | (self.off & others.on);
-        self.are_all
-            && others.are_all
-            && self.on | self.off == others.on | others.off
-            && changed.count_ones() == 1
+    /// Those that are true where the formula is.
+    pub(crate) fn where_true(f: &Formula) -> Literals
+        ensures ahead { (on : ℕ → Bool) → IsTrue (value on (condition_of f.now)) → AreTrue on result }
+        ensures back { IsTrue result.are_all → (on : ℕ → Bool) → AreTrue on result → IsTrue (value on (condition_of f.now)) }
+    {
+        Literals::where_has(f, true)
     }
 
     /// Whether one of them is the negation of one of the others.
@@ -212,29 +144,119 @@ impl Literals {
         share_bit(self.on, others.off) || share_bit(self.off, others.on)
     }
 
-    fn has(&self, literal: Literal) -> bool
-        requires { literal.feature < 128 }
-        ensures { IsTrue result → (on : ℕ → Bool) → AreTrue on self.now → IsTrue (holds on literal) }
+    /// Whether the others are among them.
+    pub(crate) fn include(&self, others: &Literals) -> bool
+        ensures { IsTrue result → (on : ℕ → Bool) → AreTrue on self.now → AreTrue on others.now }
     {
-        if literal.is_on {
-            return has_bit(self.on, literal.feature);
+        has_bits(self.on, others.on) && has_bits(self.off, others.off)
+    }
+
+    /// All of both.
+    pub(crate) fn and(&self, others: &Literals) -> Literals
+        ensures { (on : ℕ → Bool) → AreTrue on result ↔ (AreTrue on self.now × AreTrue on others.now) }
+    {
+        Literals {
+            on: self.on | others.on,
+            off: self.off | others.off,
+            are_all: self.are_all && others.are_all,
         }
-        has_bit(self.off, literal.feature)
     }
 
-    /// Whether the formula is one of them; nothing if it is no literal.
-    pub fn say(&self, f: &Formula) -> Option<bool>
-        ensures { result ≡ Some true → (on : ℕ → Bool) → AreTrue on self.now → IsTrue (value on (condition_of f.now)) }
+    /// Those that aren't among the others.
+    pub(crate) fn minus(&self, others: &Literals) -> Literals
+        ensures ahead { (on : ℕ → Bool) → AreTrue on self.now → AreTrue on result }
+        ensures back { (on : ℕ → Bool) → AreTrue on result → AreTrue on others.now → AreTrue on self.now }
     {
-        let one = as_literal(f)?;
-        Some(self.has(one))
+        Literals {
+            on: without_bits(self.on, others.on),
+            off: without_bits(self.off, others.off),
+            are_all: self.are_all,
+        }
     }
 
-    /// Whether the negation of the formula is one of them; nothing if it is no literal.
-    pub fn deny(&self, f: &Formula) -> Option<bool>
-        ensures { result ≡ Some true → (on : ℕ → Bool) → AreTrue on self.now → value on (condition_of f.now) ≡ false }
+    /// The literal of a feature alone.
+    pub(crate) fn of_feature(feature: u8, is_on: bool) -> Literals
+        ensures { (on : ℕ → Bool) → on feature ≡ is_on → AreTrue on result }
     {
-        let one = as_literal(f)?;
-        Some(self.has(one.opposite()))
+        let mut literals = Literals::none();
+        literals.take_feature(feature, is_on);
+        literals
+    }
+
+    /// Whether both are the same literals.
+    pub(crate) fn is_same(&self, others: &Literals) -> bool
+        ensures { IsTrue result → (on : ℕ → Bool) → AreTrue on self.now ↔ AreTrue on others.now }
+    {
+        self.on == others.on && self.off == others.off
+    }
+
+    /// The literal that the others deny, if it is one alone.
+    pub(crate) fn change(&self, others: &Literals) -> Option<(u8, bool)> {
+        let turned_off = self.on & others.off;
+        let changed = turned_off | (self.off & others.on);
+        if changed.count_ones() == 1 {
+            return Some((changed.trailing_zeros() as u8, turned_off != 0));
+        }
+        None
+    }
+
+    /// Whether they have literals in common.
+    pub(crate) fn share(&self, others: &Literals) -> bool {
+        self.on & others.on != 0 || self.off & others.off != 0
+    }
+
+    // Whether one of them is the literal of the feature.
+    fn have(&self, feature: u8, is_on: bool) -> bool
+        ensures { IsTrue result → (on : ℕ → Bool) → AreTrue on self.now → on feature ≡ is_on }
+    {
+        if feature >= 128 {
+            return false;
+        }
+        if is_on {
+            return has_bit(self.on, feature);
+        }
+        has_bit(self.off, feature)
+    }
+
+    /// Whether they show that the formula has the value, by its parts.
+    #[cycle(shown)]
+    #[tactic(auto, using(cond_formula::specs::ConditionLaws::formula_kinds))]
+    pub fn show(&self, f: &Formula, is_true: bool) -> bool
+        ensures { IsTrue result → (on : ℕ → Bool) → AreTrue on self.now → value on (condition_of f.now) ≡ is_true }
+    {
+        match f {
+            Formula::True => is_true,
+            Formula::False => !is_true,
+            Formula::Var(feature) => self.have(*feature, is_true),
+            Formula::Not(inner) => self.show(inner, !is_true),
+            Formula::And(parts) if is_true => self.show_each(parts, true),
+            Formula::And(parts) => self.show_one(parts, false),
+            Formula::Or(parts) if is_true => self.show_one(parts, true),
+            Formula::Or(parts) => self.show_each(parts, false),
+        }
+    }
+
+    #[cycle(shown)]
+    fn show_each(&self, parts: &[Formula], is_true: bool) -> bool
+        ensures { IsTrue result → (on : ℕ → Bool) → AreTrue on self.now → EachHas is_true on (conditions_of parts.now) }
+    {
+        for part in parts {
+            if !self.show(part, is_true) {
+                return false;
+            }
+        }
+        true
+    }
+
+    #[cycle(shown)]
+    fn show_one(&self, parts: &[Formula], is_true: bool) -> bool
+        ensures { IsTrue result → (on : ℕ → Bool) → AreTrue on self.now → EachHas (not is_true) on (conditions_of parts.now) → ⊥ }
+    {
+        for part in parts {
+            if self.show(part, is_true) {
+                return true;
+            }
+        }
+        false
     }
 }

@@ -5,7 +5,7 @@ ghost use Rattle.cond_formula.specs.Conditions.{condition_of, conditions_of, val
 ghost use Rattle.reduced_conditions.specs.Literals.{AreTrue};
 
 use crate::literals::Literals;
-use crate::same::{is_always, is_never, is_opposite, is_same};
+use crate::same::{is_never, is_opposite, is_same};
 use cond_formula::Formula;
 
 fn has_part(parts: &[Formula], f: &Formula) -> bool
@@ -49,19 +49,21 @@ fn says_part(a: &Formula, literals: &Literals, part: &Formula) -> bool
     requires { (on : ℕ → Bool) → IsTrue (value on (condition_of a.now)) → AreTrue on literals.now }
     ensures { IsTrue result → (on : ℕ → Bool) → IsTrue (value on (condition_of a.now)) → IsTrue (value on (condition_of part.now)) }
 {
-    match literals.say(part) {
-        Some(true) => true,
-        Some(false) if literals.are_all => false,
-        _ => says(a, part),
+    if literals.show(part, true) {
+        return true;
     }
+    if literals.are_all {
+        return false;
+    }
+    says(a, part)
 }
 
-fn says_one(a: &Formula, parts: &[Formula]) -> bool
+fn says_one(a: &Formula, literals: &Literals, parts: &[Formula]) -> bool
+    requires { (on : ℕ → Bool) → IsTrue (value on (condition_of a.now)) → AreTrue on literals.now }
     ensures { IsTrue result → (on : ℕ → Bool) → IsTrue (value on (condition_of a.now)) → IsTrue (any_true on (conditions_of parts.now)) }
 {
-    let literals = Literals::where_true(a);
     for part in parts {
-        if says_part(a, &literals, part) {
+        if says_part(a, literals, part) {
             return true;
         }
     }
@@ -82,28 +84,13 @@ fn have_opposite_parts(parts: &[Formula], others: &[Formula]) -> bool
     false
 }
 
-// The same, by literals first.
-fn have_opposites(parts: &[Formula], others: &[Formula]) -> bool
-    ensures { IsTrue result → (on : ℕ → Bool) → IsTrue (all_true on (conditions_of parts.now)) → all_true on (conditions_of others.now) ≡ false }
-{
-    let literals = Literals::of_all(parts);
-    let more = Literals::of_all(others);
-    if literals.contradict(&more) {
-        return true;
-    }
-    if literals.are_all && more.are_all {
-        return false;
-    }
-    have_opposite_parts(parts, others)
-}
-
 /// Whether the parts of the first formula show that the second is false wherever the first is true.
 #[tactic(auto, using(cond_formula::specs::ConditionLaws::formula_kinds))]
 fn rules_out(a: &Formula, b: &Formula) -> bool
     ensures { IsTrue result → (on : ℕ → Bool) → IsTrue (value on (condition_of a.now)) → value on (condition_of b.now) ≡ false }
 {
     match (a, b) {
-        (Formula::And(parts), Formula::And(others)) => have_opposites(parts, others),
+        (Formula::And(parts), Formula::And(others)) => have_opposite_parts(parts, others),
         (Formula::And(parts), _) => has_opposite(parts, b),
         _ => is_opposite(a, b),
     }
@@ -113,7 +100,8 @@ fn are_conjunctions(a: &Formula, b: &Formula) -> bool {
     matches!((a, b), (Formula::And(_), Formula::And(_)))
 }
 
-fn are_apart(a: &Formula, b: &Formula) -> bool
+// Whether the parts of the formulas show that they are nowhere both true.
+fn have_opposites(a: &Formula, b: &Formula) -> bool
     ensures { IsTrue result → (on : ℕ → Bool) → (value on (condition_of a.now) && value on (condition_of b.now)) ≡ false }
 {
     if rules_out(a, b) {
@@ -125,42 +113,88 @@ fn are_apart(a: &Formula, b: &Formula) -> bool
     rules_out(b, a)
 }
 
-fn all_are_apart(parts: &[Formula], f: &Formula) -> bool
+// The same, by the literals that are true where the first formula is first.
+fn is_ruled_out(a: &Formula, b: &Formula) -> bool
+    ensures { IsTrue result → (on : ℕ → Bool) → (value on (condition_of a.now) && value on (condition_of b.now)) ≡ false }
+{
+    let literals = Literals::where_true(a);
+    if literals.show(b, false) {
+        return true;
+    }
+    if literals.are_all {
+        return false;
+    }
+    have_opposites(a, b)
+}
+
+// The same, by the literals that are true where the second formula is first.
+fn are_apart(a: &Formula, b: &Formula, literals: &Literals) -> bool
+    requires { (on : ℕ → Bool) → IsTrue (value on (condition_of b.now)) → AreTrue on literals.now }
+    ensures { IsTrue result → (on : ℕ → Bool) → (value on (condition_of a.now) && value on (condition_of b.now)) ≡ false }
+{
+    if literals.show(a, false) {
+        return true;
+    }
+    if literals.are_all {
+        return false;
+    }
+    is_ruled_out(a, b)
+}
+
+fn all_are_apart(parts: &[Formula], f: &Formula, literals: &Literals) -> bool
+    requires { (on : ℕ → Bool) → IsTrue (value on (condition_of f.now)) → AreTrue on literals.now }
     ensures { IsTrue result → (on : ℕ → Bool) → (any_true on (conditions_of parts.now) && value on (condition_of f.now)) ≡ false }
 {
     for part in parts {
-        if !are_apart(part, f) {
+        if !are_apart(part, f, literals) {
             return false;
         }
     }
     true
 }
 
-/// Whether the parts of the formulas show that they are nowhere both true.
+// Whether the parts of the formulas show that they are nowhere both true. The literals are true where the second is.
 #[tactic(auto, using(cond_formula::specs::ConditionLaws::formula_kinds))]
-pub fn exclude_each_other(a: &Formula, b: &Formula) -> bool
+pub(crate) fn are_exclusive(a: &Formula, b: &Formula, literals: &Literals) -> bool
+    requires { (on : ℕ → Bool) → IsTrue (value on (condition_of b.now)) → AreTrue on literals.now }
     ensures { IsTrue result → (on : ℕ → Bool) → (value on (condition_of a.now) && value on (condition_of b.now)) ≡ false }
 {
     if let Formula::Or(parts) = a {
-        return all_are_apart(parts, b);
+        return all_are_apart(parts, b, literals);
     }
     if let Formula::Or(parts) = b {
-        return all_are_apart(parts, a);
+        let literals = Literals::where_true(a);
+        return all_are_apart(parts, a, &literals);
     }
-    are_apart(a, b)
+    are_apart(a, b, literals)
 }
 
-/// Whether the parts of the formulas show that the first is true wherever the second is.
+/// Whether the parts of the formulas show that they are nowhere both true.
+pub fn exclude_each_other(a: &Formula, b: &Formula) -> bool
+    ensures { IsTrue result → (on : ℕ → Bool) → (value on (condition_of a.now) && value on (condition_of b.now)) ≡ false }
+{
+    are_exclusive(a, b, &Literals::where_true(b))
+}
+
+// Whether the parts of the formulas show that the first is true wherever the second is. The literals are true where the second is.
 #[tactic(auto, using(cond_formula::specs::ConditionLaws::formula_kinds))]
-pub fn is_implied(a: &Formula, b: &Formula) -> bool
+pub(crate) fn is_implied_with(a: &Formula, b: &Formula, literals: &Literals) -> bool
+    requires { (on : ℕ → Bool) → IsTrue (value on (condition_of b.now)) → AreTrue on literals.now }
     ensures { IsTrue result → (on : ℕ → Bool) → IsTrue (value on (condition_of b.now)) → IsTrue (value on (condition_of a.now)) }
 {
-    if is_always(a) || is_never(b) || says(b, a) {
+    if is_never(b) || says_part(b, literals, a) {
         return true;
     }
     match a {
-        Formula::Or(parts) => says_one(b, parts),
-        Formula::Not(inner) => exclude_each_other(inner, b),
+        Formula::Or(parts) => says_one(b, literals, parts),
+        Formula::Not(inner) => are_exclusive(inner, b, literals),
         _ => false,
     }
+}
+
+/// Whether the parts of the formulas show that the first is true wherever the second is.
+pub fn is_implied(a: &Formula, b: &Formula) -> bool
+    ensures { IsTrue result → (on : ℕ → Bool) → IsTrue (value on (condition_of b.now)) → IsTrue (value on (condition_of a.now)) }
+{
+    is_implied_with(a, b, &Literals::where_true(b))
 }

@@ -1,8 +1,18 @@
-use Rattle.std.proofs.Common.{ap, ◌∙◌}
+use Rattle.std.proofs.Common.{not, ap, ◌∙◌}
 use Rattle.cond_formula.specs.Conditions.{condition_of, value}
 use Rattle.cond_formula.specs.ConditionLaws.{condition_of-False}
+use Rattle.reduced_conditions.specs.Literals.{AreTrue}
+use Rattle.reduced_conditions.proofs.LiteralLaws.{both_by, not_true}
 use Rattle.reduced_conditions.proofs.PartLemmas.{excluded_not, implied_without, without_inside}
 use Rattle.reduced_conditions.proofs.connectives.without.Goals as goal
+
+pub returns-then-others : goal.returns-then-others
+returns-then-others c = λ on.
+    let b = value on (condition_of c.args.b.now) in
+    both_by (value on (condition_of c.in_ok-f.f)) (value on (condition_of c.args.a)) (not b) (AreTrue on c.where_true-literals.result) (AreTrue on c.where_has-others.result)
+    (c.in_ok-f.ensures on)
+    (c.where_true-literals.ensures.ahead on, c.where_true-literals.ensures.back c.if-literals.true on)
+    (λ is. c.where_has-others.ensures.ahead on (not_true b is), λ are. ap not (c.where_has-others.ensures.back c.if-others.true on are))
 
 pub returns-then-exclude_each_other : goal.returns-then-exclude_each_other
 returns-then-exclude_each_other c = λ on.

@@ -1,7 +1,0 @@
-use Rattle.reduced_conditions.proofs.PartLemmas.{part_of_none}
-use Rattle.reduced_conditions.proofs.literals.Literals.of_none.Goals as goal
-
-pub loop-part-preserved : goal.loop-part-preserved
-loop-part-preserved c = λ on none.
-    c.with_part-literals.ensures on (c.loop-part.invariant on none)
-    (part_of_none on c.args.parts.now c.loop-part.part-index c.part-item.result c.loop-part-test.true c.part-item.is none)
