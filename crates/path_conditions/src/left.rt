@@ -98,6 +98,9 @@ pub(crate) fn left_on(
     if follows_from(f, path, literals) {
         return Ok(Formula::True);
     }
+    if let Some(left) = literals.unsaid(alloc, f)? {
+        return Ok(left);
+    }
     match f {
         Formula::And(parts) => left_of_all(alloc, parts, path, literals),
         Formula::Or(parts) => left_of_some(alloc, parts, path, literals),

@@ -74,7 +74,7 @@ fn with_negation(
 }
 
 impl Literals {
-    ghost use Rattle.std.specs.Prelude.{ℕ, Bool, ◌↔◌, IsTrue, IfOk};
+    ghost use Rattle.std.specs.Prelude.{◌≡◌, ℕ, Bool, ◌↔◌, IsTrue, IfOk, IfSome};
     ghost use Rattle.cond_formula.specs.Conditions.{condition_of, value};
     ghost use Rattle.reduced_conditions.specs.Literals.{AreTrue};
 
@@ -90,6 +90,19 @@ impl Literals {
         let some = one_of(off);
         let parts = with_negation(alloc, on, some)?;
         Ok(all_of(parts))
+    }
+
+    /// What of the formula they don't say, if it is a conjunction of literals.
+    pub fn unsaid(&self, alloc: Global, f: &Formula) -> Result<Option<Formula>, NoMemory>
+        ensures { IfOk result (λ unsaid. IfSome unsaid (λ left. (on : ℕ → Bool) → AreTrue on self.now → value on (condition_of left) ≡ value on (condition_of f.now))) }
+    {
+        let said = Literals::where_true(f);
+        if !said.are_all {
+            return Ok(None);
+        }
+        let rest = said.minus(self);
+        let left = rest.formula(alloc)?;
+        Ok(Some(left))
     }
 }
 
