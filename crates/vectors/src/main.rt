@@ -15,6 +15,7 @@ mod rename_rows;
 mod rows;
 #[cfg(test)]
 mod run_rows;
+mod streams;
 mod suites;
 #[cfg(test)]
 mod tokens_rows;
@@ -26,7 +27,7 @@ fn main(rt: HostRuntime) -> anyhow::Result<()> {
         run(&rt, suite)?;
     }
     for file in &["tokens.tsv", "macros.tsv", "run.tsv"] {
-        stream_vectors::run(&rt, file)?;
+        streams::run(&rt, file)?;
     }
     Ok(())
 }

@@ -260,7 +260,7 @@ fn compare<R: Print + AllocGlobal>(
 }
 
 /// Compares the streams and forests of all projects of a file of cases, and prints how many agree.
-pub fn run<R: FileAccess + Print + AllocGlobal>(rt: &R, file: &'static str) -> Result<()> {
+pub(crate) fn run<R: FileAccess + Print + AllocGlobal>(rt: &R, file: &'static str) -> Result<()> {
     let alloc: Global = rt.alloc();
     let text = fs::read_to_string(rt, file).context(file)?;
     let mut tallies = Tallies {
