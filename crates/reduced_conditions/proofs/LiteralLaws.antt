@@ -1,10 +1,11 @@
 -- What sets of literals say.
-use Rattle.std.proofs.Common.{◌≡◌, ℕ, zero, suc, ◌<◌, ◌+◌, Bool, true, false, true≢false, not, ◌&&◌, ◌||◌, List, [], ◌∷◌, ◌++◌, drop, length, get_or, nat_eq, leb, ◌^◌, ◌*◌, ◌%◌, ◌≤◌, IsTrue, ◌↔◌, refl, sym, ap, ◌∙◌, subst, arith, bit_or, bit_xor}
+use Rattle.std.proofs.Common.{◌≡◌, ℕ, zero, suc, ◌<◌, ◌+◌, Bool, true, false, true≢false, not, ◌&&◌, ◌||◌, List, [], ◌∷◌, ◌++◌, drop, length, get_or, nat_eq, ◌^◌, ◌*◌, ◌%◌, ◌≤◌, ◌≢◌, IsTrue, ◌↔◌, inl, inr, refl, sym, ap, ◌∙◌, subst, arith, bit_and, bit_or, bit_xor}
 use Rattle.std.proofs.lemmas.List.{drop_more}
-use Rattle.std.proofs.lemmas.Nat.{one_shl}
-use Rattle.std.proofs.lemmas.Nat.Bits.{bit_at_or, bit_at_xor, bit_at-lt, bit_at_above}
+use Rattle.std.proofs.lemmas.Nat.{and_le_l}
+use Rattle.std.proofs.lemmas.Nat.Bits.{bit_at_or, bit_at_xor, bit_at-lt, bit_at_above, bit_at_clear_same, bit_at_clear_other}
+use Rattle.std.proofs.lemmas.Bool.{cases_eq}
 use Rattle.std.proofs.lemmas.Bool.Decides.{nat_tests}
-use Rattle.std.specs.Int.{bit_at}
+use Rattle.std.specs.Int.{bit_at, bit_not, w128}
 use Rattle.std.specs.declared.alloc.Global.{Global}
 use Rattle.std.specs.Prelude.{Vec}
 use Rattle.cond_formula.specs.declared.formulas.Formula.{Formula, True, Var, And, Or}
@@ -129,6 +130,11 @@ tells_same before after P Q tells there back = record {
 
 -- ---- bits
 
+by_order : (P : Type 0) (i k : ℕ) → (i < k → P) → (k ≤ i → P) → P
+by_order P i zero one other = other (omega arith)
+by_order P zero (suc k) one other = one (omega arith)
+by_order P (suc i) (suc k) one other = by_order P i k (λ less. one (omega (arith, less))) (λ from. other (omega (arith, from)))
+
 split : (P : Type 0) (bit : ℕ) → bit < 2 → (bit ≡ 1 → P) → (bit ≡ 0 → P) → P
 split P zero few one other = other refl
 split P (suc zero) few one other = one refl
@@ -167,39 +173,38 @@ on_again on a b rest is left other = λ i set. split (IsTrue (on i)) (bit_at b i
 pub off_again : (on : ℕ → Bool) (a b rest : ℕ) → Without a b rest → AllOff on rest → AllOff on b → AllOff on a
 off_again on a b rest is left other = λ i set. split (on i ≡ false) (bit_at b i) (bit_at-lt b i) (other i) (λ off. left i (is.left i set off))
 
-below : (a b : ℕ) → leb a b ≡ false → b < a
-below a b less = grind (arith, nat_tests, less)
+pub cleared_less : (bits k : ℕ) → k < 128 → bit_at bits k ≡ 1 → bit_and bits (bit_not w128 (1 * 2 ^ k % 2 ^ 128)) < bits
+cleared_less bits k within set =
+    let left : ℕ = bit_and bits (bit_not w128 (1 * 2 ^ k % 2 ^ 128)) in
+    elim (cases_eq left bits) [
+      | inl same ↦ absurd (let both : bit_at left k ≡ bit_at bits k = ap (λ (b : ℕ). bit_at b k) same in omega (arith, both, set, bit_at_clear_same w128 bits k within))
+      | inr other ↦ omega (arith, and_le_l bits (bit_not w128 (1 * 2 ^ k % 2 ^ 128)))
+    ]
 
--- a number below a power of two has no bit from there on
-pub none_above : (bits k other : ℕ) → k < 128 → leb (1 * 2 ^ k % 2 ^ 128) bits ≡ false → k ≤ other → bit_at bits other ≡ 0
-none_above bits k other within less from = bit_at_above bits k other (subst (λ (m : ℕ). bits < m) (one_shl k 128 within) (below (1 * 2 ^ k % 2 ^ 128) bits less)) from
+pub cleared_other : (bits k other : ℕ) → bits < 2 ^ 128 → k < 128 → other ≢ k → bit_at (bit_and bits (bit_not w128 (1 * 2 ^ k % 2 ^ 128))) other ≡ bit_at bits other
+cleared_other bits k other fits within apart =
+    let left : ℕ = bit_and bits (bit_not w128 (1 * 2 ^ k % 2 ^ 128)) in
+    by_order (bit_at left other ≡ bit_at bits other) other 128 (λ low. bit_at_clear_other w128 bits k within other low apart)
+    (λ high. bit_at_above left 128 other (omega (arith, fits, and_le_l bits (bit_not w128 (1 * 2 ^ k % 2 ^ 128)))) high ∙ sym (bit_at_above bits 128 other fits high))
 
--- ---- what is so of each bit, one after the other
+-- ---- what is so of each bit, one taken after the other
 
-abbrev pub EachBelow : (ℕ → Type 0) → ℕ → ℕ → Type 0
-EachBelow Is bits k = (i : ℕ) → i < k → bit_at bits i ≡ 1 → Is i
+abbrev EachIn : (ℕ → Type 0) → ℕ → Type 0
+EachIn Is bits = (i : ℕ) → bit_at bits i ≡ 1 → Is i
 
-by_order : (P : Type 0) (i k : ℕ) → (i < k → P) → (k ≤ i → P) → P
-by_order P i zero one other = other (omega arith)
-by_order P zero (suc k) one other = one (omega arith)
-by_order P (suc i) (suc k) one other = by_order P i k (λ less. one (omega (arith, less))) (λ from. other (omega (arith, from)))
-
--- where no bit is left
-pub each_bit : (Is : ℕ → Type 0) (bits k : ℕ) → ((other : ℕ) → k ≤ other → bit_at bits other ≡ 0) → EachBelow Is bits k → (i : ℕ) → bit_at bits i ≡ 1 → Is i
-each_bit Is bits k high low i is = by_order (Is i) i k (λ less. low i less is) (λ from. absurd (omega (arith, high i from, is)))
-
--- one bit more, of which it is so
-step_with : (Is : ℕ → Type 0) (X Y : Type 0) (bits k : ℕ) → bit_at bits k ≡ 1 → (Y → X × Is k) → (X → Is k → Y) → (X ↔ EachBelow Is bits k) → Y ↔ EachBelow Is bits (k + 1)
-step_with Is X Y bits k set there back so_far = (
-  λ y i less is. by_order (Is i) i k (λ before. so_far.0 (there y).0 i before is) (λ from. subst Is (omega (arith, from, less)) (there y).1),
-  λ each. back (so_far.1 (λ i before is. each i (omega (arith, before)) is)) (each k (omega arith) set),
+parted : (Is : ℕ → Type 0) (bits left k : ℕ) → bit_at bits k ≡ 1 → bit_at left k ≡ 0 → ((i : ℕ) → i ≢ k → bit_at left i ≡ bit_at bits i) → EachIn Is bits ↔ (Is k × EachIn Is left)
+parted Is bits left k set gone kept = (
+  λ each. (each k set, λ i is. each i (sym (kept i (λ same. omega (arith, is, gone, ap (bit_at left) same))) ∙ is)),
+  λ both i is. elim (cases_eq i k) [
+    | inl same ↦ subst Is (sym same) both.0
+    | inr other ↦ both.1 i (kept i other ∙ is)
+  ],
 )
 
--- one bit more, which isn't set
-step_without : (Is : ℕ → Type 0) (X : Type 0) (bits k : ℕ) → (bit_at bits k ≡ 1 → ⊥) → (X ↔ EachBelow Is bits k) → X ↔ EachBelow Is bits (k + 1)
-step_without Is X bits k unset so_far = (
-  λ x i less is. by_order (Is i) i k (λ before. so_far.0 x i before is) (λ from. absurd (unset (ap (bit_at bits) (omega (arith, from, less)) ∙ is))),
-  λ each. so_far.1 (λ i before is. each i (omega (arith, before)) is),
+one_more : (X Y Here Bits Left All : Type 0) → (Y → X × Here) → (X → Here → Y) → (Bits ↔ (Here × Left)) → ((X × Bits) ↔ All) → (Y × Left) ↔ All
+one_more X Y Here Bits Left All there back part so_far = (
+  λ y. so_far.0 ((there y.0).0, part.1 ((there y.0).1, y.1)),
+  λ all. let before = so_far.1 all in let here = part.0 before.1 in (back before.0 here.0, here.1),
 )
 
 pub both_of_true : (a b c : Bool) → a ≡ (b && c) → IsTrue a → IsTrue b × IsTrue c
@@ -208,30 +213,27 @@ both_of_true a b c is both = (left_true b c (sym is ∙ both), right_true b c (s
 both_of_false : (a b c : Bool) → a ≡ (b || c) → a ≡ false → (b ≡ false) × (c ≡ false)
 both_of_false a b c is off = (none_left b c (sym is ∙ off), none_right b c (sym is ∙ off))
 
--- the formulas of the features below this one whose bits are set
+-- the formulas of the features whose bits are in the first set, but for those whose bits are in the second
 abbrev pub Listed : ℕ → ℕ → List Formula → Type 0
-Listed bits k parts =
-    ((on : ℕ → Bool) → IsTrue (all_true on (conditions_of parts)) ↔ EachBelow (λ i. IsTrue (on i)) bits k)
-    × ((on : ℕ → Bool) → (any_true on (conditions_of parts) ≡ false) ↔ EachBelow (λ i. on i ≡ false) bits k)
+Listed bits rest parts =
+    ((on : ℕ → Bool) → (IsTrue (all_true on (conditions_of parts)) × AllOn on rest) ↔ AllOn on bits)
+    × ((on : ℕ → Bool) → ((any_true on (conditions_of parts) ≡ false) × AllOff on rest) ↔ AllOff on bits)
 
-pub listed_more : (bits k : ℕ) (parts longer : List Formula) → bit_at bits k ≡ 1 → longer ≡ parts ++ Var k ∷ [] → Listed bits k parts → Listed bits (k + 1) longer
-listed_more bits k parts longer set is so_far =
+pub listed_more : (bits rest left k : ℕ) (parts longer : List Formula) → bit_at rest k ≡ 1 → bit_at left k ≡ 0 → ((i : ℕ) → i ≢ k → bit_at left i ≡ bit_at rest i)
+    → longer ≡ parts ++ Var k ∷ [] → Listed bits rest parts → Listed bits left longer
+listed_more bits rest left k parts longer set gone kept is so_far =
     let var = λ (on : ℕ → Bool). ap (value on) (condition_of-Var k) in
     let all = λ (on : ℕ → Bool). all_with on parts longer (Var k) is ∙ ap (λ (b : Bool). all_true on (conditions_of parts) && b) (var on) in
     let one = λ (on : ℕ → Bool). one_with on parts longer (Var k) is ∙ ap (λ (b : Bool). any_true on (conditions_of parts) || b) (var on) in (
-      λ on. step_with (λ i. IsTrue (on i)) (IsTrue (all_true on (conditions_of parts))) (IsTrue (all_true on (conditions_of longer))) bits k set
+      λ on. one_more (IsTrue (all_true on (conditions_of parts))) (IsTrue (all_true on (conditions_of longer))) (IsTrue (on k)) (AllOn on rest) (AllOn on left) (AllOn on bits)
           (both_of_true (all_true on (conditions_of longer)) (all_true on (conditions_of parts)) (on k) (all on))
-          (λ before here. all on ∙ both_true (all_true on (conditions_of parts)) (on k) before here) (so_far.0 on),
-      λ on. step_with (λ i. on i ≡ false) (any_true on (conditions_of parts) ≡ false) (any_true on (conditions_of longer) ≡ false) bits k set
+          (λ before here. all on ∙ both_true (all_true on (conditions_of parts)) (on k) before here)
+          (parted (λ i. IsTrue (on i)) rest left k set gone kept) (so_far.0 on),
+      λ on. one_more (any_true on (conditions_of parts) ≡ false) (any_true on (conditions_of longer) ≡ false) (on k ≡ false) (AllOff on rest) (AllOff on left) (AllOff on bits)
           (both_of_false (any_true on (conditions_of longer)) (any_true on (conditions_of parts)) (on k) (one on))
-          (λ before here. one on ∙ neither_true (any_true on (conditions_of parts)) (on k) before here) (so_far.1 on),
+          (λ before here. one on ∙ neither_true (any_true on (conditions_of parts)) (on k) before here)
+          (parted (λ i. on i ≡ false) rest left k set gone kept) (so_far.1 on),
     )
-
-pub listed_same : (bits k : ℕ) (parts longer : List Formula) → (bit_at bits k ≡ 1 → ⊥) → longer ≡ parts → Listed bits k parts → Listed bits (k + 1) longer
-listed_same bits k parts longer unset is so_far = subst (Listed bits (k + 1)) (sym is) (
-  λ on. step_without (λ i. IsTrue (on i)) (IsTrue (all_true on (conditions_of parts))) bits k unset (so_far.0 on),
-  λ on. step_without (λ i. on i ≡ false) (any_true on (conditions_of parts) ≡ false) bits k unset (so_far.1 on),
-)
 
 -- ---- truth values
 

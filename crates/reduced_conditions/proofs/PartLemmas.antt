@@ -144,6 +144,11 @@ excluded_false true true h is = sym h
 excluded_false true false h is = is
 excluded_false false b h is = refl
 
+pub apart_without : (a b : Bool) → (IsTrue a → IsTrue b → ⊥) → a ≡ (a && not b)
+apart_without true true h = absurd (h refl refl)
+apart_without true false h = refl
+apart_without false b h = refl
+
 pub implied_without : (a b : Bool) → (IsTrue a → IsTrue b) → false ≡ (a && not b)
 implied_without true true h = refl
 implied_without true false h = h refl

@@ -1,22 +1,13 @@
 //! Conjunctions of literals: formulas that say what a set of literals says, and no more. The negations stand together, as that of one
 //! disjunction, so that such a formula is copied in few pieces.
 
-ghost use Rattle.std.specs.Prelude.{◌≡◌, ℕ, ◌≤◌, ◌<◌, Bool, false, not, ◌&&◌, ◌||◌, ◌↔◌, IsTrue, IfOk, IfSome};
-ghost use Rattle.std.specs.Int.{bit_at};
+ghost use Rattle.std.specs.Prelude.{◌≡◌, ℕ, Bool, false, not, ◌&&◌, ◌||◌, ◌↔◌, IsTrue, IfOk, IfSome};
 ghost use Rattle.cond_formula.specs.Conditions.{condition_of, conditions_of, value, all_true, any_true};
 ghost use Rattle.reduced_conditions.specs.Literals.{AreTrue, AllOn, AllOff};
 
-use crate::literals::{Literals, has_bit};
+use crate::literals::{Literals, lowest, without_bit};
 use cond_formula::{Formula, NoMemory};
 use std::alloc::Global;
-
-// Whether a bit from this number on may be 1.
-fn has_more(bits: u128, feature: u8) -> bool
-    requires { feature < 128 }
-    ensures { result ≡ false → (other : ℕ) → feature ≤ other → bit_at bits other ≡ 0 }
-{
-    bits >= 1 << feature
-}
 
 // The features whose bits are 1.
 fn features(alloc: Global, bits: u128) -> Result<Vec<Formula>, NoMemory>
@@ -24,13 +15,11 @@ fn features(alloc: Global, bits: u128) -> Result<Vec<Formula>, NoMemory>
     ensures none { IfOk result (λ parts. (on : ℕ → Bool) → any_true on (conditions_of parts.items) ≡ false ↔ AllOff on bits) }
 {
     let mut parts = Vec::with_capacity(alloc, bits.count_ones() as usize)?;
-    for feature in 0..128 {
-        if !has_more(bits, feature) {
-            return Ok(parts);
-        }
-        if has_bit(bits, feature) {
-            parts.push(Formula::Var(feature))?;
-        }
+    let mut rest = bits;
+    while rest != 0 {
+        let feature = lowest(rest);
+        parts.push(Formula::Var(feature))?;
+        rest = without_bit(rest, feature);
     }
     Ok(parts)
 }

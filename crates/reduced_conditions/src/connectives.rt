@@ -7,7 +7,7 @@ ghost use Rattle.reduced_conditions.specs.Literals.{AreTrue};
 use crate::conjunctions::{conjoined, joined};
 use crate::known::{inside, left_where, outside};
 use crate::literals::Literals;
-use crate::parts::{are_exclusive, exclude_each_other, is_implied, is_implied_with};
+use crate::parts::{are_exclusive, is_implied_with};
 use crate::same::{is_always, is_opposite};
 use cond_formula::{Formula, NoMemory};
 use std::alloc::Global;
@@ -105,12 +105,42 @@ pub fn both_of(alloc: Global, a: &Formula, b: &Formula) -> Result<Formula, NoMem
     Ok(f)
 }
 
+// The formula that is true where one of the conjunctions of these literals is.
+fn one_conjunction(
+    alloc: Global,
+    a: Formula,
+    b: Formula,
+    literals: &Literals,
+    others: &Literals,
+) -> Result<Formula, NoMemory>
+    requires one { (on : ℕ → Bool) → IsTrue (value on (condition_of a)) ↔ AreTrue on literals.now }
+    requires other { (on : ℕ → Bool) → IsTrue (value on (condition_of b)) ↔ AreTrue on others.now }
+    ensures { IfOk result (λ f. (on : ℕ → Bool) → value on (condition_of f) ≡ (value on (condition_of a) || value on (condition_of b))) }
+{
+    if others.include(literals) {
+        return Ok(a);
+    }
+    if literals.include(others) {
+        return Ok(b);
+    }
+    if let Some(rest) = joined(alloc, literals, others)? {
+        return Ok(rest);
+    }
+    let elsewhere = outside(alloc, &b, &a)?;
+    let f = Formula::or(alloc, a, elsewhere)?;
+    Ok(f)
+}
+
 /// The formula that is true where one of them is.
 pub fn either(alloc: Global, a: Formula, b: Formula) -> Result<Formula, NoMemory>
     ensures { IfOk result (λ f. (on : ℕ → Bool) → value on (condition_of f) ≡ (value on (condition_of a) || value on (condition_of b))) }
 {
     let literals = Literals::where_true(&a);
     let others = Literals::where_true(&b);
+    if literals.are_all && others.are_all {
+        let f = one_conjunction(alloc, a, b, &literals, &others)?;
+        return Ok(f);
+    }
     if is_implied_with(&a, &b, &others) {
         return Ok(a);
     }
@@ -120,15 +150,37 @@ pub fn either(alloc: Global, a: Formula, b: Formula) -> Result<Formula, NoMemory
     if is_opposite(&a, &b) {
         return Ok(Formula::True);
     }
-    if let Some(rest) = joined(alloc, &literals, &others)? {
-        return Ok(rest);
-    }
     let elsewhere = outside(alloc, &b, &a)?;
     if is_always(&elsewhere) {
         return Ok(Formula::True);
     }
     let f = Formula::or(alloc, a, elsewhere)?;
     Ok(f)
+}
+
+// The formula that is true where the first of the conjunctions of these literals is and the second isn't.
+fn conjunction_without(
+    alloc: Global,
+    a: Formula,
+    b: &Formula,
+    literals: &Literals,
+    others: &Literals,
+) -> Result<Formula, NoMemory>
+    requires one { (on : ℕ → Bool) → IsTrue (value on (condition_of a)) ↔ AreTrue on literals.now }
+    requires other { (on : ℕ → Bool) → IsTrue (value on (condition_of b.now)) ↔ AreTrue on others.now }
+    ensures { IfOk result (λ f. (on : ℕ → Bool) → value on (condition_of f) ≡ (value on (condition_of a) && not (value on (condition_of b.now)))) }
+{
+    if literals.contradict(others) {
+        return Ok(a);
+    }
+    if literals.include(others) {
+        return Ok(Formula::False);
+    }
+    let rest = others.minus(literals);
+    let more = rest.formula(alloc)?;
+    let elsewhere = Formula::not(alloc, more)?;
+    let here = both(alloc, a, elsewhere)?;
+    Ok(here)
 }
 
 /// The formula that is true where the first is and the second isn't.
@@ -141,10 +193,15 @@ pub fn without(alloc: Global, a: Formula, b: &Formula) -> Result<Formula, NoMemo
         let f = conjoined(alloc, &literals, &others)?;
         return Ok(f);
     }
-    if exclude_each_other(&a, b) {
+    let said = Literals::where_true(b);
+    if literals.are_all && said.are_all {
+        let f = conjunction_without(alloc, a, b, &literals, &said)?;
+        return Ok(f);
+    }
+    if are_exclusive(&a, b, &said) {
         return Ok(a);
     }
-    if is_implied(b, &a) {
+    if is_implied_with(b, &a, &literals) {
         return Ok(Formula::False);
     }
     let more = left_where(alloc, b, &a, true)?;

@@ -25,12 +25,32 @@ fn with_bit(bits: u128, feature: u8) -> u128
     bits | (1 << feature)
 }
 
-/// Whether the bit is 1.
-pub(crate) fn has_bit(bits: u128, feature: u8) -> bool
+// Whether the bit is 1.
+fn has_bit(bits: u128, feature: u8) -> bool
     requires { feature < 128 }
     ensures { IsTrue result ↔ bit_at bits feature ≡ 1 }
 {
     (bits >> feature) & 1 == 1
+}
+
+/// The number of the lowest bit that is 1.
+pub(crate) fn lowest(bits: u128) -> u8
+    requires { 0 < bits }
+    ensures fits { result < 128 }
+    ensures set { bit_at bits result ≡ 1 }
+{
+    bits.trailing_zeros() as u8
+}
+
+/// The bits without one that is 1.
+pub(crate) fn without_bit(bits: u128, feature: u8) -> u128
+    requires fits { feature < 128 }
+    requires set { bit_at bits feature ≡ 1 }
+    ensures smaller { result < bits }
+    ensures gone { bit_at result feature ≡ 0 }
+    ensures kept { (other : ℕ) → other ≢ feature → bit_at result other ≡ bit_at bits other }
+{
+    bits & !(1 << feature)
 }
 
 fn share_bit(a: u128, b: u128) -> bool

@@ -1,5 +1,8 @@
 use Rattle.reduced_conditions.proofs.LiteralLaws.{Listed}
 use Rattle.reduced_conditions.proofs.conjunctions.features.Given as goal
 
-abbrev pub invariant-loop-feature : goal.invariant-loop-feature
-invariant-loop-feature l = Listed l.bits l.feature l.parts.items
+abbrev pub decreases-loop-rest : goal.decreases-loop-rest
+decreases-loop-rest l = l.rest
+
+abbrev pub invariant-loop-rest : goal.invariant-loop-rest
+invariant-loop-rest l = Listed l.bits l.rest l.parts.items

@@ -14,14 +14,14 @@ returns-then-others c = λ on.
     (c.where_true-literals.ensures.ahead on, c.where_true-literals.ensures.back c.if-literals.true on)
     (λ is. c.where_has-others.ensures.ahead on (not_true b is), λ are. ap not (c.where_has-others.ensures.back c.if-others.true on are))
 
-pub returns-then-exclude_each_other : goal.returns-then-exclude_each_other
-returns-then-exclude_each_other c = λ on.
-    excluded_not (value on (condition_of c.args.a)) (value on (condition_of c.args.b.now)) (c.exclude_each_other.ensures c.if-exclude_each_other.true on)
+pub returns-then-are_exclusive : goal.returns-then-are_exclusive
+returns-then-are_exclusive c = λ on.
+    excluded_not (value on (condition_of c.args.a)) (value on (condition_of c.args.b.now)) (c.are_exclusive.ensures c.if-are_exclusive.true on)
 
-pub returns-then-is_implied : goal.returns-then-is_implied
-returns-then-is_implied c = λ on.
+pub returns-then-is_implied_with : goal.returns-then-is_implied_with
+returns-then-is_implied_with c = λ on.
     ap (value on) condition_of-False
-    ∙ implied_without (value on (condition_of c.args.a)) (value on (condition_of c.args.b.now)) (c.is_implied.ensures c.if-is_implied.true on)
+    ∙ implied_without (value on (condition_of c.args.a)) (value on (condition_of c.args.b.now)) (c.is_implied_with.ensures c.if-is_implied_with.true on)
 
 pub returns : goal.returns
 returns c = λ on.
