@@ -2,8 +2,8 @@
 #![tactic(auto)]
 
 mod declarations;
-mod file_uses;
 mod locals;
+mod name_uses;
 mod names;
 mod occurrences;
 mod undeclared;

@@ -5,10 +5,10 @@ ghost use Rattle.name_places.specs.Places.{place_of};
 ghost use Rattle.cond_bindings.specs.Places.{TableBelow, IdentifiersBelow, LocalsBelow};
 
 use crate::declarations::show;
-use crate::file_uses::where_of_file;
 use crate::locals::{LocalName, innermost_place, show_local};
+use crate::name_uses::name_use;
 use crate::occurrences::{Occurrence, Scope};
-use crate::undeclared::{where_undeclared, with_undeclared};
+use crate::undeclared::with_undeclared;
 use crate::unit_bindings::{FileUse, Identifier, Meaning, UnitBindings};
 use cond_formula::{Formula, NoMemory, Oracle};
 use name_places::place_in;
@@ -35,7 +35,7 @@ pub struct Names {
 }
 
 impl Names {
-    ghost use Rattle.std.specs.Prelude.{◌≡◌, ℕ, Bool, true, List, [], ◌∷◌, ◌++◌, IsTrue, OnOk};
+    ghost use Rattle.std.specs.Prelude.{◌≡◌, ℕ, Bool, true, ◌&&◌, List, [], ◌∷◌, ◌++◌, is_none, IsTrue, OnOk};
     ghost use Rattle.cond_formula.specs.Features.{has};
     ghost use Rattle.cond_formula.specs.Conditions.{condition_of, conditions_of, value, all_true};
     ghost use Rattle.core_meaning.specs.Entities.{or_else};
@@ -114,17 +114,21 @@ impl Names {
         Ok(())
     }
 
-    /// A use, by the places of the latest declarations in open blocks and at file scope.
+    /// A use, by the places of the latest declarations in open blocks and at file scope, and by where none of them is visible.
     fn note_use<O: Oracle>(
         &mut self,
         alloc: Global,
         occurrence: Occurrence,
         block: Option<u32>,
         file: Option<u32>,
+        undeclared: Formula,
         oracle: &mut O,
     ) -> Result<(), NoMemory>
         requires block { is_below (length self.old.bindings.declarations.items) block ≡ true }
         requires file { is_below (length self.old.bindings.declarations.items) file ≡ true }
+        requires undeclared { (on : ℕ → Bool) → value on (condition_of undeclared)
+            ≡ (all_true on (conditions_of occurrence.path.now)
+            && is_none (or_else (innermost on (visible self.old.bindings.declarations.items block)) (first on (visible self.old.bindings.declarations.items file)))) }
         ensures kept { O.admits oracle.new ≡ O.admits oracle.old }
         ensures seen { OnOk result ((on : ℕ → Bool) (coming : List ℕ)
             → Steps on (all_true on (conditions_of occurrence.entry.path.now)) (occurrence.entry.number ∷ coming)
@@ -134,8 +138,6 @@ impl Names {
         ensures tells { OnOk result ((c : List Bool) → IsTrue (value (has c) (O.admits oracle.old))
             → TellsUndeclared (has c) (plain_names self.old) → TellsUndeclared (has c) (plain_names self.new)) }
     {
-        let declarations = self.bindings.declarations.as_slice();
-        let undeclared = where_undeclared(alloc, declarations, block, file, occurrence.path)?;
         let before = mem::replace(&mut self.refused, Formula::False);
         self.refused = with_undeclared(alloc, before, undeclared, oracle)?;
         let when = conjoined(alloc, occurrence.path)?;
@@ -184,9 +186,9 @@ impl Names {
         let block = self.block_place(occurrence.name);
         let file = self.file_place(occurrence.name);
         let declarations = self.bindings.declarations.as_slice();
-        let of_file = where_of_file(alloc, declarations, block, file, occurrence.path)?;
-        self.note_use(alloc, occurrence, block, file, oracle)?;
-        self.use_file(alloc, occurrence.name, of_file)?;
+        let name = name_use(alloc, declarations, block, file, occurrence.path)?;
+        self.note_use(alloc, occurrence, block, file, name.undeclared, oracle)?;
+        self.use_file(alloc, occurrence.name, name.of_file)?;
         Ok(())
     }
 
@@ -248,7 +250,9 @@ impl Names {
             return Ok(());
         }
         let tag = self.tag_place(occurrence.name);
-        self.note_use(alloc, occurrence, None, tag, oracle)?;
+        let declarations = self.bindings.declarations.as_slice();
+        let tag_use = name_use(alloc, declarations, None, tag, occurrence.path)?;
+        self.note_use(alloc, occurrence, None, tag, tag_use.undeclared, oracle)?;
         Ok(())
     }
 

@@ -1,15 +1,14 @@
 //! Where a name that is used isn't declared.
 
-ghost use Rattle.std.specs.Prelude.{◌≡◌, ℕ, Bool, false, not, ◌&&◌, ◌||◌, List, is_none, IsTrue, IfOk};
+ghost use Rattle.std.specs.Prelude.{◌≡◌, ℕ, Bool, false, not, ◌&&◌, ◌||◌, List, IsTrue, IfOk};
 ghost use Rattle.cond_formula.specs.Features.{has};
 ghost use Rattle.cond_formula.specs.Conditions.{condition_of, conditions_of, value, all_true};
-ghost use Rattle.core_meaning.specs.Entities.{or_else};
-ghost use Rattle.cond_bindings.specs.Bindings.{visible, innermost, first};
+ghost use Rattle.cond_bindings.specs.Bindings.{visible};
 ghost use Rattle.cond_bindings.specs.Unseen.{none_there, left_on};
 
 use crate::unit_bindings::Declaration;
 use cond_formula::{Formula, May, NoMemory, Oracle};
-use path_conditions::{conjoined, copied, exclude, follows};
+use path_conditions::{exclude, follows};
 use reduced_conditions::{either, is_never};
 use std::alloc::Global;
 
@@ -49,47 +48,6 @@ pub fn without_visible(
         next = declaration.hides;
     }
     Ok(Some(left_behind(alloc, path, &seen)?))
-}
-
-/// The path without the configurations that see a declaration from one of two places on.
-fn unseen(
-    alloc: Global,
-    declarations: &[Declaration],
-    block: Option<u32>,
-    file: Option<u32>,
-    path: &[Formula],
-) -> Result<Option<Vec<Formula>>, NoMemory>
-    ensures { IfOk result (λ left. (on : ℕ → Bool) → left_on on left
-        ≡ (all_true on (conditions_of path.now)
-        && is_none (or_else (innermost on (visible declarations.now block)) (first on (visible declarations.now file))))) }
-{
-    let path = copied(alloc, path)?;
-    match without_visible(alloc, declarations, block, path)? {
-        None => Ok(None),
-        Some(left) => without_visible(alloc, declarations, file, left),
-    }
-}
-
-/// Where on the path a name is undeclared, of which the latest declarations in open blocks and at file scope have these
-/// places.
-pub fn where_undeclared(
-    alloc: Global,
-    declarations: &[Declaration],
-    block: Option<u32>,
-    file: Option<u32>,
-    path: &[Formula],
-) -> Result<Formula, NoMemory>
-    ensures { IfOk result (λ f. (on : ℕ → Bool) → value on (condition_of f)
-        ≡ (all_true on (conditions_of path.now)
-        && is_none (or_else (innermost on (visible declarations.now block)) (first on (visible declarations.now file))))) }
-{
-    match unseen(alloc, declarations, block, file, path)? {
-        None => Ok(Formula::False),
-        Some(left) => {
-            let all = conjoined(alloc, &left)?;
-            Ok(all)
-        }
-    }
 }
 
 /// Whether the oracle doesn't say that the formula is nowhere true.

@@ -169,13 +169,6 @@ pub(crate) fn are_exclusive(a: &Formula, b: &Formula, literals: &Literals) -> bo
     are_apart(a, b, literals)
 }
 
-/// Whether the parts of the formulas show that they are nowhere both true.
-pub fn exclude_each_other(a: &Formula, b: &Formula) -> bool
-    ensures { IsTrue result → (on : ℕ → Bool) → (value on (condition_of a.now) && value on (condition_of b.now)) ≡ false }
-{
-    are_exclusive(a, b, &Literals::where_true(b))
-}
-
 // Whether the parts of the formulas show that the first is true wherever the second is. The literals are true where the second is.
 #[tactic(auto, using(cond_formula::specs::ConditionLaws::formula_kinds))]
 pub(crate) fn is_implied_with(a: &Formula, b: &Formula, literals: &Literals) -> bool

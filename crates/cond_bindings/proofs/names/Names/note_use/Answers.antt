@@ -27,10 +27,9 @@ returns-clause-tells g c =
     let ds = old.bindings.declarations.items in
     let i : PlainIdentifier = record { number = c.args.occurrence.number; when = condition_of c.in_ok-when.when; meaning = use_of (visible ds c.args.block) (visible ds c.args.file) } in
     let by = declared_by on i.number i.meaning in
-    let undeclared = rw c.as_slice-declarations.ensures.value at c.in_ok-undeclared.ensures in
     let is =
     c.in_ok-self.ensures.refused k admitted
-    ∙ ap (λ (f : Formula). value on (condition_of f) || value on (condition_of c.in_ok-undeclared.undeclared)) c.replace-before.ensures.value
-    ∙ ap (λ (b : Bool). value on (condition_of old.refused) || b) (undeclared on ∙ ap (λ (b : Bool). b && is_none by) (sym (c.in_ok-when.ensures on)))
+    ∙ ap (λ (f : Formula). value on (condition_of f) || value on (condition_of c.args.undeclared)) c.replace-before.ensures.value
+    ∙ ap (λ (b : Bool). value on (condition_of old.refused) || b) (c.requires.undeclared on ∙ ap (λ (b : Bool). b && is_none by) (sym (c.in_ok-when.ensures on)))
     in
     subst (TellsUndeclared on) (sym c.in_ok-note.ensures) (told_more on (plain_names old) i (condition_of c.in_ok-self.field-0) told is)

@@ -23,8 +23,8 @@ returns-clause-seen g c =
     let file = c.file_place-file.result in
     let block = c.block_place-block.result in
     let by = or_else (innermost on (visible ds block)) (first on (visible ds file)) in
-    let u : PlainUse = record { name = name; when = condition_of c.in_ok-of_file.of_file } in
-    let of_file = rw c.as_slice-declarations.ensures.value at c.in_ok-of_file.ensures in
+    let u : PlainUse = record { name = name; when = condition_of c.in_ok-name.name.of_file } in
+    let of_file = rw c.as_slice-declarations.ensures.value at c.in_ok-name.ensures.of_file in
     let is =
     of_file on
     ∙ ap (λ (vs : List Visible). path && (not (is_some (innermost on vs)) && is_some (first on (visible ds file)))) c.block_place-block.ensures.visible
