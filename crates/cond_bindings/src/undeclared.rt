@@ -9,7 +9,7 @@ ghost use Rattle.cond_bindings.specs.Unseen.{none_there, left_on};
 use crate::unit_bindings::Declaration;
 use cond_formula::{Formula, May, NoMemory, Oracle};
 use path_conditions::{exclude, follows};
-use reduced_conditions::{either, is_never};
+use reduced_conditions::{either, either_of, is_never};
 use std::alloc::Global;
 
 /// The path where the formula isn't true.
@@ -40,7 +40,7 @@ pub fn without_visible(
             return Ok(Some(left_behind(alloc, path, &seen)?));
         }
         let declaration = &declarations[place as usize];
-        seen = either(alloc, seen, declaration.when.try_clone(alloc)?)?;
+        seen = either_of(alloc, seen, &declaration.when)?;
         if follows(&seen, &path) {
             return Ok(None);
         }

@@ -6,7 +6,7 @@ ghost use Rattle.conditional.specs.Entries.{entries_of, some_holds};
 
 use crate::plain::Plain;
 use cond_formula::{Formula, NoMemory};
-use reduced_conditions::either;
+use reduced_conditions::either_of;
 use std::alloc::Global;
 
 /// A value under a condition: it holds in the configurations in which the condition is true.
@@ -22,7 +22,7 @@ pub fn when_some_hold<T: Plain>(alloc: Global, entries: &[Guarded<T>]) -> Result
 {
     let mut some = Formula::False;
     for entry in entries {
-        some = either(alloc, some, entry.when.try_clone(alloc)?)?;
+        some = either_of(alloc, some, &entry.when)?;
     }
     Ok(some)
 }

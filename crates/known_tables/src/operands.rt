@@ -2,7 +2,7 @@
 ghost use Rattle.std.specs.Prelude.{◌≡◌, ℕ, Bool, false, [], ◌∷◌, ◌++◌, Option, Some, IfOk, OnOk};
 ghost use Rattle.cond_formula.specs.Conditions.{condition_of, value};
 ghost use Rattle.c_types.specs.Types.{plain_type};
-ghost use Rattle.conditional.specs.Entries.{alternatives, entries_of, listed, seen, some_holds, under, Places, Sees};
+ghost use Rattle.conditional.specs.Entries.{alternatives, listed, seen, under, Places, Sees};
 ghost use Rattle.operand_types.specs.OperandTypes as spec;
 ghost use Rattle.operand_rules.specs.PlainOperandTypes.{plain_category, plain_operand_type, reason};
 ghost use Rattle.cond_operands.specs.Operands.{ShowsOperand};
@@ -12,10 +12,10 @@ ghost use Rattle.known_tables.specs.Lookups.{operand_of, outcome_of};
 use c_types::CType;
 use cond_formula::{Formula, NoMemory};
 use cond_operands::Operands;
-use conditional::{CondList, CondValue, Guarded, Outcomes, Plain};
+use conditional::{CondList, CondValue, Outcomes, when_some_hold};
 use operand_rules::{Category, OperandType, Refused};
 use plain_scope::copied;
-use reduced_conditions::{either, is_never};
+use reduced_conditions::is_never;
 use std::alloc::Global;
 use type_tables::Tables;
 
@@ -83,22 +83,11 @@ pub(crate) fn refuse(refusals: &mut CondList<Refused>, when: Formula) -> Result<
     refusals.push(when, Refused)
 }
 
-/// Where some alternative holds.
-fn where_some_hold<T: Plain>(alloc: Global, entries: &[Guarded<T>]) -> Result<Formula, NoMemory>
-    ensures { IfOk result (λ f. (on : ℕ → Bool) → value on (condition_of f) ≡ some_holds on (entries_of T.form entries.now)) }
-{
-    let mut some = Formula::False;
-    for entry in entries {
-        some = either(alloc, some, entry.when.try_clone(alloc)?)?;
-    }
-    Ok(some)
-}
-
 /// The operand, or a refusal where there is none.
 pub(crate) fn or_refused(alloc: Global, fine: CondValue<OperandType>) -> Result<Operands, NoMemory>
     ensures { IfOk result (λ z. (on : ℕ → Bool) (o : Option spec.OperandType) → Sees on o (alternatives plain_operand_type fine) → ShowsOperand on (outcome_of o) z) }
 {
-    let some = where_some_hold(alloc, &fine.alternatives)?;
+    let some = when_some_hold(alloc, &fine.alternatives)?;
     let elsewhere = Formula::not(alloc, some)?;
     let mut refused = CondList::empty(alloc);
     refuse(&mut refused, elsewhere)?;

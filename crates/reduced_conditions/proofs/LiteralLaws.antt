@@ -128,6 +128,12 @@ tells_same before after P Q tells there back = record {
   back = λ all on after. back on (tells.back all on after);
 }
 
+-- a literal is told of where its feature is
+pub var_tells : (before after : Literals) (f : Formula) (feature : ℕ) (is : Bool) → f ≡ Var feature → Tells before after (λ on. on feature ≡ is) → Tells before after (λ on. value on (condition_of f) ≡ is)
+var_tells before after f feature is same tells =
+    let says = λ (on : ℕ → Bool). var_says on f feature same in
+    tells_same before after (λ on. on feature ≡ is) (λ on. value on (condition_of f) ≡ is) tells (λ on has. sym (says on) ∙ has) (λ on has. says on ∙ has)
+
 -- ---- bits
 
 by_order : (P : Type 0) (i k : ℕ) → (i < k → P) → (k ≤ i → P) → P

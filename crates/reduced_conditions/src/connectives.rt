@@ -8,7 +8,7 @@ use crate::conjunctions::{conjoined, joined};
 use crate::known::{inside, left_where, outside};
 use crate::literals::Literals;
 use crate::parts::{are_exclusive, is_implied_with};
-use crate::same::{is_always, is_opposite};
+use crate::same::{is_always, is_never, is_opposite};
 use cond_formula::{Formula, NoMemory};
 use std::alloc::Global;
 
@@ -109,24 +109,51 @@ pub fn both_of(alloc: Global, a: &Formula, b: &Formula) -> Result<Formula, NoMem
 fn one_conjunction(
     alloc: Global,
     a: Formula,
-    b: Formula,
+    b: &Formula,
     literals: &Literals,
     others: &Literals,
 ) -> Result<Formula, NoMemory>
     requires one { (on : ℕ → Bool) → IsTrue (value on (condition_of a)) ↔ AreTrue on literals.now }
-    requires other { (on : ℕ → Bool) → IsTrue (value on (condition_of b)) ↔ AreTrue on others.now }
-    ensures { IfOk result (λ f. (on : ℕ → Bool) → value on (condition_of f) ≡ (value on (condition_of a) || value on (condition_of b))) }
+    requires other { (on : ℕ → Bool) → IsTrue (value on (condition_of b.now)) ↔ AreTrue on others.now }
+    ensures { IfOk result (λ f. (on : ℕ → Bool) → value on (condition_of f) ≡ (value on (condition_of a) || value on (condition_of b.now))) }
 {
     if others.include(literals) {
         return Ok(a);
     }
     if literals.include(others) {
-        return Ok(b);
+        return b.try_clone(alloc);
     }
     if let Some(rest) = joined(alloc, literals, others)? {
         return Ok(rest);
     }
-    let elsewhere = outside(alloc, &b, &a)?;
+    let elsewhere = outside(alloc, b, &a)?;
+    let f = Formula::or(alloc, a, elsewhere)?;
+    Ok(f)
+}
+
+/// The formula that is true where one of them is. The second stays, and no more of it is copied than is kept.
+pub fn either_of(alloc: Global, a: Formula, b: &Formula) -> Result<Formula, NoMemory>
+    ensures { IfOk result (λ f. (on : ℕ → Bool) → value on (condition_of f) ≡ (value on (condition_of a) || value on (condition_of b.now))) }
+{
+    let literals = Literals::where_true(&a);
+    let others = Literals::where_true(b);
+    if literals.are_all && others.are_all {
+        let f = one_conjunction(alloc, a, b, &literals, &others)?;
+        return Ok(f);
+    }
+    if is_implied_with(&a, b, &others) {
+        return Ok(a);
+    }
+    if is_implied_with(b, &a, &literals) {
+        return b.try_clone(alloc);
+    }
+    if is_opposite(&a, b) {
+        return Ok(Formula::True);
+    }
+    let elsewhere = outside(alloc, b, &a)?;
+    if is_always(&elsewhere) {
+        return Ok(Formula::True);
+    }
     let f = Formula::or(alloc, a, elsewhere)?;
     Ok(f)
 }
@@ -135,26 +162,10 @@ fn one_conjunction(
 pub fn either(alloc: Global, a: Formula, b: Formula) -> Result<Formula, NoMemory>
     ensures { IfOk result (λ f. (on : ℕ → Bool) → value on (condition_of f) ≡ (value on (condition_of a) || value on (condition_of b))) }
 {
-    let literals = Literals::where_true(&a);
-    let others = Literals::where_true(&b);
-    if literals.are_all && others.are_all {
-        let f = one_conjunction(alloc, a, b, &literals, &others)?;
-        return Ok(f);
-    }
-    if is_implied_with(&a, &b, &others) {
-        return Ok(a);
-    }
-    if is_implied_with(&b, &a, &literals) {
+    if is_never(&a) {
         return Ok(b);
     }
-    if is_opposite(&a, &b) {
-        return Ok(Formula::True);
-    }
-    let elsewhere = outside(alloc, &b, &a)?;
-    if is_always(&elsewhere) {
-        return Ok(Formula::True);
-    }
-    let f = Formula::or(alloc, a, elsewhere)?;
+    let f = either_of(alloc, a, &b)?;
     Ok(f)
 }
 

@@ -9,7 +9,7 @@ mod literals;
 mod parts;
 mod same;
 
-pub use connectives::{both, both_of, either, without};
+pub use connectives::{both, both_of, either, either_of, without};
 pub use known::outside;
 pub use literals::Literals;
 pub use parts::is_implied;

@@ -126,7 +126,18 @@ impl Literals {
         ensures { Tells self.old self.new (λ on. EachHas is_true on (conditions_of parts.now)) }
     {
         for part in parts {
-            self.take(part, is_true);
+            self.take_part(part, is_true);
+        }
+    }
+
+    // `take`, which calls itself no more where the formula is a feature: most parts are.
+    #[cycle(read)]
+    fn take_part(&mut self, part: &Formula, is_true: bool)
+        ensures { Tells self.old self.new (λ on. value on (condition_of part.now) ≡ is_true) }
+    {
+        match part {
+            Formula::Var(feature) => self.take_feature(*feature, is_true),
+            part => self.take(part, is_true),
         }
     }
 

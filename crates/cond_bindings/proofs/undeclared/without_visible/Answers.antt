@@ -1,4 +1,4 @@
-use Rattle.std.proofs.Common.{not, ◌&&◌, ◌||◌, List, length, take, ap, ◌∙◌, sym, arith}
+use Rattle.std.proofs.Common.{not, ◌&&◌, List, length, take, ap, ◌∙◌, sym, arith}
 use Rattle.std.proofs.lemmas.List.{take_all}
 use Rattle.cond_formula.specs.declared.formulas.Formula.{False}
 use Rattle.cond_formula.specs.Conditions.{condition_of, conditions_of, value, all_true}
@@ -27,7 +27,7 @@ loop-next-preserved c =
           (all_true on (conditions_of c.args.path.items) && not (value on (condition_of c.loop-next.seen))) _ (c.loop-next.invariant.same on) c.in-Some.place c.index-declarations-place.result c.in-Some.is (omega arith)
           c.loop-next.invariant.within c.index-declarations-place.is (all_true on (conditions_of c.args.path.items) && not (value on (condition_of c.in_ok-seen.seen)))
           (narrower (all_true on (conditions_of c.args.path.items)) (value on (condition_of c.loop-next.seen)) (value on (condition_of c.index-declarations-place.result.when)) (value on (condition_of c.in_ok-seen.seen))
-          (c.in_ok-seen.ensures on ∙ ap (λ k. value on (condition_of c.loop-next.seen) || value on k) c.in_ok-try_clone.ensures));
+          (c.in_ok-seen.ensures on));
     }
 
 pub returns-then-place-behind : goal.returns-then-place-behind
@@ -44,7 +44,7 @@ returns-then-follows c = λ on.
     (all_true on (conditions_of c.args.path.items) && not (value on (condition_of c.loop-next.seen))) _ (c.loop-next.invariant.same on) c.in-Some.place c.index-declarations-place.result c.in-Some.is (omega arith)
     c.loop-next.invariant.within c.index-declarations-place.is (all_true on (conditions_of c.args.path.items) && not (value on (condition_of c.in_ok-seen.seen)))
     (narrower (all_true on (conditions_of c.args.path.items)) (value on (condition_of c.loop-next.seen)) (value on (condition_of c.index-declarations-place.result.when)) (value on (condition_of c.in_ok-seen.seen))
-    (c.in_ok-seen.ensures on ∙ ap (λ k. value on (condition_of c.loop-next.seen) || value on k) c.in_ok-try_clone.ensures)))
+    (c.in_ok-seen.ensures on)))
 
 pub returns : goal.returns
 returns c = λ on.
