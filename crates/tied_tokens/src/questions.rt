@@ -11,7 +11,7 @@ ghost use Rattle.tied_tokens.specs.Search.{TellsModel};
 use crate::ties::TiedTokens;
 use cond_formula::{Config, Formula, NoMemory};
 use std::alloc::{AllocError, Global};
-use verdict_query::{Verdict, ask};
+use verdict_query::{Verdict, ask, suggested};
 
 /// Sets of features in which many conditions are true that are true anywhere: none, all, and every other one.
 const FIRST_TRIED: [Config; 4] = [
@@ -69,7 +69,7 @@ fn is_found(all: &TiedTokens<'_>, when: &Formula, tried: &[Config]) -> bool
     false
 }
 
-/// Whether some configuration that is admitted and accepted makes the condition true. One that the solver finds is tried from now on.
+/// Whether some configuration that is admitted and accepted makes the condition true. One that is found is tried from now on.
 pub(crate) fn is_possible(
     alloc: Global,
     all: &TiedTokens<'_>,
@@ -87,5 +87,9 @@ pub(crate) fn is_possible(
     let accepted = all.accepted.try_clone(alloc)?;
     let when = when.try_clone(alloc)?;
     let question = Formula::and(alloc, accepted, when)?;
+    if let Some(c) = suggested(all.model, &question) {
+        tried.push(c)?;
+        return Ok(true);
+    }
     is_some(ask(alloc, all.model, &question), tried)
 }

@@ -7,6 +7,7 @@ mod oracles;
 mod questions;
 mod ranges;
 
+pub use guesses::suggested;
 pub use laws::{equal_conditions_have_one_least_model, fewer_features_suffice};
 pub use oracles::ModelOracle;
 pub use questions::{Verdict, ask};
